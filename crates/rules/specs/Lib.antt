@@ -1,0 +1,17 @@
+pub mod Lists
+pub mod Told
+pub mod Shift
+pub mod Frame
+pub mod Value
+pub mod Escape
+pub mod Places
+pub mod View
+pub mod Judge
+pub mod Check
+pub mod Fetch
+pub mod Row
+pub mod Sheet
+pub mod Message
+pub mod All
+pub mod WholeCase
+pub mod Edges
