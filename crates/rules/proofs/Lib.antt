@@ -1,0 +1,5 @@
+pub mod Logic
+pub mod Lists
+pub mod Split
+pub mod Modes
+pub mod Unique

@@ -1,0 +1,146 @@
+-- Laws of plain lists of bytes. Assumes nothing.
+use mathlib.Core.Path.{_≡_, refl, sym, ap, _∙_}
+use mathlib.Core.Bool.{Bool, true, false, cond, not, _&&_, _||_, false≢true}
+use mathlib.Core.List.{List, [], _∷_, _++_, append-assoc, append-nil}
+use Prim.Native.Nat.{ℕ, zero, suc, _+_, _-_, _≤_, _<_}
+use native.Mathlib.Numerals.{add-one}
+use native.Mathlib.Omega.{arith}
+use borrow.Author.Tests.{eqb-true}
+use lib.Dec.{eqb}
+use lib.ListN.{length, getD, take, drop, drop-of-length-le, length-drop}
+use lib.Seq.{drop-cons, take-all, take-suc, length-take-le}
+use Rattle.rules.specs.Lists.{empty, nth, same, starts, all, any, has}
+use Rattle.rules.proofs.Logic.{cases, never, eqb-self}
+
+-- ---- a walk by an index
+pub here : {A : Type 0} (d : A) (s : List A) (i : ℕ) → i < length s → drop i s ≡ getD s i d ∷ drop (i + 1) s
+here d s i h = rw (add-one, drop-cons s i d)
+
+pub over : {A : Type 0} (s : List A) (i : ℕ) → length s ≤ i → drop i s ≡ []
+over s i h = drop-of-length-le s h
+
+-- the part from a on, as code takes it
+pub rest-is : {A : Type 0} (s : List A) (a : ℕ) → take (length s - a) (drop a s) ≡ drop a s
+rest-is s a = take-all (length s - a) (drop a s) (omega (arith, length-drop a s))
+
+pub take-more : (t : List ℕ) (i : ℕ) (w : List ℕ) → i < length t → take i t ++ (getD t i 0 ∷ w) ≡ take (i + 1) t ++ w
+take-more t i w h = rw (add-one, take-suc t i 0 h, append-assoc)
+
+pub part-length : {A : Type 0} (n : ℕ) (s : List A) → n ≤ length s → n ≡ length (take n s)
+part-length n s h = sym (length-take-le n s h)
+
+-- ---- equal, starting with, empty
+pub same-eq : (s t : List ℕ) → same s t ≡ true → s ≡ t
+unfolding same
+same-eq [] [] h = refl
+same-eq [] (b ∷ t) h = cc
+same-eq (a ∷ s) [] h = cc
+same-eq (a ∷ s) (b ∷ t) h = cases (eqb a b) (λ e. cc (eqb-true a b e, same-eq s t (cc))) (λ e. cc)
+
+pub same-self : (s : List ℕ) → same s s ≡ true
+unfolding same
+same-self [] = refl
+same-self (a ∷ s) = cc (eqb-self a, same-self s)
+
+pub starts-eq : (k t : List ℕ) → starts k t ≡ true → t ≡ k ++ drop (length k) t
+unfolding starts
+starts-eq [] t h = refl
+starts-eq (b ∷ k) [] h = cc
+starts-eq (b ∷ k) (a ∷ t) h = cases (eqb a b) (λ e. cc (eqb-true a b e, starts-eq k t (cc))) (λ e. cc)
+
+pub starts-own : (k w : List ℕ) → starts k (k ++ w) ≡ true
+unfolding starts
+starts-own [] w = refl
+starts-own (b ∷ k) w = cc (eqb-self b, starts-own k w)
+
+pub drop-own : {A : Type 0} (k w : List A) → drop (length k) (k ++ w) ≡ w
+drop-own [] w = refl
+drop-own (b ∷ k) w = drop-own k w
+
+pub take-own : {A : Type 0} (k w : List A) → take (length k) (k ++ w) ≡ k
+take-own [] w = refl
+take-own (b ∷ k) w = ap (λ (t : List _). b ∷ t) (take-own k w)
+
+pub empty-is : {A : Type 0} (s : List A) → empty s ≡ true → s ≡ []
+unfolding empty
+empty-is [] h = refl
+empty-is (b ∷ s) h = cc
+
+pub empty-zero : {A : Type 0} (s : List A) → length s ≡ 0 → empty s ≡ true
+unfolding empty
+empty-zero [] h = refl
+empty-zero (b ∷ s) h = absurd (omega arith)
+
+pub filled-some : {A : Type 0} (s : List A) → (length s ≡ 0 → ⊥) → empty s ≡ false
+unfolding empty
+filled-some [] h = absurd (h refl)
+filled-some (b ∷ s) h = refl
+
+-- ---- every element, some element
+pub all-cons : {A : Type 0} (p : A → Bool) (x : A) (s : List A) → all p (x ∷ s) ≡ (p x && all p s)
+unfolding all
+all-cons p x s = cases (p x) (λ e. cc) (λ e. cc)
+
+pub all-first : {A : Type 0} (p : A → Bool) (x : A) (s : List A) → all p (x ∷ s) ≡ true → (p x ≡ true) × (all p s ≡ true)
+unfolding all
+all-first p x s h = cases (p x) (λ e. (e, rw (e, all) at h)) (λ e. absurd (false≢true (rw (e, all) at h)))
+
+pub any-cons : {A : Type 0} (p : A → Bool) (x : A) (s : List A) → any p (x ∷ s) ≡ (p x || any p s)
+unfolding any
+any-cons p x s = cases (p x) (λ e. cc) (λ e. cc)
+
+pub any-nil : {A : Type 0} (p : A → Bool) → any p [] ≡ false
+unfolding any
+any-nil p = refl
+
+pub any-first : {A : Type 0} (p : A → Bool) (x : A) (s : List A) → any p (x ∷ s) ≡ false → (p x ≡ false) × (any p s ≡ false)
+unfolding any
+any-first p x s h = cases (p x) (λ e. never (rw (e, any) at h)) (λ e. (e, rw (e, any) at h))
+
+-- ---- x is an element
+pub has-nil : (x : ℕ) → has x [] ≡ false
+unfolding has any
+has-nil x = refl
+
+pub has-cons : (x b : ℕ) (s : List ℕ) → has x (b ∷ s) ≡ (eqb b x || has x s)
+unfolding has
+has-cons x b s = any-cons (λ (c : ℕ). eqb c x) b s
+
+pub has-here : (x b : ℕ) (s : List ℕ) → eqb b x ≡ true → has x (b ∷ s) ≡ true
+has-here x b s e = rw (has-cons x b s, e)
+
+pub has-there : (x b : ℕ) (s : List ℕ) → eqb b x ≡ false → has x (b ∷ s) ≡ has x s
+has-there x b s e = rw (has-cons x b s, e)
+
+pub has-first : (x b : ℕ) (s : List ℕ) → has x (b ∷ s) ≡ false → (eqb b x ≡ false) × (has x s ≡ false)
+has-first x b s h = cases (eqb b x) (λ e. never (sym (has-here x b s e) ∙ h)) (λ e. (e, sym (has-there x b s e) ∙ h))
+
+pub has-append : (x : ℕ) (a b : List ℕ) → has x (a ++ b) ≡ (has x a || has x b)
+has-append x [] b = rw (has-nil x)
+has-append x (y ∷ a) b =
+    cases (eqb y x)
+    (λ e. cc (has-here x y a e, has-here x y (a ++ b) e))
+    (λ e. cc (has-there x y a e, has-there x y (a ++ b) e, has-append x a b))
+
+-- ---- the n-th of some texts
+-- where another is altered; where empty ones are put last
+pub nth-other : (ps : List (List ℕ)) (x y : List ℕ) (r : List (List ℕ)) (j : ℕ) → (j ≡ length ps → ⊥) → nth (ps ++ (x ∷ r)) j ≡ nth (ps ++ (y ∷ r)) j
+nth-other [] x y r zero h = absurd (h refl)
+nth-other [] x y r (suc j) h = refl
+nth-other (p ∷ ps) x y r zero h = refl
+nth-other (p ∷ ps) x y r (suc j) h = nth-other ps x y r j (λ e. h (ap suc e))
+
+pub nth-more : (ps xs : List (List ℕ)) (j : ℕ) → ((i : ℕ) → j ≡ length ps + i → nth xs i ≡ []) → nth (ps ++ xs) j ≡ nth ps j
+nth-more [] xs j h = h j (omega arith)
+nth-more (p ∷ ps) xs zero h = refl
+nth-more (p ∷ ps) xs (suc j) h = nth-more ps xs j (λ i e. h i (omega arith))
+
+-- a list of a known length is the list of its elements
+unfoldable pub from : List (List ℕ) → ℕ → ℕ → List (List ℕ)
+from ws k zero = []
+from ws k (suc n) = getD ws k [] ∷ from ws (suc k) n
+
+pub exactly : (ws : List (List ℕ)) (k n : ℕ) → length ws ≡ k + n → drop k ws ≡ from ws k n
+unfolding from
+exactly ws k zero h = drop-of-length-le ws {i = k} (omega arith)
+exactly ws k (suc n) h = drop-cons ws k [] (omega arith) ∙ ap (λ (r : List (List ℕ)). getD ws k [] ∷ r) (exactly ws (suc k) n (omega arith))

@@ -1,0 +1,116 @@
+-- Going by cases, and the laws of tests: what every proof of the library stands on. Assumes nothing.
+use mathlib.Core.Path.{_≡_, refl, sym}
+use mathlib.Core.Bool.{Bool, true, false, cond, not, _&&_, _||_, false≢true}
+use mathlib.Core.List.{List}
+use mathlib.Core.Option.{Option, none, some}
+use Prim.Native.Nat.{ℕ, zero, suc}
+use borrow.Author.Tests.{eqb-true, eqb-false, eq-eqb, ne-eqb}
+use native.Mathlib.Omega.{arith}
+use lib.Dec.{eqb}
+use Rattle.rules.specs.Told.{Told, gives, refused, _>>_, _>>=_, _then_, _when_}
+
+-- ---- by cases, with the equation
+pub cases : {P : Type 0} (t : Bool) → (t ≡ true → P) → (t ≡ false → P) → P
+cases true f g = f refl
+cases false f g = g refl
+
+pub optionCases : {A P : Type 0} (o : Option A) → ((v : A) → o ≡ some v → P) → (o ≡ none → P) → P
+optionCases none f g = g refl
+optionCases (some v) f g = f v refl
+
+pub toldCases : {A P : Type 0} (t : Told A) → ((a : A) → t ≡ gives a → P) → ((n s f : ℕ) → t ≡ refused n s f → P) → P
+toldCases (gives a) f g = f a refl
+toldCases (refused n s k) f g = g n s k refl
+
+pub zeroCases : {P : Type 0} (n : ℕ) → (n ≡ 0 → P) → ((k : ℕ) → n ≡ suc k → P) → P
+zeroCases zero f g = f refl
+zeroCases (suc n) f g = g n refl
+
+-- what is both so and not so is nowhere
+pub never : {P : Type 0} → true ≡ false → P
+never h = absurd (false≢true (sym h))
+
+-- ---- tests
+pub both : (a b : Bool) → (a && b) ≡ true → (a ≡ true) × (b ≡ true)
+both true b h = (refl, h)
+both false b h = (h, cc)
+
+pub neither : (a b : Bool) → (a || b) ≡ false → (a ≡ false) × (b ≡ false)
+neither true b h = never h
+neither false b h = (refl, h)
+
+pub not-true : (a : Bool) → not a ≡ true → a ≡ false
+not-true true h = absurd (false≢true h)
+not-true false h = refl
+
+pub not-false : (a : Bool) → not a ≡ false → a ≡ true
+not-false true h = refl
+not-false false h = never h
+
+pub and-true : (a : Bool) → (a && true) ≡ a
+and-true true = refl
+and-true false = refl
+
+pub and-false : (a : Bool) → (a && false) ≡ false
+and-false true = refl
+and-false false = refl
+
+pub and-assoc : (a b c : Bool) → (a && (b && c)) ≡ ((a && b) && c)
+and-assoc true b c = refl
+and-assoc false b c = refl
+
+pub or-true : (a : Bool) → (a || true) ≡ true
+or-true true = refl
+or-true false = refl
+
+pub or-false : (a : Bool) → (a || false) ≡ a
+or-false true = refl
+or-false false = refl
+
+pub or-assoc : (a b c : Bool) → (a || (b || c)) ≡ ((a || b) || c)
+or-assoc true b c = refl
+or-assoc false b c = refl
+
+pub and-or : (t a b : Bool) → (t && (a || b)) ≡ ((t && a) || (t && b))
+and-or true a b = refl
+and-or false a b = refl
+
+pub cond-same : {A : Type 0} (t : Bool) (x : A) → cond t x x ≡ x
+cond-same true x = refl
+cond-same false x = refl
+
+-- a chain of early returns: the first test that holds decides
+pub cond-yes : {A : Type 0} (t u : Bool) (x y : A) → t ≡ u → t ≡ true → x ≡ cond u x y
+cond-yes t u x y e h = rw (← e, h)
+
+pub cond-no : {A : Type 0} (t u : Bool) (x y z : A) → t ≡ u → t ≡ false → z ≡ y → z ≡ cond u x y
+cond-no t u x y z e h g = rw (← e, h) g
+
+pub eqb-self : (a : ℕ) → eqb a a ≡ true
+eqb-self a = eq-eqb a a refl
+
+pub eqb-sym : (a b : ℕ) → eqb a b ≡ eqb b a
+eqb-sym a b =
+    cases (eqb a b) (λ e. cc (eqb-true a b e, eqb-self b)) (λ e. let n : eqb b a ≡ false = ne-eqb b a (λ q. eqb-false a b e (sym q)) in cc)
+
+-- ---- answers
+-- a test that must fail before the rest is asked
+pub guard : {A : Type 0} (n s f : ℕ) (b : Bool) (t : Told A) (a : A) → cond b (refused n s f) t ≡ gives a → (b ≡ false) × (t ≡ gives a)
+guard n s f true t a h = (cc, cc)
+guard n s f false t a h = (refl, h)
+
+pub then-zero : (n : ℕ) → (n then 0) ≡ n
+then-zero zero = refl
+then-zero (suc n) = refl
+
+pub then-none : (a b : ℕ) → (a then b) ≡ 0 → (a ≡ 0) × (b ≡ 0)
+then-none zero b h = (refl, h)
+then-none (suc a) b h = absurd (omega arith)
+
+pub when-none : (n : ℕ) (t : Bool) → (suc n when t) ≡ 0 → t ≡ false
+when-none n true h = absurd (omega arith)
+when-none n false h = refl
+
+pub done : (t : Told (Unit {0})) → t >> gives tt ≡ t
+done (gives u) = refl
+done (refused n s f) = refl

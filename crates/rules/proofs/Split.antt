@@ -1,0 +1,205 @@
+-- Laws of splitting at a separator, of joining, and of lines that are each ended. Assumes nothing.
+use mathlib.Core.Path.{_≡_, refl, sym, ap, _∙_}
+use mathlib.Core.Bool.{Bool, true, false, cond, not, _&&_, _||_}
+use mathlib.Core.List.{List, [], _∷_, _++_, append-nil, append-assoc}
+use Prim.Native.Nat.{ℕ, zero, suc, _+_, _-_, _<_, _≤_}
+use native.Mathlib.Omega.{arith}
+use borrow.Author.Tests.{eqb-true}
+use lib.Dec.{eqb}
+use lib.ListN.{length, getD, take, drop}
+use Rattle.rules.specs.Lists.{empty, nth, has, onto, split, allButLast, last, led, join, ended}
+use Rattle.rules.proofs.Logic.{cases, both, not-true, eqb-self}
+use Rattle.rules.proofs.Lists.{empty-is, has-first, has-nil}
+
+-- the first piece of s, and the pieces after it
+unfoldable pub front : ℕ → List ℕ → List ℕ
+front sep s = nth (split sep s) 0
+
+unfoldable pub later : ℕ → List ℕ → List (List ℕ)
+later sep s = drop 1 (split sep s)
+
+-- ---- one byte on
+pub split-nil : (sep : ℕ) → split sep [] ≡ [] ∷ []
+unfolding split
+split-nil sep = refl
+
+pub split-here : (sep b : ℕ) (s : List ℕ) → eqb b sep ≡ true → split sep (b ∷ s) ≡ [] ∷ split sep s
+unfolding split
+split-here sep b s e = rw (e, split)
+
+pub split-there : (sep b : ℕ) (s : List ℕ) → eqb b sep ≡ false → split sep (b ∷ s) ≡ onto b (split sep s)
+unfolding split
+split-there sep b s e = rw (e, split)
+
+onto-cons : (x : ℕ) (ps : List (List ℕ)) → onto x ps ≡ nth (onto x ps) 0 ∷ drop 1 (onto x ps)
+unfolding onto
+onto-cons x [] = refl
+onto-cons x (p ∷ ps) = refl
+
+-- there is always a first piece
+pub split-cons : (sep : ℕ) (s : List ℕ) → split sep s ≡ front sep s ∷ later sep s
+unfolding front later
+split-cons sep [] = rw (split-nil sep)
+split-cons sep (x ∷ s) = cases (eqb x sep) (λ e. rw (split-here sep x s e)) (λ e. rw (split-there sep x s e) (onto-cons x (split sep s)))
+
+-- ---- a stretch without separators
+pub split-free : (sep : ℕ) (v q : List ℕ) → has sep v ≡ false → split sep (v ++ q) ≡ (v ++ front sep q) ∷ later sep q
+unfolding onto
+split-free sep [] q h = split-cons sep q
+split-free sep (b ∷ v) q h =
+    let g = has-first sep b v h in
+    cc (split-there sep b (v ++ q) (g .0), split-free sep v q (g .1))
+
+pub front-free : (sep : ℕ) (v q : List ℕ) → has sep v ≡ false → front sep (v ++ q) ≡ v ++ front sep q
+unfolding front
+front-free sep v q h = cc (split-free sep v q h)
+
+pub later-free : (sep : ℕ) (v q : List ℕ) → has sep v ≡ false → later sep (v ++ q) ≡ later sep q
+unfolding later
+later-free sep v q h = cc (split-free sep v q h)
+
+pub split-none : (sep : ℕ) (s : List ℕ) → has sep s ≡ false → split sep s ≡ s ∷ []
+unfolding onto
+split-none sep [] h = split-nil sep
+split-none sep (b ∷ v) h = let g = has-first sep b v h in cc (split-there sep b v (g .0), split-none sep v (g .1))
+
+-- a separator first; after a stretch without one
+pub split-at : (sep : ℕ) (q : List ℕ) → split sep (sep ∷ q) ≡ [] ∷ split sep q
+split-at sep q = split-here sep sep q (eqb-self sep)
+
+pub split-next : (sep : ℕ) (p s : List ℕ) → has sep p ≡ false → split sep (p ++ (sep ∷ s)) ≡ p ∷ split sep s
+unfolding onto
+split-next sep [] s h = split-at sep s
+split-next sep (b ∷ p) s h =
+    let g = has-first sep b p h in
+    cc (split-there sep b (p ++ (sep ∷ s)) (g .0), split-next sep p s (g .1))
+
+-- ---- the pieces of two texts, one after the other: the last of the one and the first of the other are one piece
+onto-glue : (b : ℕ) (ps : List (List ℕ)) (x : List ℕ) (r : List (List ℕ))
+    → onto b (allButLast ps ++ ((last ps ++ x) ∷ r)) ≡ allButLast (onto b ps) ++ ((last (onto b ps) ++ x) ∷ r)
+unfolding onto allButLast last
+onto-glue b [] x r = refl
+onto-glue b (p ∷ []) x r = refl
+onto-glue b (p ∷ q ∷ ps) x r = refl
+
+glue-cons : (p : List ℕ) (ps : List (List ℕ)) (q : List ℕ) (qs : List (List ℕ)) → ps ≡ q ∷ qs
+    → (allButLast (p ∷ ps) ≡ p ∷ allButLast ps) × (last (p ∷ ps) ≡ last ps)
+unfolding allButLast last
+glue-cons p [] q qs e = (cc, cc)
+glue-cons p (x ∷ ps) q qs e = (refl, refl)
+
+pub split-glue : (sep : ℕ) (p q : List ℕ)
+    → split sep (p ++ q) ≡ allButLast (split sep p) ++ ((last (split sep p) ++ front sep q) ∷ later sep q)
+split-glue sep [] q = unfold allButLast last split in split-cons sep q
+split-glue sep (b ∷ p) q =
+    cases (eqb b sep)
+    (λ e. let g = glue-cons [] (split sep p) (front sep p) (later sep p) (split-cons sep p) in cc (split-here sep b p e, split-here sep b (p ++ q) e, split-glue sep p q, g .0, g .1))
+    (λ e. cc (split-there sep b p e, split-there sep b (p ++ q) e, split-glue sep p q, onto-glue b (split sep p) (front sep q) (later sep q)))
+
+pub butLast-glue : (a : List (List ℕ)) (x : List ℕ) (r : List (List ℕ)) → allButLast (a ++ (x ∷ r)) ≡ a ++ allButLast (x ∷ r)
+unfolding allButLast
+butLast-glue [] x r = refl
+butLast-glue (p ∷ []) x r = refl
+butLast-glue (p ∷ q ∷ a) x r = ap (λ (t : List (List ℕ)). p ∷ t) (butLast-glue (q ∷ a) x r)
+
+-- a text that begins with a separator, or is empty, puts pieces at the end
+rejoin : (p : List ℕ) (ps r : List (List ℕ)) → allButLast (p ∷ ps) ++ (last (p ∷ ps) ∷ r) ≡ (p ∷ ps) ++ r
+unfolding allButLast last
+rejoin p [] r = refl
+rejoin p (q ∷ ps) r = ap (λ (t : List (List ℕ)). p ∷ t) (rejoin q ps r)
+
+pub split-more : (sep : ℕ) (a x : List ℕ) → front sep x ≡ [] → split sep (a ++ x) ≡ split sep a ++ later sep x
+split-more sep a x h =
+    rw (split-glue sep a x, h, append-nil (last (split sep a)), split-cons sep a) (rejoin (front sep a) (later sep a) (later sep x))
+
+-- ---- all but the last, and the last
+but-last : (p : List ℕ) (ps : List (List ℕ)) → length (p ∷ ps) ≡ suc (length (allButLast (p ∷ ps)))
+unfolding allButLast
+but-last p [] = refl
+but-last p (q ∷ ps) = ap suc (but-last q ps)
+
+pub pieces-length : (sep : ℕ) (s : List ℕ) → length (split sep s) ≡ suc (length (allButLast (split sep s)))
+pieces-length sep s = rw (split-cons sep s) (but-last (front sep s) (later sep s))
+
+-- a first piece with more after it is before the last
+pub butLast-split : (sep : ℕ) (p s : List ℕ) → allButLast (p ∷ split sep s) ≡ p ∷ allButLast (split sep s)
+butLast-split sep p s = glue-cons p (split sep s) (front sep s) (later sep s) (split-cons sep s) .0
+
+pub last-split : (sep : ℕ) (p s : List ℕ) → last (p ∷ split sep s) ≡ last (split sep s)
+last-split sep p s = glue-cons p (split sep s) (front sep s) (later sep s) (split-cons sep s) .1
+
+pub butLast-snoc : (ps : List (List ℕ)) → allButLast (ps ++ ([] ∷ [])) ≡ ps
+unfolding allButLast
+butLast-snoc [] = refl
+butLast-snoc (p ∷ []) = refl
+butLast-snoc (p ∷ q ∷ ps) = ap (λ (r : List (List ℕ)). p ∷ r) (butLast-snoc (q ∷ ps))
+
+pub last-snoc : (ps : List (List ℕ)) → last (ps ++ ([] ∷ [])) ≡ []
+unfolding last
+last-snoc [] = refl
+last-snoc (p ∷ []) = refl
+last-snoc (p ∷ q ∷ ps) = last-snoc (q ∷ ps)
+
+-- ---- joined again
+onto-join : (sep b : ℕ) (ps : List (List ℕ)) → join sep (onto b ps) ≡ b ∷ join sep ps
+unfolding onto join led
+onto-join sep b [] = refl
+onto-join sep b (p ∷ ps) = refl
+
+led-join : (sep : ℕ) (p : List ℕ) (ps : List (List ℕ)) → led sep (p ∷ ps) ≡ sep ∷ join sep (p ∷ ps)
+unfolding led join
+led-join sep p ps = refl
+
+pub join-empty : (sep : ℕ) (s : List ℕ) → join sep ([] ∷ split sep s) ≡ sep ∷ join sep (split sep s)
+unfolding join
+join-empty sep s = rw (split-cons sep s) (led-join sep (front sep s) (later sep s))
+
+pub join-split : (sep : ℕ) (s : List ℕ) → join sep (split sep s) ≡ s
+join-split sep [] = rw (split-nil sep) (unfold join led in refl)
+join-split sep (b ∷ s) =
+    cases (eqb b sep)
+    (λ e. cc (split-here sep b s e, join-empty sep s, join-split sep s, eqb-true b sep e))
+    (λ e. rw (split-there sep b s e, onto-join sep b (split sep s), join-split sep s))
+
+pub join-cons : (sep : ℕ) (p q : List ℕ) (ps : List (List ℕ)) → join sep (p ∷ (q ∷ ps)) ≡ p ++ (sep ∷ join sep (q ∷ ps))
+unfolding led join
+join-cons sep p q ps = refl
+
+-- no piece has the separator
+unfoldable pub frees : ℕ → List (List ℕ) → Bool
+frees sep [] = true
+frees sep (p ∷ ps) = not (has sep p) && frees sep ps
+
+pub split-join : (sep : ℕ) (p : List ℕ) (ps : List (List ℕ)) → frees sep (p ∷ ps) ≡ true → split sep (join sep (p ∷ ps)) ≡ p ∷ ps
+unfolding frees join led
+split-join sep p [] h =
+    let q = both (not (has sep p)) true h in
+    cc (append-nil p, split-none sep p (not-true (has sep p) (q .0)))
+split-join sep p (r ∷ ps) h =
+    let q = both (not (has sep p)) (frees sep (r ∷ ps)) h in
+    cc (split-next sep p (r ++ led sep ps) (not-true (has sep p) (q .0)), split-join sep r ps (q .1))
+
+-- ---- lines, each ended
+pub ended-append : (sep : ℕ) (ps qs : List (List ℕ)) → ended sep (ps ++ qs) ≡ ended sep ps ++ ended sep qs
+unfolding ended
+ended-append sep [] qs = refl
+ended-append sep (p ∷ ps) qs = rw (ended-append sep ps qs, append-assoc)
+
+ended-last : (sep : ℕ) (p : List ℕ) (ps : List (List ℕ)) → ended sep (allButLast (p ∷ ps)) ++ last (p ∷ ps) ≡ join sep (p ∷ ps)
+unfolding ended allButLast last join led
+ended-last sep p [] = sym (append-nil p)
+ended-last sep p (q ∷ ps) =
+    append-assoc p (sep ∷ ended sep (allButLast (q ∷ ps))) (last (q ∷ ps)) ∙ ap (λ (r : List ℕ). p ++ (sep ∷ r)) (ended-last sep q ps)
+
+-- a text that is cut at its ends and ended again
+pub ended-lines : (sep : ℕ) (s : List ℕ) → empty (last (split sep s)) ≡ true → ended sep (allButLast (split sep s)) ≡ s
+ended-lines sep s h =
+    sym (append-nil (ended sep (allButLast (split sep s))))
+    ∙ cc (empty-is (last (split sep s)) h, split-cons sep s, ended-last sep (front sep s) (later sep s), join-split sep s)
+
+pub split-ended : (sep : ℕ) (ps : List (List ℕ)) → frees sep ps ≡ true → split sep (ended sep ps) ≡ ps ++ ([] ∷ [])
+unfolding frees ended
+split-ended sep [] h = split-nil sep
+split-ended sep (p ∷ ps) h =
+    let q = both (not (has sep p)) (frees sep ps) h in
+    cc (split-next sep p (ended sep ps) (not-true (has sep p) (q .0)), split-ended sep ps (q .1))
