@@ -1,0 +1,99 @@
+//! Bytes and shifts: one-byte mode, two-byte mode, and what may stand in each.
+
+/// The byte that begins every shift sequence.
+pub const SHIFT: u8 = 0x1B;
+/// Enters two-byte mode.
+pub const TO_TWO_BYTE: [u8; 3] = [SHIFT, 0x24, 0x42];
+/// Returns to one-byte mode.
+pub const TO_ONE_BYTE: [u8; 3] = [SHIFT, 0x28, 0x42];
+
+/// Whether `bytes` keep the byte and shift rule from one-byte mode back to one-byte mode.
+///
+/// `line_end` is the one control byte allowed in one-byte mode: 0D in a message, 0A in a sheet.
+pub fn keeps_shift_rule(bytes: &[u8], line_end: u8) -> bool {
+    let allowed = |byte: u8| matches!(byte, 0x20..=0x7E) || byte == line_end;
+    let mut rest = bytes;
+    while let Some(at) = rest.iter().position(|&byte| !allowed(byte)) {
+        let after = rest[at..].strip_prefix(&TO_TWO_BYTE).and_then(after_pairs);
+        match after {
+            Some(after) => rest = after,
+            None => return false,
+        }
+    }
+    true
+}
+
+/// Walks the pairs of two-byte mode; gives what follows the return to one-byte mode.
+fn after_pairs(mut rest: &[u8]) -> Option<&[u8]> {
+    loop {
+        match rest {
+            [0x21..=0x7E, 0x21..=0x7E, after @ ..] => rest = after,
+            _ => return rest.strip_prefix(&TO_ONE_BYTE),
+        }
+    }
+}
+
+/// Where the first byte that is `wanted` stands in one-byte mode.
+///
+/// `bytes` begin in one-byte mode and keep the byte and shift rule. Bytes inside a shift are
+/// passed over: 日 is 46 7C, and its 7C is no bar.
+pub fn find_unshifted(bytes: &[u8], wanted: impl Fn(u8) -> bool) -> Option<usize> {
+    let mut from = 0;
+    loop {
+        let found = bytes[from..]
+            .iter()
+            .position(|&byte| wanted(byte) || byte == SHIFT)?;
+        let at = from + found;
+        if bytes[at] != SHIFT {
+            return Some(at);
+        }
+        from = end_of_shift(bytes, at);
+    }
+}
+
+/// Where one-byte mode begins again after the shift that starts at `at`.
+///
+/// No pair holds 1B, so the next 1B is the return.
+fn end_of_shift(bytes: &[u8], at: usize) -> usize {
+    let pairs = at + TO_TWO_BYTE.len();
+    let length = bytes[pairs..].iter().position(|&byte| byte == SHIFT);
+    length.map_or(bytes.len(), |length| pairs + length + TO_ONE_BYTE.len())
+}
+
+#[cfg(test)]
+mod tests {
+    use super::*;
+
+    fn keeps(bytes: &[u8]) -> bool {
+        keeps_shift_rule(bytes, b'\r')
+    }
+
+    #[test]
+    fn an_immediate_return_is_allowed() {
+        assert!(keeps(b"a\x1B$B\x1B(Bb\r"));
+    }
+
+    #[test]
+    fn two_byte_mode_holds_pairs_only() {
+        assert!(keeps(b"\x1B$BF|\x1B(B"));
+        for inside in ["F", "F|F", "F ", "\r\r", "F\x7F", "\x1B$BF|"] {
+            let bytes = format!("\x1B$B{inside}\x1B(B");
+            assert!(!keeps(bytes.as_bytes()), "{inside:?}");
+        }
+    }
+
+    #[test]
+    fn one_byte_mode_must_be_shifted_out_of_and_returned_to() {
+        for bad in ["\x1B(B", "\x1B$B", "\x1B$BF|", "\x1B$", "\x1B", "\n", "\x7F"] {
+            assert!(!keeps(bad.as_bytes()), "{bad:?}");
+        }
+        assert!(!keeps(&[0x80]) && !keeps(&[0xFF]));
+    }
+
+    #[test]
+    fn a_bar_inside_kanji_is_no_bar() {
+        let bar = |byte| byte == b'|';
+        assert_eq!(find_unshifted(b"\x1B$BF|||\x1B(B|", bar), Some(10));
+        assert_eq!(find_unshifted(b"\x1B$BF|\x1B(B\x1B$B||\x1B(B", bar), None);
+    }
+}
