@@ -77,7 +77,7 @@ impl Delimiters {
         let mut rest = plain;
         while let Some(at) = find_unshifted(rest, |b| self.letter(b).is_some()) {
             component.extend_from_slice(&rest[..at]);
-            for letter in self.letter(rest[at]) {
+            if let Some(letter) = self.letter(rest[at]) {
                 component.extend([self.escape, letter, self.escape]);
             }
             rest = &rest[at + 1..];
