@@ -1,0 +1,210 @@
+-- Laws of the frame: one for each way through its code. Assumes nothing.
+use mathlib.Core.Path.{_≡_, refl, sym, ap, _∙_}
+use mathlib.Core.Bool.{Bool, true, false, cond, not, _&&_, _||_}
+use mathlib.Core.List.{List, [], _∷_, _++_, map}
+use Prim.Native.Nat.{ℕ, zero, suc, _+_, _-_, _≤_, _<_}
+use native.Mathlib.Numerals.{add-one}
+use native.Mathlib.Omega.{arith}
+use borrow.Author.Tests.{eqb-true, eq-eqb, ne-eqb, le-leb, lt-leb, lt-ltb, le-ltb, leb-true}
+use lib.Dec.{eqb, leb, ltb}
+use lib.ListN.{length, getD, take, drop, length-drop}
+use lib.Seq.{drop-drop}
+use Rattle.rules.specs.declared.Delims.{Delims}
+use Rattle.rules.specs.declared.Counts.{Counts}
+use Rattle.rules.specs.declared.Mode.{Mode}
+use Rattle.rules.specs.declared.Mode.the-variants.{One}
+use Rattle.rules.specs.declared.Name.{Name}
+use Rattle.rules.specs.declared.Name.the-variants.{Msh, Pid, Pv1, Spm, Obr, Orc, Obx, Other}
+use Rattle.rules.specs.Told.{Told, gives, refused, _>>_, _>>=_, _then_, _when_}
+use Rattle.rules.specs.Lists.{bytes, empty, starts, all, any, count, has, distinct, split, allButLast, last}
+use Rattle.rules.specs.Shift.{step, isOne, walk, keeps, within}
+use Rattle.rules.specs.Frame.{delimsOf, fiveOf, delimsOk, headerOk, segments, capital, capitalOrDigit, nameOk, segmentsOk, knownNames, spelling, nameAmong, nameOf, rank, is, after, orderFault}
+use Rattle.rules.proofs.Logic.{cases, never, both, and-true, and-false, and-assoc, or-false, or-assoc}
+use Rattle.rules.proofs.Lists.{here, over, rest-is, all-cons, all-first, any-cons, has-cons, has-nil, has-here, has-there}
+use Rattle.rules.proofs.Split.{butLast-split, last-split}
+use Rattle.scan.specs.Scan.{until}
+use Rattle.scan.specs.Scan as Scan
+use Rattle.value.proofs.Laws.{split-last, split-more}
+use Rattle.frame.specs.Frame.{goodOf, start, tallied, countedOf, seenIn, passFrom, closing, frameOf, framedTold, Within, Sound}
+use Rattle.frame.specs.declared.segments.Seen.{Seen}
+use Rattle.frame.specs.declared.segments.Passed.{Passed}
+use Rattle.frame.specs.declared.segments.Passed.the-variants.{Whole, Bad}
+
+-- ---- general
+starts-cons : (k b : ℕ) (ks s : List ℕ) → starts (k ∷ ks) (b ∷ s) ≡ (eqb b k && starts ks s)
+unfolding starts
+starts-cons k b ks s = cases (eqb b k) (λ e. cc) (λ e. cc)
+
+starts-nil : (s : List ℕ) → starts [] s ≡ true
+unfolding starts
+starts-nil s = refl
+
+-- a text shorter than a word doesn't start with it
+starts-short : (k s : List ℕ) → length s < length k → starts k s ≡ false
+unfolding starts
+starts-short [] s h = absurd (omega arith)
+starts-short (x ∷ k) [] h = refl
+starts-short (x ∷ k) (b ∷ s) h = cases (eqb b x) (λ e. cc (starts-short k s (omega arith))) (λ e. cc)
+
+-- the first three elements
+three : (s : List ℕ) → 3 ≤ length s → s ≡ getD s 0 0 ∷ getD s 1 0 ∷ getD s 2 0 ∷ drop 3 s
+three s h =
+    here 0 s 0 (omega arith)
+    ∙ ap (λ t. getD s 0 0 ∷ t) (here 0 s 1 (omega arith) ∙ ap (λ t. getD s 1 0 ∷ t) (here 0 s 2 (omega arith)))
+
+-- ---- a byte in a list
+module _ (x : ℕ) (s : List ℕ) (i : ℕ) (inv : has x s ≡ has x (drop i s)) where
+  pub has-found : i < length s → getD s i 0 ≡ x → true ≡ has x s
+  has-found h e = sym (inv ∙ ap (has x) (here 0 s i h) ∙ has-here x (getD s i 0) (drop (i + 1) s) (eq-eqb (getD s i 0) x e))
+
+  pub has-on : i < length s → (getD s i 0 ≡ x → ⊥) → has x s ≡ has x (drop (i + 1) s)
+  has-on h e = inv ∙ ap (has x) (here 0 s i h) ∙ has-there x (getD s i 0) (drop (i + 1) s) (ne-eqb (getD s i 0) x e)
+
+  pub has-over : length s ≤ i → false ≡ has x s
+  has-over h = sym (inv ∙ ap (has x) (over s i h) ∙ has-nil x)
+
+-- ---- 12: the mode after the bytes so far
+module _ (s : List ℕ) (i : ℕ) (mode : Mode) (inv : walk 0x0D One s ≡ walk 0x0D mode (drop i s)) where
+  pub keeps-on : (r : Mode) → i < length s → r ≡ step 0x0D mode (getD s i 0) → walk 0x0D One s ≡ walk 0x0D r (drop (i + 1) s)
+  unfolding walk
+  keeps-on r h e = cc (here 0 s i h)
+
+  pub keeps-over : (t : Bool) → length s ≤ i → t ≡ isOne mode → t ≡ keeps 0x0D s
+  unfolding keeps walk
+  keeps-over t h e = cc (over s i h)
+
+-- ---- names
+pub named-is : (s k : List ℕ) → 3 ≤ length s → length k ≡ 3
+    → ((eqb (getD s 0 0) (getD k 0 0) && eqb (getD s 1 0) (getD k 1 0)) && eqb (getD s 2 0) (getD k 2 0)) ≡ starts k s
+named-is s k h e =
+    let w : (a b c x y z : ℕ) (t : List ℕ) → ((eqb a x && eqb b y) && eqb c z) ≡ starts (x ∷ y ∷ z ∷ []) (a ∷ b ∷ c ∷ t)
+    = λ a b c x y z t. sym (simp (starts-cons, starts-nil, and-true, and-assoc)) in
+    cc (w (getD s 0 0) (getD s 1 0) (getD s 2 0) (getD k 0 0) (getD k 1 0) (getD k 2 0) (drop 3 s), three s h, three k (omega arith), over k 3 (omega arith))
+
+module _ (n : Name) (ns : List Name) (s : List ℕ) (t : Bool) (et : t ≡ starts (spelling n) s) where
+  pub among-yes : t ≡ true → n ≡ nameAmong (n ∷ ns) s
+  unfolding nameAmong
+  among-yes h = cc
+
+  pub among-no : (x : Name) → t ≡ false → x ≡ nameAmong ns s → x ≡ nameAmong (n ∷ ns) s
+  unfolding nameAmong
+  among-no x h e = cc
+
+pub among-none : (s : List ℕ) → Other ≡ nameAmong [] s
+unfolding nameAmong
+among-none s = refl
+
+among-short : (ns : List Name) (s : List ℕ) → length s < 3 → all (λ n. eqb (length (spelling n)) 3) ns ≡ true → Other ≡ nameAmong ns s
+unfolding nameAmong
+among-short [] s h a = refl
+among-short (n ∷ ns) s h a =
+    let q = all-first (λ n. eqb (length (spelling n)) 3) n ns a in
+    let e : length (spelling n) ≡ 3 = eqb-true (length (spelling n)) 3 (q .0) in
+    cc (starts-short (spelling n) s (omega arith), among-short ns s h (q .1))
+
+pub name-short : (s : List ℕ) → length s < 3 → Other ≡ nameOf s
+unfolding nameOf knownNames all spelling bytes
+name-short s h = among-short knownNames s h refl
+
+pub is-by : (a b : Name) (i j : ℕ) → i ≡ rank a → j ≡ rank b → eqb i j ≡ is a b
+is-by a b i j e f = cc
+
+-- what may follow a name, by the ranks
+follows : (a b : Name) → rank b ≤ 7
+    → any (is b) (after a) ≡ (eqb (rank b) (rank a + 1) || (eqb (rank a) 7 && ((eqb (rank b) 7 || eqb (rank b) 5) || eqb (rank b) 4)))
+unfolding any
+follows Other b h = any-cons (is b) Msh []
+follows Msh b h = any-cons (is b) Pid []
+follows Pid b h = any-cons (is b) Pv1 []
+follows Pv1 b h = any-cons (is b) Spm []
+follows Spm b h = any-cons (is b) Obr []
+follows Obr b h = any-cons (is b) Orc []
+follows Orc b h = any-cons (is b) Obx []
+follows Obx b h = rw (ne-eqb (rank b) 8 (omega arith)) (simp (any-cons, or-false, or-assoc))
+
+pub follow-is : (a b : Name) (i j : ℕ) → i ≡ rank a → j ≡ rank b → j ≤ 7
+    → (eqb j (i + 1) || (eqb i 7 && ((eqb j 7 || eqb j 5) || eqb j 4))) ≡ any (is b) (after a)
+follow-is a b i j e f h = rw (e, f) (sym (follows a b (omega arith)))
+
+-- ---- 11
+pub different-is : (d : Delims)
+    → (((((((((not (eqb (d .component) (d .field)) && not (eqb (d .repetition) (d .field))) && not (eqb (d .escape) (d .field))) && not (eqb (d .sub) (d .field)))
+    && not (eqb (d .repetition) (d .component))) && not (eqb (d .escape) (d .component))) && not (eqb (d .sub) (d .component)))
+    && not (eqb (d .escape) (d .repetition))) && not (eqb (d .sub) (d .repetition))) && not (eqb (d .sub) (d .escape)))
+    ≡ distinct (fiveOf d)
+unfolding distinct
+different-is d = sym (simp (has-cons, has-nil, or-false, not-or, and-true, and-assoc))
+  where
+    not-or : (a b : Bool) → not (a || b) ≡ (not a && not b)
+    not-or true b = refl
+    not-or false b = refl
+
+pub delims-are : (d : Delims) (p q r s t u : Bool) → p ≡ has (d .field) (bytes "!#%&*;?@\\^|~") → q ≡ has (d .component) (bytes "!#%&*;?@\\^|~")
+    → r ≡ has (d .repetition) (bytes "!#%&*;?@\\^|~") → s ≡ has (d .escape) (bytes "!#%&*;?@\\^|~") → t ≡ has (d .sub) (bytes "!#%&*;?@\\^|~")
+    → u ≡ distinct (fiveOf d) → (((((p && q) && r) && s) && t) && u) ≡ delimsOk d
+unfolding delimsOk all
+delims-are d p q r s t u ep eq er es et eu = rw (ep, eq, er, es, et, eu) (sym (simp (all-cons, and-true, and-assoc)))
+
+module _ (m : List ℕ) where
+  pub header-short : length m < 9 → false ≡ headerOk m
+  unfolding headerOk
+  header-short h = rw (lt-leb 9 (length m) h)
+
+  pub header-is : (d : Delims) (p q : Bool) → 9 ≤ length m → d ≡ delimsOf m → p ≡ starts (bytes "MSH") m → q ≡ delimsOk d
+      → ((p && q) && eqb (getD m 8 0) (d .field)) ≡ headerOk m
+  unfolding headerOk
+  header-is d p q h ed ep eq = rw (eq, ed, ep, le-leb 9 (length m) h)
+
+-- ---- the first of two faults
+module _ (f at : ℕ) (t : Bool) where
+  pub fault-fine : f ≡ 0 → t ≡ true → 0 ≡ (f then (at when not t))
+  fault-fine e h = rw (e, h)
+
+  pub fault-new : f ≡ 0 → t ≡ false → at ≡ (f then (at when not t))
+  fault-new e h = rw (e, h)
+
+pub fault-old : (f at : ℕ) (t : Bool) → (f ≡ 0 → ⊥) → f ≡ (f then (at when not t))
+fault-old zero at t h = absurd (h refl)
+fault-old (suc f) at t h = refl
+
+-- ---- 13, one segment
+module _ (bar : ℕ) (s : List ℕ) where
+  pub good-long : 4096 < length s → false ≡ goodOf bar s
+  good-long h = rw (lt-leb (length s) 4096 h)
+
+  pub good-short : length s < 3 → false ≡ goodOf bar s
+  unfolding nameOk
+  good-short h = rw (lt-leb 3 (length s) h) (sym (and-false (leb (length s) 4096)))
+
+  module _ (a b c : Bool) (long : length s ≤ 4096) (short : 3 ≤ length s) (ea : a ≡ capital (getD s 0 0)) (eb : b ≡ capitalOrDigit (getD s 1 0)) (ec : c ≡ capitalOrDigit (getD s 2 0)) where
+    pub good-three : length s ≡ 3 → ((a && b) && c) ≡ goodOf bar s
+    unfolding nameOk
+    good-three e = rw (ea, eb, ec, le-leb (length s) 4096 long, le-leb 3 (length s) short, eq-eqb (length s) 3 e) (sym (and-true ((capital (getD s 0 0) && capitalOrDigit (getD s 1 0)) && capitalOrDigit (getD s 2 0))))
+
+    pub good-more : (length s ≡ 3 → ⊥) → (((a && b) && c) && eqb (getD s 3 0) bar) ≡ goodOf bar s
+    unfolding nameOk
+    good-more e = rw (ea, eb, ec, le-leb (length s) 4096 long, le-leb 3 (length s) short, ne-eqb (length s) 3 e)
+
+-- ---- one segment more
+pub hit-yes : (a b : Name) (t : Bool) → t ≡ is a b → t ≡ true → 1 ≡ (1 when is a b)
+hit-yes a b t e h = rw (← e, h)
+
+pub hit-no : (a b : Name) (t : Bool) → t ≡ is a b → t ≡ false → 0 ≡ (1 when is a b)
+hit-no a b t e h = rw (← e, h)
+
+pub tally-is : (c : Counts) (n : Name) (x y z : ℕ) → x ≡ (1 when is Spm n) → y ≡ (1 when is Obr n) → z ≡ (1 when is Obx n)
+    → _≡_ {A = Counts} (record { spm = c .spm + x; obr = c .obr + y; obx = c .obx + z }) (tallied c n)
+unfolding tallied
+tally-is c n x y z ex ey ez = rw (ex, ey, ez)
+
+module _ (v : Seen) (n : Name) (t : Bool) (et : t ≡ is n Other) where
+  pub counted-other : t ≡ true
+      → _≡_ {A = Seen} (record { segments = v .segments + 1; known = v .known; last = v .last; fault = v .fault; counts = v .counts }) (countedOf v n)
+  unfolding countedOf
+  counted-other h = rw (← et, h)
+
+  pub counted-known : (f : Bool) (k : ℕ) (c : Counts) → t ≡ false → f ≡ any (is n) (after (v .last)) → k ≡ (v .fault then (v .known + 1 when not f))
+      → c ≡ tallied (v .counts) n
+      → _≡_ {A = Seen} (record { segments = v .segments + 1; known = v .known + 1; last = n; fault = k; counts = c }) (countedOf v n)
+  unfolding countedOf
+  counted-known f k c h ef ek ec = rw (← et, h, ek, ef, ec)
