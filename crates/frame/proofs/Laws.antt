@@ -19,13 +19,17 @@ use Rattle.rules.specs.Told.{Told, gives, refused, _>>_, _>>=_, _then_, _when_}
 use Rattle.rules.specs.Lists.{bytes, empty, starts, all, any, count, has, distinct, split, allButLast, last}
 use Rattle.rules.specs.Shift.{step, isOne, walk, keeps, within}
 use Rattle.rules.specs.Frame.{delimsOf, fiveOf, delimsOk, headerOk, segments, capital, capitalOrDigit, nameOk, segmentsOk, knownNames, spelling, nameAmong, nameOf, rank, is, after, orderFault}
-use Rattle.rules.proofs.Logic.{cases, never, both, and-true, and-false, and-assoc, or-false, or-assoc}
-use Rattle.rules.proofs.Lists.{here, over, rest-is, all-cons, all-first, any-cons, has-cons, has-nil, has-here, has-there}
+use Rattle.rules.proofs.Logic.{cases, never, both, not-true, not-false, and-true, and-false, and-assoc, or-false, or-assoc}
+use Rattle.rules.proofs.Lists.{filled-some, here, over, rest-is, all-cons, all-first, any-cons, has-cons, has-nil, has-here, has-there}
 use Rattle.rules.proofs.Split.{butLast-split, last-split}
 use Rattle.scan.specs.Scan.{until}
 use Rattle.scan.specs.Scan as Scan
 use Rattle.value.proofs.Laws.{split-last, split-more}
 use Rattle.frame.specs.Frame.{goodOf, start, tallied, countedOf, seenIn, passFrom, closing, frameOf, framedTold, Within, Sound}
+use Rattle.rules.specs.declared.Kind.the-variants.{TooLong, Header, Bytes, Segment, TooMany, Order}
+use Rattle.frame.specs.declared.Opened.{Opened}
+use Rattle.frame.specs.declared.Framed.{Framed}
+use Rattle.frame.specs.declared.Framed.the-variants.{Open, Not}
 use Rattle.frame.specs.declared.segments.Seen.{Seen}
 use Rattle.frame.specs.declared.segments.Passed.{Passed}
 use Rattle.frame.specs.declared.segments.Passed.the-variants.{Whole, Bad}
@@ -208,3 +212,112 @@ module _ (v : Seen) (n : Name) (t : Bool) (et : t ≡ is n Other) where
       → _≡_ {A = Seen} (record { segments = v .segments + 1; known = v .known + 1; last = n; fault = k; counts = c }) (countedOf v n)
   unfolding countedOf
   counted-known f k c h ef ek ec = rw (← et, h, ek, ef, ec)
+
+-- ---- 13, the segments in turn: r is the rest of the message, n how many bytes stand before its first 0D
+and-swap : (a b c : Bool) → (a && (b && c)) ≡ (b && (a && c))
+and-swap true b c = refl
+and-swap false true c = refl
+and-swap false false c = refl
+
+module _ (bar : ℕ) (r : List ℕ) (n : ℕ) (en : n ≡ length (until (Scan.is 0x0D) r)) where
+  pass-unended : (v : Seen) → 0 < length r → n ≡ length r → passFrom v bar r ≡ Bad
+  unfolding passFrom segmentsOk last
+  pass-unended v f h = rw (split-last 0x0D r (sym en ∙ h), filled-some r (λ q. omega arith))
+
+  module _ (h : n < length r) where
+    cut : split 0x0D r ≡ take n r ∷ split 0x0D (drop (suc n) r)
+    cut = let k : length (until (Scan.is 0x0D) r) < length r = omega arith in rw (← en) at (split-more 0x0D r k)
+
+    pub segments-next : segments r ≡ take n r ∷ segments (drop (suc n) r)
+    unfolding segments
+    segments-next = ap allButLast cut ∙ butLast-split 0x0D (take n r) (drop (suc n) r)
+
+    pub ok-next : segmentsOk bar r ≡ (goodOf bar (take n r) && segmentsOk bar (drop (suc n) r))
+    unfolding segmentsOk
+    ok-next =
+        rw (segments-next, cut, last-split 0x0D (take n r) (drop (suc n) r), all-cons (goodOf bar) (take n r) (segments (drop (suc n) r)))
+        (and-swap (empty (last (split 0x0D (drop (suc n) r)))) (goodOf bar (take n r)) (all (goodOf bar) (segments (drop (suc n) r))))
+
+    pass-next : (v : Seen) → passFrom v bar r ≡ cond (goodOf bar (take n r)) (passFrom (countedOf v (nameOf (take n r))) bar (drop (suc n) r)) Bad
+    unfolding passFrom seenIn
+    pass-next v = rw (ok-next, segments-next) (cases (goodOf bar (take n r)) (λ e. rw e) (λ e. rw e))
+
+pub pass-starts : (m : List ℕ) (bar : ℕ) (v : Seen) → v ≡ start → passFrom start bar m ≡ passFrom v bar m
+pass-starts m bar v e = rw e
+
+-- the pass at `at`, as its code has the rest
+module _ (m : List ℕ) (bar at n : ℕ) (v : Seen) (inv : passFrom start bar m ≡ passFrom v bar (drop at m))
+    (en : n ≡ length (until (Scan.is 0x0D) (take (length m - at) (drop at m)))) where
+  there : n ≡ length (until (Scan.is 0x0D) (drop at m))
+  there = en ∙ ap (λ l. length (until (Scan.is 0x0D) l)) (rest-is m at)
+
+  pub pass-open : at < length m → n ≡ length (take (length m - at) (drop at m)) → Bad ≡ passFrom start bar m
+  pass-open h e = sym (inv ∙ pass-unended bar (drop at m) n there v (omega (arith, length-drop at m)) (e ∙ ap length (rest-is m at)))
+
+  module _ (k : n ≤ length (take (length m - at) (drop at m))) (ne : n ≡ length (take (length m - at) (drop at m)) → ⊥) where
+    inside : n < length (drop at m)
+    inside = let q : length (take (length m - at) (drop at m)) ≡ length (drop at m) = ap length (rest-is m at) in omega arith
+
+    pub pass-further : at ≤ length m → at + (n + 1) ≤ length m
+    pass-further h = omega (arith, inside, length-drop at m)
+
+    module _ (t : Bool) (et : t ≡ goodOf bar (take n (take (length m - at) (drop at m)))) where
+      turn : passFrom start bar m ≡ cond t (passFrom (countedOf v (nameOf (take n (drop at m)))) bar (drop (at + (n + 1)) m)) Bad
+      turn = inv ∙ pass-next bar (drop at m) n there inside v ∙ rw (et, rest-is m at, drop-drop, add-one)
+
+      pub pass-bad : not t ≡ true → Bad ≡ passFrom start bar m
+      pass-bad h = sym (turn ∙ rw (not-true t h))
+
+      pub pass-on : (x : Name) (w : Seen) → not t ≡ false → x ≡ nameOf (take n (take (length m - at) (drop at m))) → w ≡ countedOf v x
+          → passFrom start bar m ≡ passFrom w bar (drop (at + (n + 1)) m)
+      pass-on x w h ex ew = turn ∙ rw (not-false t h, ew, ex, rest-is m at)
+
+pub pass-end : (m : List ℕ) (bar at : ℕ) (v : Seen) → passFrom start bar m ≡ passFrom v bar (drop at m) → length m ≤ at → Whole v ≡ passFrom start bar m
+unfolding passFrom seenIn segmentsOk segments split allButLast last empty all
+pass-end m bar at v inv h = sym (inv ∙ rw (over m at h))
+
+-- ---- the numbers of a pass stay below the bytes passed
+pub within-starts : (v : Seen) → v ≡ start → Within 0 v
+within-starts v e = rw e (record { segments = omega arith; known = omega arith; spm = omega arith; obr = omega arith; obx = omega arith })
+
+when-small : (t : Bool) → (1 when t) ≤ 1
+when-small true = omega arith
+when-small false = omega arith
+
+pub within-on : (v w : Seen) (x : Name) (at n : ℕ) → Within at v → w ≡ countedOf v x → Within (at + (n + 1)) w
+unfolding countedOf tallied
+within-on v w x at n h e =
+    rw e
+    (cases (is x Other)
+    (λ q. rw q (record { segments = omega (arith, h); known = omega (arith, h); spm = omega (arith, h); obr = omega (arith, h); obx = omega (arith, h) }))
+    (λ q. rw q (record {
+      segments = omega (arith, h);
+      known = omega (arith, h);
+      spm = omega (arith, h, when-small (is Spm x));
+      obr = omega (arith, h, when-small (is Obr x));
+      obx = omega (arith, h, when-small (is Obx x));
+    })))
+
+pub within-all : (m : List ℕ) (at : ℕ) (v u : Seen) → Within at v → at ≤ length m → length m ≤ 32768 → Whole v ≡ Whole u → Within 32768 u
+within-all m at v u h k l e =
+    let q : v ≡ u = cc in
+    rw (← q) (record { segments = omega (arith, h); known = omega (arith, h); spm = omega (arith, h); obr = omega (arith, h); obx = omega (arith, h) })
+
+pub within-bad : (u : Seen) → Bad ≡ Whole u → Within 32768 u
+within-bad u e = absurd (let z : _≡_ {A = ℕ} 0 1 = cc in omega arith)
+
+-- ---- 14 and 15
+module _ (d : Delims) (v : Seen) (r : Framed) where
+  pub close-14 : r ≡ Not (record { kind = TooMany; segment = 0; field = 0 }) → 512 < v .segments → framedTold r ≡ closing d v
+  unfolding closing
+  close-14 e h = rw (e, lt-ltb 512 (v .segments) h)
+
+  module _ (h : v .segments ≤ 512) (t : Bool) (at : ℕ) (et : t ≡ is (v .last) Obx) (ea : at ≡ (v .fault then (v .known + 1 when not t))) where
+    pub close-15 : r ≡ Not (record { kind = Order; segment = at; field = 0 }) → (at ≡ 0 → ⊥) → framedTold r ≡ closing d v
+    unfolding closing
+    close-15 e n = rw (e, le-ltb 512 (v .segments) h, ← et, ← ea, ne-eqb at 0 n)
+
+pub close-open : (d : Delims) (v : Seen) (t : Bool) (at : ℕ) → v .segments ≤ 512 → t ≡ is (v .last) Obx → at ≡ (v .fault then (v .known + 1 when not t)) → at ≡ 0
+    → gives (record { delims = d; counts = v .counts }) ≡ closing d v
+unfolding closing
+close-open d v t at h et ea n = rw (le-ltb 512 (v .segments) h, ← et, ← ea, eq-eqb at 0 n)
