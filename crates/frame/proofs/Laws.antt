@@ -25,6 +25,8 @@ use Rattle.rules.proofs.Split.{butLast-split, last-split}
 use Rattle.scan.specs.Scan.{until}
 use Rattle.scan.specs.Scan as Scan
 use Rattle.value.proofs.Laws.{split-last, split-more}
+use Rattle.rules.specs.Check.{frameTold}
+use Rattle.frame.proofs.Rules.{closing-is, sound}
 use Rattle.frame.specs.Frame.{goodOf, start, tallied, countedOf, seenIn, passFrom, closing, frameOf, framedTold, Within, Sound}
 use Rattle.rules.specs.declared.Kind.the-variants.{TooLong, Header, Bytes, Segment, TooMany, Order}
 use Rattle.frame.specs.declared.Opened.{Opened}
@@ -321,3 +323,58 @@ pub close-open : (d : Delims) (v : Seen) (t : Bool) (at : ℕ) → v .segments �
     → gives (record { delims = d; counts = v .counts }) ≡ closing d v
 unfolding closing
 close-open d v t at h et ea n = rw (le-ltb 512 (v .segments) h, ← et, ← ea, eq-eqb at 0 n)
+
+-- ---- what a pass that is over says
+passed-bad : (v : Seen) (bar : ℕ) (r : List ℕ) → passFrom v bar r ≡ Bad → segmentsOk bar r ≡ false
+unfolding passFrom
+passed-bad v bar r h = cases (segmentsOk bar r) (λ e. let z : Whole (seenIn v (segments r)) ≡ Bad = rw e at h in cc) (λ e. e)
+
+passed-whole : (v w : Seen) (bar : ℕ) (r : List ℕ) → passFrom v bar r ≡ Whole w → (segmentsOk bar r ≡ true) × (seenIn v (segments r) ≡ w)
+unfolding passFrom
+passed-whole v w bar r h =
+    cases (segmentsOk bar r)
+    (λ e. let z : Whole (seenIn v (segments r)) ≡ Whole w = rw e at h in (e, cc))
+    (λ e. let z : Bad ≡ Whole w = rw e at h in (cc, cc))
+
+pub whole-within : (p : Passed) (v : Seen) → ((w : Seen) → p ≡ Whole w → Within 32768 w) → p ≡ Whole v → Within 32768 v
+whole-within p v f e = f v e
+
+-- ---- 10 to 15
+pub header-long : (m : List ℕ) (t : Bool) → t ≡ headerOk m → not t ≡ false → 9 ≤ length m
+unfolding headerOk
+header-long m t e h =
+    let a = both (leb 9 (length m) && starts (bytes "MSH") m && delimsOk (delimsOf m)) (eqb (getD m 8 0) (delimsOf m .field)) (sym e ∙ not-false t h) in
+    let b = both (leb 9 (length m) && starts (bytes "MSH") m) (delimsOk (delimsOf m)) (a .0) in
+    leb-true 9 (length m) (both (leb 9 (length m)) (starts (bytes "MSH") m) (b .0) .0)
+
+module _ (m : List ℕ) (r : Framed) where
+  pub sound-by : framedTold r ≡ frameOf m → (o : Opened) → r ≡ Open o → Sound m (o .delims)
+  sound-by h o e = sound m o (sym h ∙ ap framedTold e)
+
+  pub frame-10 : 32768 < length m → r ≡ Not (record { kind = TooLong; segment = 0; field = 0 }) → framedTold r ≡ frameOf m
+  unfolding frameOf frameTold
+  frame-10 h e = rw (e, lt-ltb 32768 (length m) h)
+
+  module _ (l : length m ≤ 32768) (t : Bool) (et : t ≡ headerOk m) where
+    pub frame-11 : not t ≡ true → r ≡ Not (record { kind = Header; segment = 0; field = 0 }) → framedTold r ≡ frameOf m
+    unfolding frameOf frameTold
+    frame-11 h e = rw (e, le-ltb 32768 (length m) l, ← et, not-true t h)
+
+    module _ (ht : not t ≡ false) (u : Bool) (eu : u ≡ keeps 0x0D m) where
+      pub frame-12 : not u ≡ true → r ≡ Not (record { kind = Bytes; segment = 0; field = 0 }) → framedTold r ≡ frameOf m
+      unfolding frameOf frameTold
+      frame-12 h e = rw (e, le-ltb 32768 (length m) l, ← et, not-false t ht, ← eu, not-true u h)
+
+      module _ (hu : not u ≡ false) (d : Delims) (ed : d ≡ delimsOf m) (p : Passed) (ep : p ≡ passFrom start (d .field) m) where
+        pub frame-13 : p ≡ Bad → r ≡ Not (record { kind = Segment; segment = 0; field = 0 }) → framedTold r ≡ frameOf m
+        unfolding frameOf frameTold
+        frame-13 h e =
+            rw (e, le-ltb 32768 (length m) l, ← et, not-false t ht, ← eu, not-false u hu, ← ed, passed-bad start (d .field) m (sym ep ∙ h))
+
+        pub frame-close : (v : Seen) → p ≡ Whole v → framedTold r ≡ closing d v → framedTold r ≡ frameOf m
+        unfolding frameOf frameTold
+        frame-close v h e =
+            let q = passed-whole start v (d .field) m (sym ep ∙ h) in
+            e
+            ∙ rw (le-ltb 32768 (length m) l, ← et, not-false t ht, ← eu, not-false u hu, ← ed, q .0, ← (q .1), closing-is m d)
+            (cases (ltb 512 (length (segments m))) (λ y. rw y) (λ y. rw y))
