@@ -8,7 +8,7 @@ refused-requires : tie.Need-refused-requires
 refused-requires c κs = search needs
 
 returns : tie.Need-returns
-returns c = search (close-14, close-15, close-open, needs)
+returns c = search (close-14, needs)
 
 is-requires : tie.Need-is-requires
 is-requires c κs = search needs
@@ -23,10 +23,10 @@ refused-requires-2 : tie.Need-refused-requires-2
 refused-requires-2 c κs = search needs
 
 returns-2 : tie.Need-returns-2
-returns-2 c = search (close-14, close-15, close-open, needs)
+returns-2 c = search (close-15, needs)
 
 returns-3 : tie.Need-returns-3
-returns-3 c = search (close-14, close-15, close-open, needs)
+returns-3 c = search (close-open, needs)
 
 pub close-spec : {M : Type 1} → statement M
 close-spec =

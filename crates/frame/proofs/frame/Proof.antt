@@ -8,7 +8,7 @@ refused-requires : tie.Need-refused-requires
 refused-requires c κs = search needs
 
 returns : tie.Need-returns
-returns c = search (header-long, whole-within, frame-10, frame-11, frame-12, frame-13, frame-close, sound-by, needs)
+returns c = search (frame-10, sound-by, needs)
 
 is-header-requires : tie.Need-is-header-requires
 is-header-requires c κs = search needs
@@ -17,7 +17,7 @@ refused-requires-2 : tie.Need-refused-requires-2
 refused-requires-2 c κs = search needs
 
 returns-2 : tie.Need-returns-2
-returns-2 c = search (header-long, whole-within, frame-10, frame-11, frame-12, frame-13, frame-close, sound-by, needs)
+returns-2 c = search (frame-11, sound-by, needs)
 
 keeps-requires : tie.Need-keeps-requires
 keeps-requires c κs = search needs
@@ -26,10 +26,10 @@ refused-requires-3 : tie.Need-refused-requires-3
 refused-requires-3 c κs = search needs
 
 returns-3 : tie.Need-returns-3
-returns-3 c = search (header-long, whole-within, frame-10, frame-11, frame-12, frame-13, frame-close, sound-by, needs)
+returns-3 c = search (frame-12, sound-by, needs)
 
 delims-requires : tie.Need-delims-requires
-delims-requires c κs = search (header-long, whole-within, frame-10, frame-11, frame-12, frame-13, frame-close, sound-by, needs)
+delims-requires c κs = search (header-long, needs)
 
 pass-requires : tie.Need-pass-requires
 pass-requires c κs = search needs
@@ -44,13 +44,13 @@ enum-known-seen : tie.Need-enum-known-seen
 enum-known-seen c = search needs
 
 close-requires : tie.Need-close-requires
-close-requires c κs = search (header-long, whole-within, frame-10, frame-11, frame-12, frame-13, frame-close, sound-by, needs)
+close-requires c κs = search (whole-within, needs)
 
 returns-4 : tie.Need-returns-4
-returns-4 c = search (header-long, whole-within, frame-10, frame-11, frame-12, frame-13, frame-close, sound-by, needs)
+returns-4 c = search (frame-13, sound-by, needs)
 
 returns-5 : tie.Need-returns-5
-returns-5 c = search (header-long, whole-within, frame-10, frame-11, frame-12, frame-13, frame-close, sound-by, needs)
+returns-5 c = search (frame-close, sound-by, needs)
 
 pub frame-spec : {M : Type 1} → statement M
 frame-spec =

@@ -14,13 +14,13 @@ abbrev μ-loop : tie.MeasureT-loop
 μ-loop s x i₀ i = length s - i
 
 loop-holds : tie.Need-loop-holds Inv-loop μ-loop
-loop-holds c = search (has-found, has-on, has-over, needs)
+loop-holds c = search needs
 
 shared-slice-read-if1 : tie.Need-shared-slice-read-if1 Inv-loop μ-loop
 shared-slice-read-if1 c = search needs
 
 returns : tie.Need-returns Inv-loop μ-loop
-returns c = search (has-found, has-on, has-over, needs)
+returns c = search (has-found, needs)
 
 add-i : tie.Need-add-i Inv-loop μ-loop
 add-i c = search needs
@@ -29,10 +29,10 @@ loop-less : tie.Need-loop-less Inv-loop μ-loop
 loop-less c = search needs
 
 loop-again : tie.Need-loop-again Inv-loop μ-loop
-loop-again c = search (has-found, has-on, has-over, needs)
+loop-again c = search (has-on, needs)
 
 returns-2 : tie.Need-returns-2 Inv-loop μ-loop
-returns-2 c = search (has-found, has-on, has-over, needs)
+returns-2 c = search (has-over, needs)
 
 pub has-byte-spec : {M : Type 1} → statement M
 has-byte-spec =

@@ -7,7 +7,7 @@ use Rattle.frame.proofs.header.is_header.Tie as tie
 
 returns : tie.Need-returns
 unfolding bytes
-returns c = search (header-short, header-is, needs)
+returns c = search (header-short, needs)
 
 delims-requires : tie.Need-delims-requires
 delims-requires c κs = search needs
@@ -26,7 +26,7 @@ shared-slice-read-result c = search needs
 
 returns-2 : tie.Need-returns-2
 unfolding bytes
-returns-2 c = search (header-short, header-is, needs)
+returns-2 c = search (header-is, needs)
 
 pub is-header-spec : {M : Type 1} → statement M
 is-header-spec =

@@ -8,7 +8,7 @@ use Rattle.frame.proofs.names.name_of.Tie as tie
 
 returns : tie.Need-returns
 unfolding nameOf knownNames spelling bytes
-returns c = search (among-yes, among-no, among-none, name-short, needs)
+returns c = search (name-short, needs)
 
 slice-aggregate-named : tie.Need-slice-aggregate-named
 slice-aggregate-named c = search needs
@@ -18,7 +18,7 @@ named-requires c κs = search needs
 
 returns-2 : tie.Need-returns-2
 unfolding nameOf knownNames spelling bytes
-returns-2 c = search (among-yes, among-no, among-none) depth 9
+returns-2 c = search among-yes
 
 slice-aggregate-named-2 : tie.Need-slice-aggregate-named-2
 slice-aggregate-named-2 c = search needs
@@ -28,7 +28,7 @@ named-requires-2 c κs = search needs
 
 returns-3 : tie.Need-returns-3
 unfolding nameOf knownNames spelling bytes
-returns-3 c = search (among-yes, among-no, among-none) depth 9
+returns-3 c = search (among-yes, among-no) depth 9
 
 slice-aggregate-named-3 : tie.Need-slice-aggregate-named-3
 slice-aggregate-named-3 c = search needs
@@ -38,7 +38,7 @@ named-requires-3 c κs = search needs
 
 returns-4 : tie.Need-returns-4
 unfolding nameOf knownNames spelling bytes
-returns-4 c = search (among-yes, among-no, among-none) depth 9
+returns-4 c = search (among-yes, among-no) depth 9
 
 slice-aggregate-named-4 : tie.Need-slice-aggregate-named-4
 slice-aggregate-named-4 c = search needs
@@ -48,7 +48,7 @@ named-requires-4 c κs = search needs
 
 returns-5 : tie.Need-returns-5
 unfolding nameOf knownNames spelling bytes
-returns-5 c = search (among-yes, among-no, among-none) depth 9
+returns-5 c = search (among-yes, among-no) depth 9
 
 slice-aggregate-named-5 : tie.Need-slice-aggregate-named-5
 slice-aggregate-named-5 c = search needs
@@ -58,7 +58,7 @@ named-requires-5 c κs = search needs
 
 returns-6 : tie.Need-returns-6
 unfolding nameOf knownNames spelling bytes
-returns-6 c = search (among-yes, among-no, among-none) depth 9
+returns-6 c = search (among-yes, among-no) depth 9
 
 slice-aggregate-named-6 : tie.Need-slice-aggregate-named-6
 slice-aggregate-named-6 c = search needs
@@ -68,7 +68,7 @@ named-requires-6 c κs = search needs
 
 returns-7 : tie.Need-returns-7
 unfolding nameOf knownNames spelling bytes
-returns-7 c = search (among-yes, among-no, among-none) depth 9
+returns-7 c = search (among-yes, among-no) depth 9
 
 slice-aggregate-named-7 : tie.Need-slice-aggregate-named-7
 slice-aggregate-named-7 c = search needs
@@ -78,11 +78,11 @@ named-requires-7 c κs = search needs
 
 returns-8 : tie.Need-returns-8
 unfolding nameOf knownNames spelling bytes
-returns-8 c = search (among-yes, among-no, among-none) depth 9
+returns-8 c = search (among-yes, among-no) depth 9
 
 returns-9 : tie.Need-returns-9
 unfolding nameOf knownNames spelling bytes
-returns-9 c = search (among-yes, among-no, among-none) depth 9
+returns-9 c = search (among-no, among-none) depth 9
 
 pub name-of-spec : {M : Type 1} → statement M
 name-of-spec =

@@ -11,7 +11,7 @@ is-requires : tie.Need-is-requires
 is-requires c κs = search needs
 
 returns : tie.Need-returns
-returns c = search (counted-other, counted-known, needs)
+returns c = search (counted-other, needs)
 
 add-known : tie.Need-add-known
 add-known c = search needs
@@ -26,7 +26,7 @@ tally-requires : tie.Need-tally-requires
 tally-requires c κs = search needs
 
 returns-2 : tie.Need-returns-2
-returns-2 c = search (counted-other, counted-known, needs)
+returns-2 c = search (counted-known, needs)
 
 pub counted-spec : {M : Type 1} → statement M
 counted-spec =

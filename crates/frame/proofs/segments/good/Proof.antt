@@ -5,10 +5,10 @@ use Rattle.frame.proofs.segments.good.Statement.{statement}
 use Rattle.frame.proofs.segments.good.Tie as tie
 
 returns : tie.Need-returns
-returns c = search (good-long, good-short, good-three, good-more, needs)
+returns c = search (good-long, needs)
 
 returns-2 : tie.Need-returns-2
-returns-2 c = search (good-long, good-short, good-three, good-more, needs)
+returns-2 c = search (good-short, needs)
 
 shared-slice-read-is-capital : tie.Need-shared-slice-read-is-capital
 shared-slice-read-is-capital c = search needs
@@ -29,13 +29,13 @@ is-sign-requires-2 : tie.Need-is-sign-requires-2
 is-sign-requires-2 c κs = search needs
 
 returns-3 : tie.Need-returns-3
-returns-3 c = search (good-long, good-short, good-three, good-more, needs)
+returns-3 c = search (good-three, needs)
 
 shared-slice-read-result : tie.Need-shared-slice-read-result
 shared-slice-read-result c = search needs
 
 returns-4 : tie.Need-returns-4
-returns-4 c = search (good-long, good-short, good-three, good-more, needs)
+returns-4 c = search (good-more, needs)
 
 pub good-spec : {M : Type 1} → statement M
 good-spec =

@@ -8,10 +8,10 @@ is-requires : tie.Need-is-requires
 is-requires c κs = search needs
 
 returns : tie.Need-returns
-returns c = search (hit-yes, hit-no, needs)
+returns c = search (hit-yes, needs)
 
 returns-2 : tie.Need-returns-2
-returns-2 c = search (hit-yes, hit-no, needs)
+returns-2 c = search (hit-no, needs)
 
 pub hit-spec : {M : Type 1} → statement M
 hit-spec = tie.close (tie.spec is-requires returns returns-2)

@@ -18,7 +18,7 @@ none-requires : tie.Need-none-requires Inv-loop μ-loop
 none-requires c κs = search needs
 
 loop-holds : tie.Need-loop-holds Inv-loop μ-loop
-loop-holds c = search (pass-starts, within-starts, pass-open, pass-further, pass-bad, pass-on, pass-end, within-on, within-all, within-bad, needs)
+loop-holds c = search (pass-starts, within-starts, needs)
 
 sub-rest : tie.Need-sub-rest Inv-loop μ-loop
 sub-rest c = search needs
@@ -33,7 +33,7 @@ before-requires : tie.Need-before-requires Inv-loop μ-loop
 before-requires c κs = search needs
 
 returns : tie.Need-returns Inv-loop μ-loop
-returns c = search (pass-starts, within-starts, pass-open, pass-further, pass-bad, pass-on, pass-end, within-on, within-all, within-bad, needs)
+returns c = search (pass-open, within-bad, needs)
 
 slice-aggregate-s : tie.Need-slice-aggregate-s Inv-loop μ-loop
 slice-aggregate-s c = search (part-length, needs)
@@ -42,7 +42,7 @@ good-requires : tie.Need-good-requires Inv-loop μ-loop
 good-requires c κs = search needs
 
 returns-2 : tie.Need-returns-2 Inv-loop μ-loop
-returns-2 c = search (pass-starts, within-starts, pass-open, pass-further, pass-bad, pass-on, pass-end, within-on, within-all, within-bad, needs)
+returns-2 c = search (pass-bad, within-bad, needs)
 
 name-of-requires : tie.Need-name-of-requires Inv-loop μ-loop
 name-of-requires c κs = search needs
@@ -51,19 +51,19 @@ counted-requires : tie.Need-counted-requires Inv-loop μ-loop
 counted-requires c κs = search needs
 
 add-at : tie.Need-add-at Inv-loop μ-loop
-add-at c = search (pass-starts, within-starts, pass-open, pass-further, pass-bad, pass-on, pass-end, within-on, within-all, within-bad, needs)
+add-at c = search (pass-further, needs)
 
 add-at-2 : tie.Need-add-at-2 Inv-loop μ-loop
 add-at-2 c = search needs
 
 loop-less : tie.Need-loop-less Inv-loop μ-loop
-loop-less c = search (pass-starts, within-starts, pass-open, pass-further, pass-bad, pass-on, pass-end, within-on, within-all, within-bad, needs)
+loop-less c = search (pass-further, needs)
 
 loop-again : tie.Need-loop-again Inv-loop μ-loop
-loop-again c = search (pass-starts, within-starts, pass-open, pass-further, pass-bad, pass-on, pass-end, within-on, within-all, within-bad, needs)
+loop-again c = search (pass-further, pass-on, within-on, needs)
 
 returns-3 : tie.Need-returns-3 Inv-loop μ-loop
-returns-3 c = search (pass-starts, within-starts, pass-open, pass-further, pass-bad, pass-on, pass-end, within-on, within-all, within-bad, needs)
+returns-3 c = search (pass-end, within-all, needs)
 
 pub pass-spec : {M : Type 1} → statement M
 pass-spec =

@@ -15,7 +15,7 @@ abbrev μ-loop : tie.MeasureT-loop
 μ-loop s mode₀ i₀ mode i = length s - i
 
 loop-holds : tie.Need-loop-holds Inv-loop μ-loop
-loop-holds c = search (keeps-on, keeps-over, needs)
+loop-holds c = search needs
 
 shared-slice-read-step : tie.Need-shared-slice-read-step Inv-loop μ-loop
 shared-slice-read-step c = search needs
@@ -30,13 +30,13 @@ loop-less : tie.Need-loop-less Inv-loop μ-loop
 loop-less c = search needs
 
 loop-again : tie.Need-loop-again Inv-loop μ-loop
-loop-again c = search (keeps-on, keeps-over, needs)
+loop-again c = search (keeps-on, needs)
 
 one-requires : tie.Need-one-requires Inv-loop μ-loop
 one-requires c κs = search needs
 
 returns : tie.Need-returns Inv-loop μ-loop
-returns c = search (keeps-on, keeps-over, needs)
+returns c = search (keeps-over, needs)
 
 pub keeps-spec : {M : Type 1} → statement M
 keeps-spec =
