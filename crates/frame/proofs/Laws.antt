@@ -1,7 +1,7 @@
 -- Laws of the frame: one for each way through its code. Assumes nothing.
 use mathlib.Core.Path.{_≡_, refl, sym, ap, _∙_}
 use mathlib.Core.Bool.{Bool, true, false, cond, not, _&&_, _||_}
-use mathlib.Core.List.{List, [], _∷_, _++_, map}
+use mathlib.Core.List.{List, [], _∷_}
 use Prim.Native.Nat.{ℕ, zero, suc, _+_, _-_, _≤_, _<_}
 use native.Mathlib.Numerals.{add-one}
 use native.Mathlib.Omega.{arith}
@@ -15,11 +15,11 @@ use Rattle.rules.specs.declared.Mode.{Mode}
 use Rattle.rules.specs.declared.Mode.the-variants.{One}
 use Rattle.rules.specs.declared.Name.{Name}
 use Rattle.rules.specs.declared.Name.the-variants.{Msh, Pid, Pv1, Spm, Obr, Orc, Obx, Other}
-use Rattle.rules.specs.Told.{Told, gives, refused, _>>_, _>>=_, _then_, _when_}
-use Rattle.rules.specs.Lists.{bytes, empty, starts, all, any, count, has, distinct, split, allButLast, last}
-use Rattle.rules.specs.Shift.{step, isOne, walk, keeps, within}
-use Rattle.rules.specs.Frame.{delimsOf, fiveOf, delimsOk, headerOk, segments, capital, capitalOrDigit, nameOk, segmentsOk, knownNames, spelling, nameAmong, nameOf, rank, is, after, orderFault}
-use Rattle.rules.proofs.Logic.{cases, never, both, not-true, not-false, and-true, and-false, and-assoc, or-false, or-assoc}
+use Rattle.rules.specs.Told.{gives, _then_, _when_}
+use Rattle.rules.specs.Lists.{bytes, empty, starts, all, any, has, distinct, split, allButLast, last}
+use Rattle.rules.specs.Shift.{step, isOne, walk, keeps}
+use Rattle.rules.specs.Frame.{delimsOf, fiveOf, delimsOk, headerOk, segments, capital, capitalOrDigit, nameOk, segmentsOk, knownNames, spelling, nameAmong, nameOf, rank, is, after}
+use Rattle.rules.proofs.Logic.{cases, both, not-true, not-false, and-true, and-false, and-assoc, or-false, or-assoc}
 use Rattle.rules.proofs.Lists.{filled-some, here, over, rest-is, all-cons, all-first, any-cons, has-cons, has-nil, has-here, has-there}
 use Rattle.rules.proofs.Split.{butLast-split, last-split}
 use Rattle.scan.specs.Scan.{until}

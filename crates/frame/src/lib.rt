@@ -11,8 +11,8 @@ ghost use Rattle.frame.specs.Frame.{framedTold, frameOf, closing, Within
 
 pub mod header;
 pub mod names;
-pub mod segments;
-pub mod shift;
+mod segments;
+mod shift;
 
 // What a message that passes 10 to 15 is read with, and what the check gives in the end.
 pub struct Opened {

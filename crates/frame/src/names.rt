@@ -7,11 +7,17 @@ ghost use Rattle.rules.specs.Lists.{starts, any};
 ghost use Rattle.rules.specs.Frame.{nameOf, rank, is, after};
 
 pub const MSH: [u8; 3] = *b"MSH";
+
 pub const PID: [u8; 3] = *b"PID";
+
 pub const PV1: [u8; 3] = *b"PV1";
+
 pub const SPM: [u8; 3] = *b"SPM";
+
 pub const OBR: [u8; 3] = *b"OBR";
+
 pub const ORC: [u8; 3] = *b"ORC";
+
 pub const OBX: [u8; 3] = *b"OBX";
 
 // Whether a segment starts with a name.

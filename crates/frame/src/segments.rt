@@ -14,7 +14,7 @@ ghost use Rattle.frame.specs.Frame.{goodOf, tallied, countedOf, start, p
 pub struct Seen {
     pub segments: usize, // of all names
     pub known: usize,
-    pub last: Name,   // of the known ones; `Other` at the start
+    pub last: Name, // of the known ones; `Other` at the start
     pub fault: usize, // the ordinal of the first known one out of order; 0 where there is none
     pub counts: Counts,
 }
