@@ -1,6 +1,5 @@
 use borrow.Author.Needs.{needs}
 use Rattle.frame.proofs.Laws.{close-14, close-15, close-open}
-use borrow.Author.Needs.{needs}
 use Rattle.frame.proofs.close.Statement.{statement}
 use Rattle.frame.proofs.close.Tie as tie
 

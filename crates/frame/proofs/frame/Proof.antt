@@ -1,6 +1,5 @@
 use borrow.Author.Needs.{needs}
 use Rattle.frame.proofs.Laws.{frame-10, frame-11, frame-12, frame-13, frame-close, header-long, sound-by, whole-within}
-use borrow.Author.Needs.{needs}
 use Rattle.frame.proofs.frame.Statement.{statement}
 use Rattle.frame.proofs.frame.Tie as tie
 

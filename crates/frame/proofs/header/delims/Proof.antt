@@ -1,6 +1,5 @@
 use borrow.Author.Needs.{needs}
 use Rattle.rules.specs.Frame.{delimsOf}
-use borrow.Author.Needs.{needs}
 use Rattle.frame.proofs.header.delims.Statement.{statement}
 use Rattle.frame.proofs.header.delims.Tie as tie
 

@@ -1,7 +1,6 @@
 use borrow.Author.Needs.{needs}
 use Rattle.rules.specs.Lists.{bytes}
 use Rattle.frame.proofs.Laws.{delims-are}
-use borrow.Author.Needs.{needs}
 use Rattle.frame.proofs.header.delims_ok.Statement.{statement}
 use Rattle.frame.proofs.header.delims_ok.Tie as tie
 

@@ -1,7 +1,6 @@
 use borrow.Author.Needs.{needs}
 use Rattle.rules.specs.Lists.{bytes}
 use Rattle.frame.proofs.Laws.{header-is, header-short}
-use borrow.Author.Needs.{needs}
 use Rattle.frame.proofs.header.is_header.Statement.{statement}
 use Rattle.frame.proofs.header.is_header.Tie as tie
 

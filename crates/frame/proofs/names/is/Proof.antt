@@ -1,6 +1,5 @@
 use borrow.Author.Needs.{needs}
 use Rattle.frame.proofs.Laws.{is-by}
-use borrow.Author.Needs.{needs}
 use Rattle.frame.proofs.names.is.Statement.{statement}
 use Rattle.frame.proofs.names.is.Tie as tie
 

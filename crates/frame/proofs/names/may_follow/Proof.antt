@@ -1,6 +1,5 @@
 use borrow.Author.Needs.{needs}
 use Rattle.frame.proofs.Laws.{follow-is}
-use borrow.Author.Needs.{needs}
 use Rattle.frame.proofs.names.may_follow.Statement.{statement}
 use Rattle.frame.proofs.names.may_follow.Tie as tie
 

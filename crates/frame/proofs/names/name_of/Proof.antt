@@ -2,7 +2,6 @@ use borrow.Author.Needs.{needs}
 use Rattle.rules.specs.Frame.{nameOf, knownNames, spelling}
 use Rattle.rules.specs.Lists.{bytes}
 use Rattle.frame.proofs.Laws.{among-no, among-none, among-yes, name-short}
-use borrow.Author.Needs.{needs}
 use Rattle.frame.proofs.names.name_of.Statement.{statement}
 use Rattle.frame.proofs.names.name_of.Tie as tie
 

@@ -1,6 +1,5 @@
 use borrow.Author.Needs.{needs}
 use Rattle.frame.proofs.Laws.{named-is}
-use borrow.Author.Needs.{needs}
 use Rattle.frame.proofs.names.named.Statement.{statement}
 use Rattle.frame.proofs.names.named.Tie as tie
 

@@ -1,6 +1,5 @@
 use borrow.Author.Needs.{needs}
 use Rattle.frame.proofs.Laws.{counted-known, counted-other}
-use borrow.Author.Needs.{needs}
 use Rattle.frame.proofs.segments.counted.Statement.{statement}
 use Rattle.frame.proofs.segments.counted.Tie as tie
 

@@ -1,6 +1,5 @@
 use borrow.Author.Needs.{needs}
 use Rattle.frame.proofs.Laws.{fault-fine, fault-new, fault-old}
-use borrow.Author.Needs.{needs}
 use Rattle.frame.proofs.segments.first_fault.Statement.{statement}
 use Rattle.frame.proofs.segments.first_fault.Tie as tie
 

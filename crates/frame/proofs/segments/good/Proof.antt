@@ -1,6 +1,5 @@
 use borrow.Author.Needs.{needs}
 use Rattle.frame.proofs.Laws.{good-long, good-more, good-short, good-three}
-use borrow.Author.Needs.{needs}
 use Rattle.frame.proofs.segments.good.Statement.{statement}
 use Rattle.frame.proofs.segments.good.Tie as tie
 

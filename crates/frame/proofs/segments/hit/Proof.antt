@@ -1,6 +1,5 @@
 use borrow.Author.Needs.{needs}
 use Rattle.frame.proofs.Laws.{hit-no, hit-yes}
-use borrow.Author.Needs.{needs}
 use Rattle.frame.proofs.segments.hit.Statement.{statement}
 use Rattle.frame.proofs.segments.hit.Tie as tie
 

@@ -1,6 +1,5 @@
 use borrow.Author.Needs.{needs}
 use Rattle.frame.proofs.Laws.{tally-is}
-use borrow.Author.Needs.{needs}
 use Rattle.frame.proofs.segments.tally.Statement.{statement}
 use Rattle.frame.proofs.segments.tally.Tie as tie
 
