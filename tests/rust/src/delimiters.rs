@@ -133,7 +133,16 @@ mod tests {
 
     #[test]
     fn any_other_escape_is_bad() {
-        for bad in [r"\Q\", r"\f\", r"\\", r"\", r"\F", r"\F|", "\\\x1B$B\x1B(B\\", "a&b"] {
+        for bad in [
+            r"\Q\",
+            r"\f\",
+            r"\\",
+            r"\",
+            r"\F",
+            r"\F|",
+            "\\\x1B$B\x1B(B\\",
+            "a&b",
+        ] {
             assert_eq!(plain_length(bad), None, "{bad}");
         }
         assert_eq!(plain_length(r"\E\F\E\"), Some(3));
@@ -146,8 +155,18 @@ mod tests {
 
     #[test]
     fn the_header_needs_five_different_delimiters() {
-        assert_eq!(Delimiters::of_header(br"MSH|^~\&|"), Some(Delimiters::USUAL));
-        for bad in [r"", r"MSH|^~\&", r"MSH||~\&|", r"MSH|^~\&^", r"MSH|^~\$|", r"msh|^~\&|"] {
+        assert_eq!(
+            Delimiters::of_header(br"MSH|^~\&|"),
+            Some(Delimiters::USUAL)
+        );
+        for bad in [
+            r"",
+            r"MSH|^~\&",
+            r"MSH||~\&|",
+            r"MSH|^~\&^",
+            r"MSH|^~\$|",
+            r"msh|^~\&|",
+        ] {
             assert_eq!(Delimiters::of_header(bad.as_bytes()), None, "{bad}");
         }
     }

@@ -24,8 +24,7 @@ impl<'m> Message<'m> {
         if bytes.len() > MESSAGE_LIMIT {
             return Err(Refusal::of_whole(number::MESSAGE_TOO_LONG));
         }
-        let delimiters =
-            Delimiters::of_header(bytes).ok_or(Refusal::of_whole(number::HEADER))?;
+        let delimiters = Delimiters::of_header(bytes).ok_or(Refusal::of_whole(number::HEADER))?;
         if !keeps_shift_rule(bytes, SEGMENT_END) {
             return Err(Refusal::of_whole(number::MESSAGE_BYTES));
         }
@@ -321,9 +320,7 @@ fn judge_component(raw: &[u8], rule: &Rule, delimiters: &Delimiters) -> Result<(
     if raw == rules::DOUBLE_QUOTES {
         return Err(number::DOUBLE_QUOTES);
     }
-    let length = delimiters
-        .plain_length(raw)
-        .ok_or(number::COMPONENT_FORM)?;
+    let length = delimiters.plain_length(raw).ok_or(number::COMPONENT_FORM)?;
     if length == 0 {
         return if rule.is_required() {
             Err(number::REQUIRED_EMPTY)

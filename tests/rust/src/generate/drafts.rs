@@ -5,6 +5,7 @@ use super::random::Random;
 use super::words::{self, Outcome};
 use crate::delimiters::{Delimiters, ADMITTED};
 use crate::parts;
+use std::ops::RangeInclusive;
 
 /// A segment: field n stands at n, the name at 0.
 pub type Segment = Vec<Vec<u8>>;
@@ -51,22 +52,24 @@ impl Draft {
     }
 
     pub fn to_bytes(&self) -> Vec<u8> {
-        self.segments
-            .iter()
-            .flat_map(|segment| self.segment_bytes(segment))
-            .collect()
+        let mut bytes = Vec::new();
+        for at in 0..self.segments.len() {
+            bytes.extend(self.segment_bytes(at));
+            bytes.push(b'\r');
+        }
+        bytes
     }
 
-    /// A segment with its 0D. MSH-1 is the separator itself, and MSH-2 follows it at once.
-    fn segment_bytes(&self, segment: &Segment) -> Vec<u8> {
-        let joined = if segment[0] == b"MSH" {
-            let header = segment[..3].concat();
-            let fields = [&[header], &segment[3..]].concat();
-            fields.join(&self.delimiters.field)
-        } else {
-            segment.join(&self.delimiters.field)
-        };
-        [joined, vec![b'\r']].concat()
+    /// A segment without its 0D. In the first one MSH-1 is the separator itself, and MSH-2
+    /// follows it at once.
+    pub fn segment_bytes(&self, at: usize) -> Vec<u8> {
+        let segment = &self.segments[at];
+        let separator = self.delimiters.field;
+        if at > 0 {
+            return segment.join(&separator);
+        }
+        let (header, fields) = segment.split_at(3);
+        [&[header.concat()], fields].concat().join(&separator)
     }
 
     fn add_header(&mut self, random: &mut Random) {
@@ -126,12 +129,7 @@ impl Draft {
     }
 
     /// A repetition of PID-5 whose component 8 is `mark`.
-    pub fn name(
-        &self,
-        random: &mut Random,
-        mark: &[u8],
-        family: std::ops::RangeInclusive<usize>,
-    ) -> Vec<u8> {
+    pub fn name(&self, random: &mut Random, mark: &[u8], family: RangeInclusive<usize>) -> Vec<u8> {
         let family = words::text(random, family);
         let given = words::text(random, 0..=48);
         self.field(random, &[(1, &family), (2, &given), (8, mark)])
@@ -293,7 +291,9 @@ impl Draft {
     }
 
     fn skipped_segment(&self, random: &mut Random) -> Segment {
-        let names = ["ZZZ", "NTE", "SAC", "Z00", "A9Z", "OBY", "MSA", "PIE", "SPN"];
+        let names = [
+            "ZZZ", "NTE", "SAC", "Z00", "A9Z", "OBY", "MSA", "PIE", "SPN",
+        ];
         let mut segment = vec![words::word(random, &names)];
         for _ in 0..random.below(4) {
             segment.push(self.unread_field(random));

@@ -2,13 +2,14 @@
 //! ones.
 
 use super::damage::{damage, damage_shifts};
-use super::drafts::{Draft, Segment, KNOWN};
+use super::drafts::{Draft, KNOWN};
 use super::random::Random;
 use super::{sheets, words};
 use crate::delimiters::ADMITTED;
 use crate::{to_message, MESSAGE_LIMIT};
 
 /// The places that the profile reads: segment, field, component.
+#[rustfmt::skip]
 const READ: &[(&str, usize, usize)] = &[
     ("MSH", 7, 1), ("MSH", 9, 1), ("MSH", 9, 2), ("MSH", 9, 3), ("MSH", 10, 1), ("MSH", 11, 1),
     ("MSH", 12, 1), ("PID", 3, 1), ("PID", 5, 1), ("PID", 5, 2), ("PID", 7, 1), ("PID", 8, 1),
@@ -18,6 +19,7 @@ const READ: &[(&str, usize, usize)] = &[
 ];
 
 /// The texts among them that have a fixed limit.
+#[rustfmt::skip]
 const TEXTS: &[(&str, usize, usize, usize)] = &[
     ("MSH", 10, 1, 20), ("PID", 3, 1, 20), ("PID", 5, 1, 48), ("PID", 5, 2, 48),
     ("OBX", 3, 2, 48), ("OBX", 6, 1, 20),
@@ -26,7 +28,9 @@ const TEXTS: &[(&str, usize, usize, usize)] = &[
 type Fault = fn(&mut Random, &mut Draft);
 type Recipe = fn(&mut Random) -> Vec<u8>;
 
-/// What can go wrong in a draft, each aimed at one or two refusal numbers.
+/// What can go wrong in a draft, each aimed at one or two refusal numbers. Those that break up
+/// the segments come last.
+#[rustfmt::skip]
 const FAULTS: &[Fault] = &[
     empty, quotes, repeat, spoil_escape, divide, excess_component, lengthen_text,
     lengthen_string, lengthen_number, misvalue, misvalue, misspell, spoil_character_set,
@@ -34,17 +38,23 @@ const FAULTS: &[Fault] = &[
     disorder_segments, spoil_segment_name,
 ];
 
+#[rustfmt::skip]
 const RECIPES: &[Recipe] = &[
     valid, valid, valid, written, two_faults, faults_and_damage, damaged, damaged, shifts_damaged,
-    header_damaged, unended, fragment, at_a_limit,
+    header_damaged, unended, fragment,
 ];
 
-/// The message of a turn: the recipes are taken one after another.
+/// The message of a turn. In each round every fault and every recipe has its turn, and last one
+/// of the limits.
 pub fn message(turn: usize, random: &mut Random) -> Vec<u8> {
-    let turn = turn % (FAULTS.len() + RECIPES.len());
-    match FAULTS.get(turn) {
-        Some(&fault) => with_faults(random, &[fault]),
-        None => RECIPES[turn - FAULTS.len()](random),
+    const TURNS: usize = FAULTS.len() + RECIPES.len() + 1;
+    let (round, turn) = (turn / TURNS, turn % TURNS);
+    if let Some(&fault) = FAULTS.get(turn) {
+        with_faults(random, &[fault])
+    } else if let Some(recipe) = RECIPES.get(turn - FAULTS.len()) {
+        recipe(random)
+    } else {
+        at_limit(round, random)
     }
 }
 
@@ -67,8 +77,9 @@ fn with_faults(random: &mut Random, faults: &[Fault]) -> Vec<u8> {
 
 /// Two faults in one message: the earlier one is to be reported.
 fn two_faults(random: &mut Random) -> Vec<u8> {
-    let faults = [random.pick(FAULTS), random.pick(FAULTS)];
-    with_faults(random, &faults)
+    let mut turns = [(); 2].map(|()| random.below(FAULTS.len()));
+    turns.sort_unstable();
+    with_faults(random, &turns.map(|turn| FAULTS[turn]))
 }
 
 fn faults_and_damage(random: &mut Random) -> Vec<u8> {
@@ -127,9 +138,9 @@ fn fragment(random: &mut Random) -> Vec<u8> {
 }
 
 /// Meets the limits of message, segment and segment count from both sides.
-fn at_a_limit(random: &mut Random) -> Vec<u8> {
-    let past = random.below(2);
-    match random.below(4) {
+fn at_limit(round: usize, random: &mut Random) -> Vec<u8> {
+    let past = round % 2;
+    match round / 2 % 4 {
         0 => of_length(random, MESSAGE_LIMIT + past),
         1 => with_longest_segment(random, 4_096 + past),
         2 => with_skipped_segments(random, 512 + past),
@@ -161,12 +172,8 @@ fn with_longest_segment(random: &mut Random, length: usize) -> Vec<u8> {
         return [draft.to_bytes(), skipped].concat();
     }
     let at = random.below(draft.segments.len());
-    let segment = &mut draft.segments[at];
-    segment.push(Vec::new());
-    let separators = segment.len() - if segment[0] == b"MSH" { 3 } else { 1 };
-    let bytes: usize = segment.iter().map(Vec::len).sum();
-    let last = filling(random, &draft, length - separators - bytes);
-    draft.segments[at].pop();
+    let room = length - draft.segment_bytes(at).len() - 1;
+    let last = filling(random, &draft, room);
     draft.segments[at].push(last);
     draft.to_bytes()
 }
@@ -302,14 +309,15 @@ fn excess_component(random: &mut Random, draft: &mut Draft) {
 fn lengthen_text(random: &mut Random, draft: &mut Draft) {
     let (name, field, component, limit) = random.pick(TEXTS);
     let segment = some_named(random, draft, name);
-    let text = words::text_of(random, limit + random_past(random));
+    let length = limit + random.below(2);
+    let text = words::text_of(random, length);
     let text = draft.escaped(&text);
     draft.set_component(segment, field, component, &text);
 }
 
 /// Aims at 24 in ST.
 fn lengthen_string(random: &mut Random, draft: &mut Draft) {
-    let length = 200 + random_past(random);
+    let length = 200 + random.below(2);
     let text = if random.one_in(3) {
         vec![draft.delimiters.field; length]
     } else {
@@ -321,7 +329,8 @@ fn lengthen_string(random: &mut Random, draft: &mut Draft) {
 
 /// Aims at 24 in NM and in the numbers of SN.
 fn lengthen_number(random: &mut Random, draft: &mut Draft) {
-    let number = words::number_of(random, 16 + random_past(random));
+    let length = 16 + random.below(2);
+    let number = words::number_of(random, length);
     let component = draft.delimiters.component;
     match random.below(3) {
         0 => set_value(random, draft, "NM", number),
@@ -331,14 +340,10 @@ fn lengthen_number(random: &mut Random, draft: &mut Draft) {
         }
         _ => {
             let joiner = random.pick(&["-", ":", ""]);
-            let value = [b"", b"1", joiner.as_bytes(), &number].join(&component);
+            let value = [b"" as &[u8], b"1", joiner.as_bytes(), &number].join(&component);
             set_value(random, draft, "SN", value);
         }
     }
-}
-
-fn random_past(random: &mut Random) -> usize {
-    random.below(2)
 }
 
 fn set_value(random: &mut Random, draft: &mut Draft, value_type: &str, value: Vec<u8>) {
@@ -373,17 +378,18 @@ fn misspell(random: &mut Random, draft: &mut Draft) {
 /// Aims at 25 in MSH-18.
 fn spoil_character_set(random: &mut Random, draft: &mut Draft) {
     let d = draft.delimiters;
-    let behind = [d.component, d.repetition, d.escape, d.subcomponent, b' '];
-    let behind = random.pick(&behind);
-    let field = draft.field_mut(0, 18);
-    match random.below(6) {
-        0 => field.clear(),
-        1 => drop(field.remove(0)),
-        2 => field.push(behind),
-        3 => *field = b"\"\"".to_vec(),
-        4 => field[0] = behind,
-        _ => draft.segments[0].truncate(18),
-    }
+    let other = [d.component, d.repetition, d.escape, d.subcomponent, b' '];
+    let (first, last) = (random.pick(&other), random.pick(&other));
+    let name: &[u8] = b"ISO IR87";
+    let spoilt = match random.below(6) {
+        0 => Vec::new(),
+        1 => name.to_vec(),
+        2 => [&[d.repetition], name, &[last]].concat(),
+        3 => [&[first], name].concat(),
+        4 => b"\"\"".to_vec(),
+        _ => return draft.segments[0].truncate(18),
+    };
+    *draft.field_mut(0, 18) = spoilt;
 }
 
 /// PID-5 with names in any order, some of them without a mark or with a bad name.
@@ -442,16 +448,15 @@ fn disorder_segments(random: &mut Random, draft: &mut Draft) {
         0 => drop(draft.segments.remove(at)),
         1 => draft.segments.insert(at, draft.segments[other].clone()),
         2 => draft.segments.swap(at, other),
-        _ => {
-            let renamed: Segment = vec![words::word(random, KNOWN)];
-            draft.segments.insert(at, renamed);
-        }
+        _ => draft.segments.insert(at, vec![words::word(random, KNOWN)]),
     }
 }
 
 /// Aims at 13, and at 15 where the name stays good.
 fn spoil_segment_name(random: &mut Random, draft: &mut Draft) {
     let at = random.within(1..=draft.segments.len() - 1);
-    let names = ["obx", "OB", "OBXX", "", "1BX", "O_X", "ZZz", "OBX ", "ZZZ^", "Z9", "Z99", "ZZZ"];
+    let names = [
+        "obx", "OB", "OBXX", "", "1BX", "O_X", "ZZz", "OBX ", "ZZZ^", "Z9", "Z99", "ZZZ",
+    ];
     draft.segments[at][0] = words::word(random, &names);
 }

@@ -1,9 +1,9 @@
 //! Recipes for sheets: valid ones, ones with a fault in a known place, extreme and damaged ones.
 
 use super::damage::{damage, damage_shifts};
+use super::messages;
 use super::random::Random;
 use super::words::{self, Outcome};
-use super::messages;
 use crate::{to_message, to_sheet, MESSAGE_LIMIT, SHEET_LIMIT};
 
 struct Line {
@@ -15,22 +15,30 @@ type Lines = Vec<Line>;
 type Fault = fn(&mut Random, &mut Lines);
 type Recipe = fn(&mut Random) -> Vec<u8>;
 
+/// What can go wrong in a sheet. Faults that break up the lines come last.
+#[rustfmt::skip]
 const FAULTS: &[Fault] = &[
-    rename_line, disorder_lines, misvalue, misvalue, misspell, quotes, empty, lengthen_text,
-    lengthen_number, mismatch_outcome, mismatch_outcome, mismatch_kana, end_early,
+    misvalue, misvalue, misspell, quotes, empty, lengthen_text, lengthen_number,
+    mismatch_outcome, mismatch_outcome, mismatch_kana, rename_line, disorder_lines, end_early,
 ];
 
+#[rustfmt::skip]
 const RECIPES: &[Recipe] = &[
     valid, valid, valid, of_message, of_message, two_faults, damaged, damaged, shifts_damaged,
-    unended, fragment, at_a_limit,
+    unended, fragment,
 ];
 
-/// The sheet of a turn: the recipes are taken one after another.
+/// The sheet of a turn. In each round every fault and every recipe has its turn, and last one of
+/// the limits.
 pub fn sheet(turn: usize, random: &mut Random) -> Vec<u8> {
-    let turn = turn % (FAULTS.len() + RECIPES.len());
-    match FAULTS.get(turn) {
-        Some(&fault) => with_faults(random, &[fault]),
-        None => RECIPES[turn - FAULTS.len()](random),
+    const TURNS: usize = FAULTS.len() + RECIPES.len() + 1;
+    let (round, turn) = (turn / TURNS, turn % TURNS);
+    if let Some(&fault) = FAULTS.get(turn) {
+        with_faults(random, &[fault])
+    } else if let Some(recipe) = RECIPES.get(turn - FAULTS.len()) {
+        recipe(random)
+    } else {
+        at_limit(round, random)
     }
 }
 
@@ -52,8 +60,9 @@ fn with_faults(random: &mut Random, faults: &[Fault]) -> Vec<u8> {
 
 /// Two faults in one sheet: the earlier one is to be reported.
 fn two_faults(random: &mut Random) -> Vec<u8> {
-    let faults = [random.pick(FAULTS), random.pick(FAULTS)];
-    with_faults(random, &faults)
+    let mut turns = [(); 2].map(|()| random.below(FAULTS.len()));
+    turns.sort_unstable();
+    with_faults(random, &turns.map(|turn| FAULTS[turn]))
 }
 
 fn damaged(random: &mut Random) -> Vec<u8> {
@@ -99,9 +108,9 @@ fn fragment(random: &mut Random) -> Vec<u8> {
 
 /// Meets the limits of the sheet, of the message it makes and of that message's segments from
 /// both sides.
-fn at_a_limit(random: &mut Random) -> Vec<u8> {
-    let past = random.below(2);
-    match random.below(4) {
+fn at_limit(round: usize, random: &mut Random) -> Vec<u8> {
+    let past = round % 2;
+    match round / 2 % 4 {
         0 => of_length(random, SHEET_LIMIT + past),
         1 => with_results(random, 506 + past),
         2 => with_orders(random, 169 + past),
@@ -109,23 +118,46 @@ fn at_a_limit(random: &mut Random) -> Vec<u8> {
     }
 }
 
-/// A sheet of just so many bytes, filled up by results and then by one long line.
+/// A sheet of just so many bytes.
 fn of_length(random: &mut Random, length: usize) -> Vec<u8> {
-    let mut sheet = valid(random);
-    loop {
-        let mut lines = Lines::new();
-        add_result(random, &mut lines);
-        let result = to_bytes(&lines);
-        if sheet.len() + result.len() > length {
-            break;
-        }
-        sheet.extend(result);
+    let mut lines = with_one_byte_texts(random);
+    let shortest = to_bytes(&lines).len();
+    lengthen_texts(&mut lines, length.saturating_sub(shortest));
+    to_bytes(&lines)
+}
+
+/// A sheet whose message has just so many bytes.
+fn for_message_of_length(random: &mut Random, length: usize) -> Vec<u8> {
+    let mut lines = with_one_byte_texts(random);
+    let shortest = to_message(&to_bytes(&lines), MESSAGE_LIMIT).unwrap_or_default();
+    lengthen_texts(&mut lines, length.saturating_sub(shortest.len()));
+    to_bytes(&lines)
+}
+
+/// Many results of type ST, each of one letter.
+fn with_one_byte_texts(random: &mut Random) -> Lines {
+    let mut lines = opened(random);
+    add_specimen(random, &mut lines);
+    add_order(random, &mut lines);
+    for _ in 0..random.within(300..=400) {
+        let outcome = Outcome {
+            value_type: "ST",
+            parts: ["", "a", "", ""].map(Vec::from),
+            status: "F",
+        };
+        add_result_with(&mut lines, b"A".to_vec(), outcome);
     }
-    let filling = length - sheet.len();
-    let last = sheet.pop().into_iter();
-    sheet.extend(std::iter::repeat_n(b'F', filling));
-    sheet.extend(last);
-    sheet
+    lines
+}
+
+/// Adds so many letters to the texts. None is to be escaped, so each byte more in the sheet is
+/// one more in its message.
+fn lengthen_texts(lines: &mut Lines, mut letters: usize) {
+    for line in lines.iter_mut().filter(|line| line.key == "value") {
+        let more = letters.min(199);
+        line.value.extend(std::iter::repeat_n(b'a', more));
+        letters -= more;
+    }
 }
 
 /// So many small results: six segments stand before them.
@@ -150,31 +182,6 @@ fn with_orders(random: &mut Random, count: usize) -> Vec<u8> {
         }
         add_order(random, &mut lines);
         add_small_result(random, &mut lines);
-    }
-    to_bytes(&lines)
-}
-
-/// A sheet whose message has just so many bytes. Its texts hold nothing to be escaped, so each
-/// byte more in the sheet is one more in the message.
-fn for_message_of_length(random: &mut Random, length: usize) -> Vec<u8> {
-    let count = random.within(200..=400);
-    let mut lines = opened(random);
-    add_specimen(random, &mut lines);
-    add_order(random, &mut lines);
-    for _ in 0..count {
-        let outcome = Outcome {
-            value_type: "ST",
-            parts: [b"", b"a", b"", b""].map(|part: &[u8]| part.to_vec()),
-            status: "F",
-        };
-        add_result_with(&mut lines, b"A".to_vec(), outcome);
-    }
-    let shortest = to_message(&to_bytes(&lines), MESSAGE_LIMIT).unwrap_or_default();
-    let mut missing = length.saturating_sub(shortest.len());
-    for line in lines.iter_mut().filter(|line| line.key == "value") {
-        let more = missing.min(199);
-        line.value.extend(std::iter::repeat_n(b'a', more));
-        missing -= more;
     }
     to_bytes(&lines)
 }
@@ -210,7 +217,11 @@ fn opened(random: &mut Random) -> Lines {
     add("family", words::text(random, 1..=48));
     add("given", words::text(random, 0..=48));
     let kana = random.one_in(2);
-    let (family, given) = if kana { (1..=48, 0..=48) } else { (0..=0, 0..=0) };
+    let (family, given) = if kana {
+        (1..=48, 0..=48)
+    } else {
+        (0..=0, 0..=0)
+    };
     add("kanafamily", words::text(random, family));
     add("kanagiven", words::text(random, given));
     let birth = words::date(random);
@@ -285,6 +296,7 @@ fn some_line_of(random: &mut Random, lines: &Lines, key: &str) -> Option<usize> 
 
 /// Aims at 42: another key.
 fn rename_line(random: &mut Random, lines: &mut Lines) {
+    #[rustfmt::skip]
     let keys = [
         "", "item", "order", "specimen", "Version", "version ", " mode", "kana", "kanafamilyy",
         "value", "status", "sent=", "ITEM",
@@ -313,7 +325,7 @@ fn misvalue(random: &mut Random, lines: &mut Lines) {
     lines[at].value = words::nearly(random);
 }
 
-/// Aims at 43: one byte put in, `=` and escapes among them.
+/// Aims at 43: something put in at an end of the value, `=` and escapes among it.
 fn misspell(random: &mut Random, lines: &mut Lines) {
     let at = some_line(random, lines);
     let value = &mut lines[at].value;
@@ -339,10 +351,12 @@ fn empty(random: &mut Random, lines: &mut Lines) {
 
 /// Aims at 43: a text as long as may be, or by a byte longer.
 fn lengthen_text(random: &mut Random, lines: &mut Lines) {
-    let (key, limit) = random.pick(&[
+    #[rustfmt::skip]
+    let limits = [
         ("control", 20), ("patient", 20), ("family", 48), ("given", 48), ("kanafamily", 48),
         ("kanagiven", 48), ("name", 48), ("value", 200), ("unit", 20),
-    ]);
+    ];
+    let (key, limit) = random.pick(&limits);
     let length = limit + random.below(2);
     let Some(at) = some_line_of(random, lines, key) else {
         return;
@@ -364,7 +378,11 @@ fn lengthen_number(random: &mut Random, lines: &mut Lines) {
     let number = words::number_of(random, length);
     let value_type = random.pick(&["NM", "SN", "SN"]);
     let second = value_type == "SN" && random.one_in(2);
-    lines[at].value = if second { b"1".to_vec() } else { number.clone() };
+    lines[at].value = if second {
+        b"1".to_vec()
+    } else {
+        number.clone()
+    };
     set_result(lines, at, value_type);
     if second {
         lines[at + 1].value = b":".to_vec();
