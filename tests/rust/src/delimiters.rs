@@ -95,6 +95,7 @@ impl Delimiters {
         }
     }
 
+    /// What the escape with this letter stands for.
     fn byte(&self, letter: u8) -> Option<u8> {
         match letter {
             b'F' => Some(self.field),
@@ -106,10 +107,16 @@ impl Delimiters {
         }
     }
 
+    /// The letter of the escape that stands for a delimiter.
     fn letter(&self, byte: u8) -> Option<u8> {
-        [b'F', b'S', b'T', b'R', b'E']
-            .into_iter()
-            .find(|&letter| self.byte(letter) == Some(byte))
+        match byte {
+            _ if byte == self.field => Some(b'F'),
+            _ if byte == self.component => Some(b'S'),
+            _ if byte == self.subcomponent => Some(b'T'),
+            _ if byte == self.repetition => Some(b'R'),
+            _ if byte == self.escape => Some(b'E'),
+            _ => None,
+        }
     }
 }
 

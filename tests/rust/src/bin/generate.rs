@@ -8,11 +8,8 @@ use std::io::{self, BufWriter, Write};
 use std::process::ExitCode;
 
 fn main() -> ExitCode {
-    let arguments: Vec<u64> = std::env::args()
-        .skip(1)
-        .map_while(|argument| argument.parse().ok())
-        .collect();
-    let [seed, count] = arguments[..] else {
+    let arguments: Result<Vec<u64>, _> = std::env::args().skip(1).map(|n| n.parse()).collect();
+    let Ok(&[seed, count]) = arguments.as_deref() else {
         eprintln!("usage: generate SEED COUNT");
         return ExitCode::from(2);
     };

@@ -16,7 +16,7 @@ pub struct Draft {
     pub delimiters: Delimiters,
     pub segments: Vec<Segment>,
     /// Unread places are filled once in so many times; never for 0.
-    filled_once_in: usize,
+    pub filled_once_in: usize,
 }
 
 impl Draft {

@@ -25,6 +25,9 @@ const TEXTS: &[(&str, usize, usize, usize)] = &[
     ("OBX", 3, 2, 48), ("OBX", 6, 1, 20),
 ];
 
+/// A name and its 0D.
+const SHORTEST_SEGMENT: usize = 4;
+
 type Fault = fn(&mut Random, &mut Draft);
 type Recipe = fn(&mut Random) -> Vec<u8>;
 
@@ -140,26 +143,47 @@ fn fragment(random: &mut Random) -> Vec<u8> {
 /// Meets the limits of message, segment and segment count from both sides.
 fn at_limit(round: usize, random: &mut Random) -> Vec<u8> {
     let past = round % 2;
-    match round / 2 % 4 {
-        0 => of_length(random, MESSAGE_LIMIT + past),
-        1 => with_longest_segment(random, 4_096 + past),
-        2 => with_skipped_segments(random, 512 + past),
+    match round / 2 % 5 {
+        0 => filled_up(random, MESSAGE_LIMIT + past),
+        1 => full_of_results(random, MESSAGE_LIMIT + past),
+        2 => with_longest_segment(random, 4_096 + past),
+        3 => with_skipped_segments(random, 512 + past),
         _ => with_many_results(random, 512 + past),
     }
 }
 
-/// A message of just so many bytes, filled up by skipped segments.
-fn of_length(random: &mut Random, length: usize) -> Vec<u8> {
+/// A small message, filled up to just so many bytes by skipped segments.
+fn filled_up(random: &mut Random, length: usize) -> Vec<u8> {
     let draft = Draft::new(random);
+    fill_up(random, &draft, length)
+}
+
+/// As many results as go into so many bytes. Without OBX-1 and other unread content the message
+/// is often shorter than what the writer would make of its sheet.
+fn full_of_results(random: &mut Random, length: usize) -> Vec<u8> {
+    let mut draft = Draft::opened(random);
+    draft.filled_once_in = 0;
+    draft.add_specimen(random);
+    draft.add_order(random);
+    let mut bytes = draft.to_bytes().len();
+    while bytes + SHORTEST_SEGMENT <= length {
+        draft.add_result(random);
+        bytes += draft.segment_bytes(draft.segments.len() - 1).len() + 1;
+    }
+    draft.segments.pop();
+    fill_up(random, &draft, length)
+}
+
+fn fill_up(random: &mut Random, draft: &Draft, length: usize) -> Vec<u8> {
     let mut message = draft.to_bytes();
     while message.len() < length {
         let left = length - message.len();
         let ended = if left <= 4_097 {
             left
         } else {
-            random.within(5..=4_097.min(left - 4))
+            random.within(SHORTEST_SEGMENT..=4_097.min(left - SHORTEST_SEGMENT))
         };
-        message.extend(skipped_segment(random, &draft, ended - 1));
+        message.extend(skipped_segment(random, draft, ended - 1));
     }
     message
 }
@@ -172,8 +196,8 @@ fn with_longest_segment(random: &mut Random, length: usize) -> Vec<u8> {
         return [draft.to_bytes(), skipped].concat();
     }
     let at = random.below(draft.segments.len());
-    let room = length - draft.segment_bytes(at).len() - 1;
-    let last = filling(random, &draft, room);
+    let present = draft.segment_bytes(at).len() + 1;
+    let last = filling(random, &draft, length.saturating_sub(present));
     draft.segments[at].push(last);
     draft.to_bytes()
 }

@@ -22,7 +22,8 @@ const NEARLY: &[&str] = &[
     "20241301", "20240100", "2024022", "202402291", "20240401240000", "20240401236000",
     "20240401235960", "20240401235959", "202404010930", "20240401093000.0", "00000000000042",
     "000000000000042", "0000000000000042", "-0", "01.20", ".5", "5.", "+", "-", ".", "+.", "<12",
-    "1e3", "1.2.3", "--1", "1 ", "1,5", "\"\"", "\"\"\"", "\"", "ISO IR87", "あ",
+    "1e3", "1.2.3", "--1", "1 ", "1,5", "\"\"", "\"\"\"", "\"", "ISO IR87",
+    "\x1B$B$\"\x1B(B",
 ];
 
 /// A result's type, its value in four parts (NM and ST fill the second only) and its status.
@@ -63,16 +64,14 @@ pub fn outcome(random: &mut Random) -> Outcome {
 
 /// An outcome whose parts are drawn one by one, so that they rarely fit one another.
 pub fn odd_outcome(random: &mut Random) -> Outcome {
+    let bad_comparators = ["><", "x", "*", "\"\"", ">>", "|", "> "];
+    let bad_joiners = ["x", "--", "*", "\"\"", "^", "~", " "];
     let value_type = random.pick(&["NM", "SN", "SN", "SN", "ST"]);
     let beside = value_type == "SN" || random.one_in(4);
     let mut parts = [
-        odd_word(
-            random,
-            COMPARATORS,
-            &["><", "x", "*", "\"\"", ">>", "|", "> "],
-        ),
+        odd_word(random, COMPARATORS, &bad_comparators),
         odd_number(random),
-        odd_word(random, JOINERS, &["x", "--", "*", "\"\"", "^", "~", " "]),
+        odd_word(random, JOINERS, &bad_joiners),
         odd_number(random),
     ];
     for companion in [0, 2, 3] {
@@ -103,10 +102,7 @@ fn odd_number(random: &mut Random) -> Vec<u8> {
 
 /// A value that is wrong in most places.
 pub fn nearly(random: &mut Random) -> Vec<u8> {
-    match random.pick(NEARLY) {
-        "あ" => [&TO_TWO_BYTE, b"$\"" as &[u8], &TO_ONE_BYTE].concat(),
-        value => value.into(),
-    }
+    word(random, NEARLY)
 }
 
 pub fn word(random: &mut Random, words: &[&str]) -> Vec<u8> {
