@@ -161,7 +161,13 @@ mod tests {
 
     #[test]
     fn a_bad_line_is_not_read() {
-        for line in ["", "check\t4d5\tok", "check\tzz\tok", "fetch\t\t1\t-1\t1\tok", "look\t\tok"] {
+        for line in [
+            "",
+            "check\t4d5\tok",
+            "check\tzz\tok",
+            "fetch\t\t1\t-1\t1\tok",
+            "look\t\tok",
+        ] {
             assert!(Case::parse(line).is_err(), "{line}");
         }
     }

@@ -31,12 +31,7 @@ pub fn locate_component(
     let position = field - segment.first_field + 1;
     let field = locate_part(m, segment.fields, delimiters.field, position);
     let repetition = locate_part(m, field, delimiters.repetition, 1);
-    Some(locate_part(
-        m,
-        repetition,
-        delimiters.component,
-        component,
-    ))
+    Some(locate_part(m, repetition, delimiters.component, component))
 }
 
 /// MSH-1 and MSH-2 hold the delimiters themselves, so they are never split.

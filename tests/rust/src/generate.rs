@@ -5,6 +5,7 @@
 //! refusal number and every limit from both sides.
 
 mod damage;
+mod drafts;
 mod messages;
 mod random;
 mod sheets;

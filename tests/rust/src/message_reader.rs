@@ -9,7 +9,7 @@ use crate::report::{
 };
 use crate::rules::{self, Rule};
 use crate::segments::{self, KnownSegment, SegmentName, SEGMENT_END};
-use crate::shift::{find_unshifted, keeps_shift_rule};
+use crate::shift::keeps_shift_rule;
 use crate::MESSAGE_LIMIT;
 
 /// A message whose bytes, header and segments are in order.
@@ -24,8 +24,7 @@ impl<'m> Message<'m> {
         if bytes.len() > MESSAGE_LIMIT {
             return Err(Refusal::of_whole(number::MESSAGE_TOO_LONG));
         }
-        let delimiters =
-            Delimiters::of_header(bytes).ok_or(Refusal::of_whole(number::HEADER))?;
+        let delimiters = Delimiters::of_header(bytes).ok_or(Refusal::of_whole(number::HEADER))?;
         if !keeps_shift_rule(bytes, SEGMENT_END) {
             return Err(Refusal::of_whole(number::MESSAGE_BYTES));
         }
@@ -244,17 +243,20 @@ impl<'m> Fields<'m> {
     /// A field with all its repetitions: MSH-18 and PID-5.
     fn whole(&mut self, number: usize) -> Field<'m> {
         let raw = self.parts.take(number);
-        Field::new(raw, self.delimiters, self.segment, number)
+        self.field(raw, number)
     }
 
     /// Any other read field: it may not be repeated.
     fn single(&mut self, number: usize) -> Result<Field<'m>, Refusal> {
-        let field = self.whole(number);
         let repetition = self.delimiters.repetition;
-        match find_unshifted(field.raw, |byte| byte == repetition) {
-            Some(_) => Err(field.refuse(number::REPETITION)),
-            None => Ok(field),
+        match self.parts.take_without(number, repetition) {
+            Some(raw) => Ok(self.field(raw, number)),
+            None => Err(Refusal::at_field(number::REPETITION, self.segment, number)),
         }
+    }
+
+    fn field(&self, raw: &'m [u8], number: usize) -> Field<'m> {
+        Field::new(raw, self.delimiters, self.segment, number)
     }
 
     /// A field of which component 1 is read.
@@ -321,9 +323,7 @@ fn judge_component(raw: &[u8], rule: &Rule, delimiters: &Delimiters) -> Result<(
     if raw == rules::DOUBLE_QUOTES {
         return Err(number::DOUBLE_QUOTES);
     }
-    let length = delimiters
-        .plain_length(raw)
-        .ok_or(number::COMPONENT_FORM)?;
+    let length = delimiters.plain_length(raw).ok_or(number::COMPONENT_FORM)?;
     if length == 0 {
         return if rule.is_required() {
             Err(number::REQUIRED_EMPTY)

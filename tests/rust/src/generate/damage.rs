@@ -4,10 +4,18 @@ use super::random::Random;
 use super::words;
 
 /// Bytes that mean something somewhere.
+#[rustfmt::skip]
 const MEANINGFUL: &[&[u8]] = &[
     b"|", b"^", b"~", b"\\", b"&", b"=", b"\r", b"\n", b"\r\r", b"\n\n", b"\x1B", b"\x1B$B",
     b"\x1B(B", b"\x1B$B\x1B(B", b"\"\"", b"\\F\\", b"\\Q\\", b" ", b"\x7F", b"\x00", b"\x80",
     b"\x1B$BF|\x1B(B", b"\x1B$BF\x1B(B", b"\x1B$B",
+];
+
+/// Bytes that break the byte and shift rule.
+#[rustfmt::skip]
+const BREACHES: &[&[u8]] = &[
+    b"\x1B", b"\x1B$B", b"\x1B(B", b"\x1B$BF\x1B(B", b"\x1B$BF \x1B(B", b"\x1B$B\x1B$B\x1B(B",
+    b"\x1B$@F|\x1B(B", b"\x1B$BF|\x1B(J", b"\x7F", b"\xFF",
 ];
 
 /// One to three strokes of damage; `line_end` parts the segments or lines.
@@ -27,13 +35,8 @@ pub fn damage(random: &mut Random, bytes: &mut Vec<u8>, line_end: u8) {
 
 /// Damage that is meant for the byte and shift rule.
 pub fn damage_shifts(random: &mut Random, bytes: &mut Vec<u8>) {
-    let bad: [&[u8]; 10] = [
-        b"\x1B", b"\x1B$B", b"\x1B(B", b"\x1B$BF\x1B(B", b"\x1B$BF \x1B(B", b"\x1B$B\x1B$B\x1B(B",
-        b"\x1B$@F|\x1B(B", b"\x1B$BF|\x1B(J", b"\x7F", b"\xFF",
-    ];
-    let bad = random.pick(&bad);
     let at = random.within(9.min(bytes.len())..=bytes.len());
-    bytes.splice(at..at, bad.iter().copied());
+    bytes.splice(at..at, random.pick(BREACHES).iter().copied());
 }
 
 fn flip_bit(random: &mut Random, bytes: &mut [u8]) {

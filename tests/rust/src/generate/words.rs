@@ -13,6 +13,7 @@ const COMPARATORS: &[&str] = &["", "", ">", "<", ">=", "<=", "=", "<>"];
 const JOINERS: &[&str] = &["", "-", "+", "/", ".", ":"];
 
 /// Values that are wrong in most places, and right or nearly right in some.
+#[rustfmt::skip]
 const NEARLY: &[&str] = &[
     "", " ", "Q", "p", "m", "i", "P ", " F", "MM", "1", "2", "2.4", "2.50", "OUL", "R21", "R22 ",
     "OUL_R2", "JC9", "JC10", "jc10", "99003", "99004", "RE", "NW", "nm", "NM", "SN", "ST", "TX",
@@ -21,7 +22,8 @@ const NEARLY: &[&str] = &[
     "20241301", "20240100", "2024022", "202402291", "20240401240000", "20240401236000",
     "20240401235960", "20240401235959", "202404010930", "20240401093000.0", "00000000000042",
     "000000000000042", "0000000000000042", "-0", "01.20", ".5", "5.", "+", "-", ".", "+.", "<12",
-    "1e3", "1.2.3", "--1", "1 ", "1,5", "\"\"", "\"\"\"", "\"", "ISO IR87", "あ",
+    "1e3", "1.2.3", "--1", "1 ", "1,5", "\"\"", "\"\"\"", "\"", "ISO IR87",
+    "\x1B$B$\"\x1B(B",
 ];
 
 /// A result's type, its value in four parts (NM and ST fill the second only) and its status.
@@ -62,33 +64,31 @@ pub fn outcome(random: &mut Random) -> Outcome {
 
 /// An outcome whose parts are drawn one by one, so that they rarely fit one another.
 pub fn odd_outcome(random: &mut Random) -> Outcome {
+    let bad_comparators = ["><", "x", "*", "\"\"", ">>", "|", "> "];
+    let bad_joiners = ["x", "--", "*", "\"\"", "^", "~", " "];
     let value_type = random.pick(&["NM", "SN", "SN", "SN", "ST"]);
-    let (odd_compare, odd_join) = (random.one_in(8), random.one_in(8));
     let beside = value_type == "SN" || random.one_in(4);
-    let seldom = |random: &mut Random, part: Vec<u8>| match beside && random.one_in(2) {
-        true => part,
-        false => Vec::new(),
-    };
-    let compare = match odd_compare {
-        true => word(random, &["><", "x", "*", "\"\"", ">>", "|", "> "]),
-        false => word(random, COMPARATORS),
-    };
-    let join = match odd_join {
-        true => word(random, &["x", "--", "*", "\"\"", "^", "~", " "]),
-        false => word(random, JOINERS),
-    };
-    let first = odd_number(random);
-    let second = odd_number(random);
+    let mut parts = [
+        odd_word(random, COMPARATORS, &bad_comparators),
+        odd_number(random),
+        odd_word(random, JOINERS, &bad_joiners),
+        odd_number(random),
+    ];
+    for companion in [0, 2, 3] {
+        if !beside || random.one_in(2) {
+            parts[companion].clear();
+        }
+    }
     Outcome {
         value_type,
-        parts: [
-            seldom(random, compare),
-            first,
-            seldom(random, join),
-            seldom(random, second),
-        ],
+        parts,
         status: random.pick(&["F", "P", "C", "I", "X"]),
     }
+}
+
+fn odd_word(random: &mut Random, good: &[&str], bad: &[&str]) -> Vec<u8> {
+    let words = if random.one_in(8) { bad } else { good };
+    word(random, words)
 }
 
 fn odd_number(random: &mut Random) -> Vec<u8> {
@@ -102,10 +102,7 @@ fn odd_number(random: &mut Random) -> Vec<u8> {
 
 /// A value that is wrong in most places.
 pub fn nearly(random: &mut Random) -> Vec<u8> {
-    match random.pick(NEARLY) {
-        "あ" => [&TO_TWO_BYTE, b"$\"" as &[u8], &TO_ONE_BYTE].concat(),
-        value => value.into(),
-    }
+    word(random, NEARLY)
 }
 
 pub fn word(random: &mut Random, words: &[&str]) -> Vec<u8> {
@@ -138,9 +135,10 @@ pub fn date(random: &mut Random) -> Vec<u8> {
 
 pub fn time(random: &mut Random) -> Vec<u8> {
     let mut time = date(random);
-    let (hour, minute, second) = match random.one_in(6) {
-        true => (23, 59, 59),
-        false => (random.below(24), random.below(60), random.below(60)),
+    let (hour, minute, second) = if random.one_in(6) {
+        (23, 59, 59)
+    } else {
+        (random.below(24), random.below(60), random.below(60))
     };
     time.extend(format!("{hour:02}{minute:02}{second:02}").bytes());
     time
@@ -209,9 +207,10 @@ pub fn letter(random: &mut Random) -> u8 {
 pub fn kanji(random: &mut Random, pairs: usize) -> Vec<u8> {
     let mut kanji = TO_TWO_BYTE.to_vec();
     for _ in 0..2 * pairs {
-        kanji.push(match random.one_in(2) {
-            true => random.pick(b"|\\^~&|\\^~&!#%*;?@$(BFSTRE\""),
-            false => random.within(0x21..=0x7E) as u8,
+        kanji.push(if random.one_in(2) {
+            random.pick(b"|\\^~&|\\^~&!#%*;?@$(BFSTRE\"")
+        } else {
+            random.within(0x21..=0x7E) as u8
         });
     }
     kanji.extend(TO_ONE_BYTE);
