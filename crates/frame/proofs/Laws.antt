@@ -222,9 +222,9 @@ and-swap false true c = refl
 and-swap false false c = refl
 
 module _ (bar : ℕ) (r : List ℕ) (n : ℕ) (en : n ≡ length (until (Scan.is 0x0D) r)) where
-  pass-unended : (v : Seen) → 0 < length r → n ≡ length r → passFrom v bar r ≡ Bad
-  unfolding passFrom segmentsOk last
-  pass-unended v f h = rw (split-last 0x0D r (sym en ∙ h), filled-some r (λ q. omega arith))
+  pub ok-unended : 0 < length r → n ≡ length r → segmentsOk bar r ≡ false
+  unfolding segmentsOk last
+  ok-unended f h = rw (split-last 0x0D r (sym en ∙ h), filled-some r (λ q. omega arith))
 
   module _ (h : n < length r) where
     cut : split 0x0D r ≡ take n r ∷ split 0x0D (drop (suc n) r)
@@ -254,7 +254,8 @@ module _ (m : List ℕ) (bar at n : ℕ) (v : Seen) (inv : passFrom start bar m 
   there = en ∙ ap (λ l. length (until (Scan.is 0x0D) l)) (rest-is m at)
 
   pub pass-open : at < length m → n ≡ length (take (length m - at) (drop at m)) → Bad ≡ passFrom start bar m
-  pass-open h e = sym (inv ∙ pass-unended bar (drop at m) n there v (omega (arith, length-drop at m)) (e ∙ ap length (rest-is m at)))
+  unfolding passFrom
+  pass-open h e = sym (inv ∙ rw (ok-unended bar (drop at m) n there (omega (arith, length-drop at m)) (e ∙ ap length (rest-is m at))))
 
   module _ (k : n ≤ length (take (length m - at) (drop at m))) (ne : n ≡ length (take (length m - at) (drop at m)) → ⊥) where
     inside : n < length (drop at m)
