@@ -1,5 +1,5 @@
 -- Laws of the value rules, and for each function the set of those that its proof searches. Assumes nothing.
-use Prim.Native.Nat.{ℕ, zero, suc, _+_, _-_, _*_, _≤_, _<_}
+use Prim.Native.Nat.{ℕ, suc, _+_, _-_, _*_, _≤_, _<_}
 use native.Mathlib.Nat.{zero-add}
 use native.Mathlib.Numerals.{add-one}
 use native.Mathlib.Omega.{arith}
@@ -10,13 +10,12 @@ use borrow.Author.Tests.{ltb-true, ltb-false, eqb-true, ne-eqb, eq-eqb, le-leb, 
 use lib.Dec.{eqb, leb, ltb}
 use lib.ListN.{length, getD, take, drop, length-drop}
 use lib.Seq.{take-all}
-use Rattle.rules.specs.Lists.{bytes, empty, all, any, count, same, split, onto, isOneOf}
+use Rattle.rules.specs.Lists.{bytes, all, any, count, same, split, onto, isOneOf}
 use Rattle.rules.specs.Shift.{within}
 use Rattle.rules.specs.Frame.{digit, capitalOrDigit}
 use Rattle.rules.specs.Value as Val
-use Rattle.rules.proofs.Logic.{cases, both, and-false, and-assoc, or-assoc, and-true, or-false}
+use Rattle.rules.proofs.Logic.{cases, both, and-false, or-assoc, and-true, or-false}
 use Rattle.rules.proofs.Lists.{here, over, rest-is, part-length, empty-zero, filled-some, all-cons, any-cons, any-nil}
-use Rattle.rules.proofs.Split.{split-here, split-there, split-none, split-cons, front, later}
 use Rattle.scan.specs.Scan.{until, is}
 use Rattle.value.specs.Rules.{oneOf, textOf, ruleOf, faultNo, fineOf}
 use Rattle.value.specs.Number.{readByte, unread}
@@ -75,6 +74,10 @@ module _ {A : Type 0} (f : A → ℕ → A) (t₀ t : A) (s : List ℕ) (i : ℕ
   fold-ends h = sym (inv ∙ ap (foldl f t) (over s i h))
 
 pub ruleset fold·laws = (fold-goes, fold-ends)
+
+-- a part from a on is no longer
+pub rest-shorter : (s : List ℕ) (a k : ℕ) → length s ≤ k → length (take (length s - a) (drop a s)) ≤ k
+rest-shorter s a k h = rw rest-is (omega (arith, length-drop a s))
 
 -- ---- general: what stands before the first separator
 until-length : (sep x : ℕ) (s : List ℕ) → length (until (is sep) (x ∷ s)) ≡ cond (eqb x sep) 0 (suc (length (until (is sep) s)))
@@ -163,14 +166,11 @@ module _ (words v rest : List ℕ) (n : ℕ) (r : Bool) (inv : oneOf words v ≡
   pub word-goes : n ≤ length rest → r ≡ false → (n ≡ length rest → ⊥) → oneOf words v ≡ oneOf (take (length rest - (n + 1)) (drop (n + 1) rest)) v
   word-goes k y h = let z : n < length rest = omega (arith, h) in cc (next-word z, rest-is rest (n + 1))
 
-pub rest-shorter : (s : List ℕ) (a k : ℕ) → length s ≤ k → length (take (length s - a) (drop a s)) ≤ k
-rest-shorter s a k h = rw rest-is (omega (arith, length-drop a s))
-
 pub ruleset one_of·laws = (word-found, word-none, word-goes, rest-shorter, part-length)
 
 -- ---- NM
 pub read-is : (t : Spelling) (b : ℕ) (d : Bool) → d ≡ digit b
-    → record { good = (t .good && (d || eqb b 46)) && not (eqb b 46 && t .point); point = t .point || eqb b 46; digit = t .digit || d } ≡ readByte t b
+    → record { good = t .good && (d || eqb b 46) && not (eqb b 46 && t .point); point = t .point || eqb b 46; digit = t .digit || d } ≡ readByte t b
 unfolding readByte
 read-is t b d e = rw e
 
@@ -187,9 +187,9 @@ points-few false = refl
 
 points-on : (a b : Bool) (n : ℕ) → leb (oneIf a + (oneIf b + n)) 1 ≡ (not (b && a) && leb (oneIf (a || b) + n) 1)
 points-on true true n = lt-leb (1 + (1 + n)) 1 (omega arith)
-points-on true false n = rw zero-add
-points-on false true n = rw zero-add
-points-on false false n = rw zero-add
+points-on true false n = simp zero-add
+points-on false true n = simp zero-add
+points-on false false n = simp zero-add
 
 regroup : (g k q a l : Bool) → (g && (k && a) && (q && l)) ≡ (g && k && q && a && l)
 regroup false k q a l = refl
@@ -204,8 +204,13 @@ unfolding all any count readByte
 spelled-from t [] = cc (and-true (t .good), points-few (t .point), or-false (t .digit))
 spelled-from t (b ∷ v) =
     spelled-from (readByte t b) v
-    ∙ cc (all-cons numeral b v, any-cons digit b v, points-on (t .point) (Val.point b) (count Val.point v), or-assoc (t .digit) (digit b) (any digit v),
-    regroup (t .good) (numeral b) (not (Val.point b && t .point)) (all numeral v) (leb (oneIf (t .point || Val.point b) + count Val.point v) 1))
+    ∙ cc (
+      all-cons numeral b v,
+      any-cons digit b v,
+      points-on (t .point) (Val.point b) (count Val.point v),
+      or-assoc (t .digit) (digit b) (any digit v),
+      regroup (t .good) (numeral b) (not (Val.point b && t .point)) (all numeral v) (leb (oneIf (t .point || Val.point b) + count Val.point v) 1),
+    )
 
 spelled-is : (v : List ℕ) → (foldl readByte unread v .good && foldl readByte unread v .digit) ≡ Val.spelled v
 unfolding Val.spelled
@@ -236,18 +241,18 @@ pub ruleset past_sign·laws = (sign-none, sign-yes, sign-no)
 module _ (leap : Bool) (m : ℕ) where
   pub february-leap : m ≡ 2 → leap ≡ true → 29 ≡ Val.daysIn leap m
   unfolding Val.daysIn
-  february-leap e h = cc (eq-eqb m 2 e)
+  february-leap e h = cc
 
   pub february : m ≡ 2 → leap ≡ false → 28 ≡ Val.daysIn leap m
   unfolding Val.daysIn
-  february e h = cc (eq-eqb m 2 e)
+  february e h = cc
 
   module _ (n : m ≡ 2 → ⊥) where
-    pub thirty : (((eqb m 4 || eqb m 6) || eqb m 9) || eqb m 11) ≡ true → 30 ≡ Val.daysIn leap m
+    pub thirty : (eqb m 4 || eqb m 6 || eqb m 9 || eqb m 11) ≡ true → 30 ≡ Val.daysIn leap m
     unfolding Val.daysIn
     thirty h = cc (ne-eqb m 2 n)
 
-    pub thirty-one : (((eqb m 4 || eqb m 6) || eqb m 9) || eqb m 11) ≡ false → 31 ≡ Val.daysIn leap m
+    pub thirty-one : (eqb m 4 || eqb m 6 || eqb m 9 || eqb m 11) ≡ false → 31 ≡ Val.daysIn leap m
     unfolding Val.daysIn
     thirty-one h = cc (ne-eqb m 2 n)
 
@@ -259,11 +264,11 @@ two-is v k a b ea eb = cc
 
 pub day-is : (v : List ℕ) (a b m d n : ℕ) (l p q r : Bool) → a ≡ Val.two v 0 → b ≡ Val.two v 2 → m ≡ Val.two v 4 → d ≡ Val.two v 6
     → l ≡ Val.leap (100 * a + b) → n ≡ Val.daysIn l m → p ≡ within 1900 2099 (100 * a + b) → q ≡ within 1 12 m → r ≡ within 1 n d
-    → ((p && q) && r) ≡ Val.dayOk v
+    → (p && q && r) ≡ Val.dayOk v
 unfolding Val.dayOk
 day-is v a b m d n l p q r ea eb em ed el en ep eq er = rw (ep, eq, er, en, el, ea, eb, em, ed)
 
-pub clock-is : (v : List ℕ) (a b c : ℕ) → a ≡ Val.two v 8 → b ≡ Val.two v 10 → c ≡ Val.two v 12 → ((leb a 23 && leb b 59) && leb c 59) ≡ Val.clockOk v
+pub clock-is : (v : List ℕ) (a b c : ℕ) → a ≡ Val.two v 8 → b ≡ Val.two v 10 → c ≡ Val.two v 12 → (leb a 23 && leb b 59 && leb c 59) ≡ Val.clockOk v
 unfolding Val.clockOk
 clock-is v a b c ea eb ec = rw (ea, eb, ec)
 
@@ -288,6 +293,7 @@ unfolding Val.holds
 time-is v t r q e h g k = cc (not-false t h)
 
 pub ruleset is_date·laws = (date-no, date-is, digits-length)
+
 pub ruleset is_time·laws = (time-no, time-is, digits-length)
 
 -- ---- a rule by its name

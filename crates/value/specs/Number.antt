@@ -1,5 +1,5 @@
 -- NM, byte by byte: what its spelling has shown so far. A number's value can ride on the same step.
-use mathlib.Core.Bool.{Bool, true, false, not, _&&_, _||_}
+use mathlib.Core.Bool.{true, false, not, _&&_, _||_}
 use Prim.Native.Nat.{ℕ}
 use Rattle.rules.specs.Frame.{digit}
 use Rattle.rules.specs.Value.{point}
@@ -13,7 +13,7 @@ unread = record { good = true; point = false; digit = false }
 unfoldable pub readByte : Spelling → ℕ → Spelling
 readByte t b =
     record {
-      good = (t .good && (digit b || point b)) && not (point b && t .point);
+      good = t .good && (digit b || point b) && not (point b && t .point);
       point = t .point || point b;
       digit = t .digit || digit b;
     }

@@ -215,10 +215,10 @@ fn is_word(words: Words, v: &[u8]) -> bool
 // ---- NM: "an optional sign, then digits with at most one point before, among or after them, at least one digit"
 
 // What a number's spelling has shown so far: only digits and at most one point; a point; a digit.
-pub struct Spelling {
-    pub good: bool,
-    pub point: bool,
-    pub digit: bool,
+struct Spelling {
+    good: bool,
+    point: bool,
+    digit: bool,
 }
 
 // The spelling after one byte more.

@@ -1,3 +1,4 @@
+-- `value::all_capitals_or_digits` meets its contract. The loop: the bytes that are left decide. Assumes nothing.
 use borrow.Author.Needs.{needs}
 use Prim.Native.Nat.{_-_, _≤_}
 use mathlib.Core.Path.{_≡_}

@@ -1,6 +1,6 @@
+-- `value::capitals` meets its contract. Assumes nothing.
 use borrow.Author.Needs.{needs}
 use Rattle.value.proofs.Laws.{capitals·laws}
-use borrow.Author.Needs.{needs}
 use Rattle.value.proofs.capitals.Statement.{statement}
 use Rattle.value.proofs.capitals.Tie as tie
 

@@ -1,3 +1,4 @@
+-- `value::days_in` meets its contract. Assumes nothing.
 use borrow.Author.Needs.{needs}
 use Rattle.value.proofs.Laws.{days_in·laws}
 use Rattle.value.proofs.days_in.Statement.{statement}

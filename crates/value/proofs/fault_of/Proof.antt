@@ -1,6 +1,6 @@
+-- `value::fault_of` meets its contract. Assumes nothing.
 use borrow.Author.Needs.{needs}
 use Rattle.value.proofs.Laws.{fault_of·laws}
-use borrow.Author.Needs.{needs}
 use Rattle.value.proofs.fault_of.Statement.{statement}
 use Rattle.value.proofs.fault_of.Tie as tie
 

@@ -1,8 +1,8 @@
+-- `value::holds` meets its contract. Assumes nothing.
 use borrow.Author.Needs.{needs}
 use Rattle.rules.specs.Value.{holds}
 use Rattle.value.specs.Rules.{ruleOf}
 use Rattle.value.proofs.Laws.{holds-is}
-use borrow.Author.Needs.{needs}
 use Rattle.value.proofs.holds.Statement.{statement}
 use Rattle.value.proofs.holds.Tie as tie
 

@@ -1,6 +1,6 @@
+-- `value::is_clock` meets its contract. Assumes nothing.
 use borrow.Author.Needs.{needs}
 use Rattle.value.proofs.Laws.{clock-is}
-use borrow.Author.Needs.{needs}
 use Rattle.value.proofs.is_clock.Statement.{statement}
 use Rattle.value.proofs.is_clock.Tie as tie
 

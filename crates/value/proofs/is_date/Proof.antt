@@ -1,6 +1,6 @@
+-- `value::is_date` meets its contract. Assumes nothing.
 use borrow.Author.Needs.{needs}
 use Rattle.value.proofs.Laws.{is_date·laws}
-use borrow.Author.Needs.{needs}
 use Rattle.value.proofs.is_date.Statement.{statement}
 use Rattle.value.proofs.is_date.Tie as tie
 

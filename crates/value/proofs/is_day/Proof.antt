@@ -1,6 +1,6 @@
+-- `value::is_day` meets its contract. Assumes nothing.
 use borrow.Author.Needs.{needs}
 use Rattle.value.proofs.Laws.{day-is}
-use borrow.Author.Needs.{needs}
 use Rattle.value.proofs.is_day.Statement.{statement}
 use Rattle.value.proofs.is_day.Tie as tie
 

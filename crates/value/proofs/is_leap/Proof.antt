@@ -1,3 +1,4 @@
+-- `value::is_leap` meets its contract. Assumes nothing.
 use borrow.Author.Needs.{needs}
 use Rattle.rules.specs.Value.{leap}
 use Rattle.value.proofs.is_leap.Statement.{statement}

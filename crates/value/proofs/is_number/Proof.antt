@@ -1,6 +1,6 @@
+-- `value::is_number` meets its contract. Assumes nothing.
 use borrow.Author.Needs.{needs}
 use Rattle.value.proofs.Laws.{number-is}
-use borrow.Author.Needs.{needs}
 use Rattle.value.proofs.is_number.Statement.{statement}
 use Rattle.value.proofs.is_number.Tie as tie
 

@@ -1,6 +1,6 @@
+-- `value::is_time` meets its contract. Assumes nothing.
 use borrow.Author.Needs.{needs}
 use Rattle.value.proofs.Laws.{is_time·laws}
-use borrow.Author.Needs.{needs}
 use Rattle.value.proofs.is_time.Statement.{statement}
 use Rattle.value.proofs.is_time.Tie as tie
 

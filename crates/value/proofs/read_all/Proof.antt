@@ -1,3 +1,4 @@
+-- `value::read_all` meets its contract. The loop: the steps over the bytes that are left, from the spelling so far. Assumes nothing.
 use borrow.Author.Needs.{needs}
 use Prim.Native.Nat.{_-_, _≤_}
 use mathlib.Core.Path.{_≡_}

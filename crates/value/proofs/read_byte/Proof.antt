@@ -1,6 +1,6 @@
+-- `value::read_byte` meets its contract. Assumes nothing.
 use borrow.Author.Needs.{needs}
 use Rattle.value.proofs.Laws.{read-is}
-use borrow.Author.Needs.{needs}
 use Rattle.value.proofs.read_byte.Statement.{statement}
 use Rattle.value.proofs.read_byte.Tie as tie
 

@@ -1,8 +1,8 @@
+-- `value::too_long` meets its contract. Assumes nothing.
 use borrow.Author.Needs.{needs}
 use Rattle.rules.specs.Value.{tooLong}
 use Rattle.value.specs.Rules.{ruleOf}
 use Rattle.value.proofs.Laws.{too_long·laws}
-use borrow.Author.Needs.{needs}
 use Rattle.value.proofs.too_long.Statement.{statement}
 use Rattle.value.proofs.too_long.Tie as tie
 

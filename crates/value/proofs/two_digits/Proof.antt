@@ -1,6 +1,6 @@
+-- `value::two_digits` meets its contract. Assumes nothing.
 use borrow.Author.Needs.{needs}
 use Rattle.value.proofs.Laws.{two-is}
-use borrow.Author.Needs.{needs}
 use Rattle.value.proofs.two_digits.Statement.{statement}
 use Rattle.value.proofs.two_digits.Tie as tie
 
