@@ -174,13 +174,13 @@ pub read-is : (t : Spelling) (b : ℕ) (d : Bool) → d ≡ digit b
 unfolding readByte
 read-is t b d e = rw e
 
--- the fold spells what the definitions spell
 abbrev oneIf : Bool → ℕ
 oneIf t = cond t 1 0
 
 abbrev numeral : ℕ → Bool
 numeral b = digit b || Val.point b
 
+-- "at most one point": whether one was met, whether the next byte is one, and how many are left
 points-few : (a : Bool) → leb (oneIf a + 0) 1 ≡ true
 points-few true = refl
 points-few false = refl
@@ -197,6 +197,7 @@ regroup true false q a l = refl
 regroup true true true a l = refl
 regroup true true false a l = and-false a
 
+-- from any spelling on: what it has shown, and what is left
 spelled-from : (t : Spelling) (v : List ℕ)
     → (foldl readByte t v .good && foldl readByte t v .digit)
     ≡ (t .good && all numeral v && leb (oneIf (t .point) + count Val.point v) 1 && (t .digit || any digit v))
@@ -212,7 +213,8 @@ spelled-from t (b ∷ v) =
       regroup (t .good) (numeral b) (not (Val.point b && t .point)) (all numeral v) (leb (oneIf (t .point || Val.point b) + count Val.point v) 1),
     )
 
-spelled-is : (v : List ℕ) → (foldl readByte unread v .good && foldl readByte unread v .digit) ≡ Val.spelled v
+-- the fold accepts the spellings of the definitions
+pub spelled-is : (v : List ℕ) → (foldl readByte unread v .good && foldl readByte unread v .digit) ≡ Val.spelled v
 unfolding Val.spelled
 spelled-is v = spelled-from unread v ∙ rw zero-add
 
@@ -296,7 +298,7 @@ pub ruleset is_date·laws = (date-no, date-is, digits-length)
 
 pub ruleset is_time·laws = (time-no, time-is, digits-length)
 
--- ---- a rule by its name
+-- ---- words and rules by their names
 pub word-is : (w x : Words) (v l : List ℕ) (r : Bool) → w ≡ x → bytes (textOf x) ≡ l → r ≡ oneOf l v → r ≡ isOneOf (textOf w) v
 unfolding oneOf isOneOf
 word-is w x v l r e g h = cc

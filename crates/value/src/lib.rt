@@ -11,47 +11,47 @@ ghost use Rattle.scan.specs.Scan.{until, is};
 ghost use Rattle.value.specs.Rules.{faultNo, fineOf, textOf, ruleOf, oneOf};
 ghost use Rattle.value.specs.Number.{readByte, unread};
 
-// What a read place breaks; `faultNo` of specs/Rules.antt gives each its number in document 01.
+// What a read place breaks, with its number in document 01.
 pub enum Fault {
     Nothing,
-    Missing,
-    Null,
-    Repeated,
-    Escape,
-    Long,
-    Value,
-    Status,
-    Differs,
+    Missing, // 20
+    Null, // 21
+    Repeated, // 22
+    Escape, // 23
+    Long, // 24
+    Value, // 25
+    Status, // 26
+    Differs, // 27
 }
 
-// The words that a place may hold; `textOf` of specs/Rules.antt spells them.
+// The words that a place may hold.
 pub enum Words {
-    Oul,
-    R22,
-    OulR22,
-    Modes,
-    Version,
-    Sexes,
-    Classes,
-    Jc10,
-    Group,
-    Re,
-    Types,
-    Flags,
-    Statuses,
-    Blank,
-    Comparators,
-    Joiners,
+    Oul, // MSH-9.1
+    R22, // MSH-9.2
+    OulR22, // MSH-9.3
+    Modes, // MSH-11
+    Version, // MSH-12
+    Sexes, // PID-8
+    Classes, // PV1-2
+    Jc10, // SPM-4.3, OBX-3.3
+    Group, // OBR-4.3
+    Re, // ORC-1
+    Types, // OBX-2
+    Flags, // OBX-8
+    Statuses, // OBX-11
+    Blank, // what NM and ST have no use for
+    Comparators, // SN, component 1
+    Joiners, // SN, component 3
 }
 
-// The rule of a read place. A number is the greatest length, for digits the only one.
+// The rule of a read place.
 pub enum Rule {
-    Time,
-    Date,
-    Number,
-    Text(usize),
-    Digits(usize),
-    Capitals(usize),
+    Time, // YYYYMMDDHHMMSS
+    Date, // YYYYMMDD
+    Number, // NM
+    Text(usize), // at most so many bytes
+    Digits(usize), // exactly so many digits
+    Capitals(usize), // at most so many capitals or digits
     OneOf(Words),
 }
 
@@ -118,7 +118,7 @@ fn all_capitals_or_digits(v: &[u8]) -> bool
     true
 }
 
-// n digits.
+// Exactly n digits.
 pub fn digits(v: &[u8], n: usize) -> bool
     ensures { λ r. ⌜ r ≡ Val.digitsOk n (now (v .entry)) ⌝ }
 {
@@ -140,6 +140,7 @@ fn capitals(v: &[u8], n: usize) -> bool
 
 // ---- words
 
+// Whether both are the same bytes.
 pub fn equal(a: &[u8], b: &[u8]) -> bool
     ensures { λ r. ⌜ r ≡ same (now (a .entry)) (now (b .entry)) ⌝ }
 {
@@ -214,11 +215,11 @@ fn is_word(words: Words, v: &[u8]) -> bool
 
 // ---- NM: "an optional sign, then digits with at most one point before, among or after them, at least one digit"
 
-// What a number's spelling has shown so far: only digits and at most one point; a point; a digit.
+// What the bytes of a number have shown so far.
 struct Spelling {
-    good: bool,
-    point: bool,
-    digit: bool,
+    good: bool, // only digits, and at most one point
+    point: bool, // a point
+    digit: bool, // a digit
 }
 
 // The spelling after one byte more.
@@ -234,6 +235,7 @@ fn read_byte(t: Spelling, b: u8) -> Spelling
     }
 }
 
+// The spelling after all bytes of v.
 fn read_all(v: &[u8]) -> Spelling
     ensures { λ r. ⌜ r ≡ foldl readByte unread (now (v .entry)) ⌝ }
 {
@@ -264,6 +266,7 @@ fn past_sign(v: &[u8]) -> &[u8]
     v
 }
 
+// At least one digit, and only what may stand beside it; `too_long` judges the length.
 fn is_number(v: &[u8]) -> bool
     ensures { λ r. ⌜ r ≡ Val.holds Val.number (now (v .entry)) ⌝ }
 {
@@ -352,7 +355,7 @@ fn is_time(v: &[u8]) -> bool
 
 // ---- a place's rule
 
-// What a filled value must meet.
+// Whether a filled value meets its rule.
 fn holds(rule: Rule, v: &[u8]) -> bool
     ensures { λ r. ⌜ r ≡ Val.holds (ruleOf rule) (now (v .entry)) ⌝ }
 {
@@ -367,7 +370,7 @@ fn holds(rule: Rule, v: &[u8]) -> bool
     }
 }
 
-// 24, "text or NM too long": whether n bytes are too many.
+// 24, "text or NM too long": whether a value of n bytes is.
 pub fn too_long(rule: Rule, n: usize) -> bool
     ensures { λ r. ⌜ ((v : List ℕ) → length v ≡ n → r ≡ Val.tooLong (ruleOf rule) v) ⌝ }
 {
