@@ -28,17 +28,24 @@ const TEXTS: &[(&str, usize, usize, usize)] = &[
 /// A name and its 0D.
 const SHORTEST_SEGMENT: usize = 4;
 
+/// A read place of a draft: the segment's index, the field and the component.
+type Place = (usize, usize, usize);
+type FaultInPlace = fn(&mut Random, &mut Draft, Place);
 type Fault = fn(&mut Random, &mut Draft);
 type Recipe = fn(&mut Random) -> Vec<u8>;
 
-/// What can go wrong in a draft, each aimed at one or two refusal numbers. Those that break up
-/// the segments come last.
+/// What can go wrong in any read place, each aimed at one refusal number.
+#[rustfmt::skip]
+const FAULTS_IN_PLACES: &[FaultInPlace] = &[
+    empty, quotes, repeat, spoil_escape, divide, misvalue, misvalue, misspell,
+];
+
+/// What else can go wrong in a draft. Faults that break up the segments come last.
 #[rustfmt::skip]
 const FAULTS: &[Fault] = &[
-    empty, quotes, repeat, spoil_escape, divide, excess_component, lengthen_text,
-    lengthen_string, lengthen_number, misvalue, misvalue, misspell, spoil_character_set,
-    spoil_names, mismatch_outcome, mismatch_outcome, spoil_status, spoil_order_number,
-    disorder_segments, spoil_segment_name,
+    spoil_some_place, spoil_some_place, excess_component, lengthen_text, lengthen_string,
+    lengthen_number, spoil_character_set, spoil_names, mismatch_outcome, mismatch_outcome,
+    spoil_status, spoil_order_number, disorder_segments, spoil_segment_name,
 ];
 
 #[rustfmt::skip]
@@ -48,16 +55,20 @@ const RECIPES: &[Recipe] = &[
 ];
 
 /// The message of a turn. In each round every fault and every recipe has its turn, and last one
-/// of the limits.
+/// of the limits; round by round the faults in places go on to the next place.
 pub fn message(turn: usize, random: &mut Random) -> Vec<u8> {
-    const TURNS: usize = FAULTS.len() + RECIPES.len() + 1;
+    const TURNS: usize = FAULTS_IN_PLACES.len() + FAULTS.len() + RECIPES.len() + 1;
     let (round, turn) = (turn / TURNS, turn % TURNS);
+    if let Some(fault) = FAULTS_IN_PLACES.get(turn) {
+        return with_fault_in_place(random, READ[round % READ.len()], fault);
+    }
+    let turn = turn - FAULTS_IN_PLACES.len();
     if let Some(&fault) = FAULTS.get(turn) {
-        with_faults(random, &[fault])
-    } else if let Some(recipe) = RECIPES.get(turn - FAULTS.len()) {
-        recipe(random)
-    } else {
-        at_limit(round, random)
+        return with_faults(random, &[fault]);
+    }
+    match RECIPES.get(turn - FAULTS.len()) {
+        Some(recipe) => recipe(random),
+        None => at_limit(round, random),
     }
 }
 
@@ -68,6 +79,17 @@ pub fn valid(random: &mut Random) -> Vec<u8> {
 /// A message as the writer writes it.
 fn written(random: &mut Random) -> Vec<u8> {
     to_message(&sheets::valid(random), MESSAGE_LIMIT).unwrap_or_default()
+}
+
+fn with_fault_in_place(
+    random: &mut Random,
+    (name, field, component): (&str, usize, usize),
+    fault: &FaultInPlace,
+) -> Vec<u8> {
+    let mut draft = Draft::new(random);
+    let segment = some_named(random, &draft, name);
+    fault(random, &mut draft, (segment, field, component));
+    draft.to_bytes()
 }
 
 fn with_faults(random: &mut Random, faults: &[Fault]) -> Vec<u8> {
@@ -260,14 +282,14 @@ fn some_named(random: &mut Random, draft: &Draft, name: &str) -> usize {
     random.pick(&draft.named(name))
 }
 
-fn some_read_place(random: &mut Random, draft: &Draft) -> (usize, usize, usize) {
+fn spoil_some_place(random: &mut Random, draft: &mut Draft) {
     let (name, field, component) = random.pick(READ);
-    (some_named(random, draft, name), field, component)
+    let segment = some_named(random, draft, name);
+    random.pick(FAULTS_IN_PLACES)(random, draft, (segment, field, component));
 }
 
 /// Aims at 20.
-fn empty(random: &mut Random, draft: &mut Draft) {
-    let (segment, field, component) = some_read_place(random, draft);
+fn empty(random: &mut Random, draft: &mut Draft, (segment, field, component): Place) {
     if random.one_in(2) {
         draft.set_component(segment, field, component, b"");
     } else {
@@ -276,14 +298,12 @@ fn empty(random: &mut Random, draft: &mut Draft) {
 }
 
 /// Aims at 21.
-fn quotes(random: &mut Random, draft: &mut Draft) {
-    let (segment, field, component) = some_read_place(random, draft);
+fn quotes(_: &mut Random, draft: &mut Draft, (segment, field, component): Place) {
     draft.set_component(segment, field, component, b"\"\"");
 }
 
 /// Aims at 22: a repetition separator anywhere in a read field.
-fn repeat(random: &mut Random, draft: &mut Draft) {
-    let (segment, field, _) = some_read_place(random, draft);
+fn repeat(random: &mut Random, draft: &mut Draft, (segment, field, _): Place) {
     let repetition = draft.delimiters.repetition;
     let field = draft.field_mut(segment, field);
     match random.below(3) {
@@ -297,8 +317,7 @@ fn repeat(random: &mut Random, draft: &mut Draft) {
 }
 
 /// Aims at 23, but good escapes come too.
-fn spoil_escape(random: &mut Random, draft: &mut Draft) {
-    let (segment, field, component) = some_read_place(random, draft);
+fn spoil_escape(random: &mut Random, draft: &mut Draft, (segment, field, component): Place) {
     let value = draft.component(segment, field, component);
     let escape = draft.some_escape(random);
     let spoilt = match random.below(3) {
@@ -310,8 +329,7 @@ fn spoil_escape(random: &mut Random, draft: &mut Draft) {
 }
 
 /// Aims at 23: a subcomponent separator.
-fn divide(random: &mut Random, draft: &mut Draft) {
-    let (segment, field, component) = some_read_place(random, draft);
+fn divide(_: &mut Random, draft: &mut Draft, (segment, field, component): Place) {
     let value = draft.component(segment, field, component);
     let divided = [value, Vec::new()].join(&draft.delimiters.subcomponent);
     draft.set_component(segment, field, component, &divided);
@@ -378,16 +396,14 @@ fn set_value(random: &mut Random, draft: &mut Draft, value_type: &str, value: Ve
 }
 
 /// Aims at 25: a value that belongs elsewhere.
-fn misvalue(random: &mut Random, draft: &mut Draft) {
-    let (segment, field, component) = some_read_place(random, draft);
+fn misvalue(random: &mut Random, draft: &mut Draft, (segment, field, component): Place) {
     let value = words::nearly(random);
     let value = draft.escaped(&value);
     draft.set_component(segment, field, component, &value);
 }
 
 /// Aims at 25: one byte of a value changed, taken out or put in.
-fn misspell(random: &mut Random, draft: &mut Draft) {
-    let (segment, field, component) = some_read_place(random, draft);
+fn misspell(random: &mut Random, draft: &mut Draft, (segment, field, component): Place) {
     let mut value = draft.component(segment, field, component);
     let at = random.within(0..=value.len());
     let letter = random.pick(b" 0123456789ABCXabcx.+-<>=_\"");

@@ -12,14 +12,25 @@ struct Line {
 }
 
 type Lines = Vec<Line>;
+type FaultInLine = fn(&mut Random, &mut Lines, usize);
 type Fault = fn(&mut Random, &mut Lines);
 type Recipe = fn(&mut Random) -> Vec<u8>;
 
-/// What can go wrong in a sheet. Faults that break up the lines come last.
+#[rustfmt::skip]
+const KEYS: &[&str] = &[
+    "version", "mode", "sent", "control", "patient", "family", "given", "kanafamily", "kanagiven",
+    "birth", "sex", "class", "specimen", "collected", "order", "group", "item", "name", "type",
+    "compare", "value", "join", "second", "unit", "flag", "status",
+];
+
+/// What can go wrong in any line's value.
+const FAULTS_IN_LINES: &[FaultInLine] = &[empty, quotes, misvalue, misvalue, misspell];
+
+/// What else can go wrong in a sheet. Faults that break up the lines come last.
 #[rustfmt::skip]
 const FAULTS: &[Fault] = &[
-    misvalue, misvalue, misspell, quotes, empty, lengthen_text, lengthen_number,
-    mismatch_outcome, mismatch_outcome, mismatch_kana, rename_line, disorder_lines, end_early,
+    spoil_some_line, spoil_some_line, lengthen_text, lengthen_number, mismatch_outcome,
+    mismatch_outcome, mismatch_kana, rename_line, disorder_lines, end_early,
 ];
 
 #[rustfmt::skip]
@@ -29,16 +40,20 @@ const RECIPES: &[Recipe] = &[
 ];
 
 /// The sheet of a turn. In each round every fault and every recipe has its turn, and last one of
-/// the limits.
+/// the limits; round by round the faults in lines go on to the next key.
 pub fn sheet(turn: usize, random: &mut Random) -> Vec<u8> {
-    const TURNS: usize = FAULTS.len() + RECIPES.len() + 1;
+    const TURNS: usize = FAULTS_IN_LINES.len() + FAULTS.len() + RECIPES.len() + 1;
     let (round, turn) = (turn / TURNS, turn % TURNS);
+    if let Some(fault) = FAULTS_IN_LINES.get(turn) {
+        return with_fault_in_line(random, KEYS[round % KEYS.len()], fault);
+    }
+    let turn = turn - FAULTS_IN_LINES.len();
     if let Some(&fault) = FAULTS.get(turn) {
-        with_faults(random, &[fault])
-    } else if let Some(recipe) = RECIPES.get(turn - FAULTS.len()) {
-        recipe(random)
-    } else {
-        at_limit(round, random)
+        return with_faults(random, &[fault]);
+    }
+    match RECIPES.get(turn - FAULTS.len()) {
+        Some(recipe) => recipe(random),
+        None => at_limit(round, random),
     }
 }
 
@@ -48,6 +63,13 @@ pub fn valid(random: &mut Random) -> Vec<u8> {
 
 fn of_message(random: &mut Random) -> Vec<u8> {
     to_sheet(&messages::valid(random), SHEET_LIMIT).unwrap_or_default()
+}
+
+fn with_fault_in_line(random: &mut Random, key: &str, fault: &FaultInLine) -> Vec<u8> {
+    let mut lines = small_sheet(random);
+    let at = some_line_of(random, &lines, key);
+    fault(random, &mut lines, at);
+    to_bytes(&lines)
 }
 
 fn with_faults(random: &mut Random, faults: &[Fault]) -> Vec<u8> {
@@ -282,16 +304,16 @@ fn add_result_with(lines: &mut Lines, item: Vec<u8>, outcome: Outcome) {
     add("status", outcome.status.into());
 }
 
-/// A line, and sometimes rather one of those that hold for the whole sheet.
-fn some_line(random: &mut Random, lines: &Lines) -> usize {
-    let last = if random.one_in(2) { 12 } else { lines.len() };
-    random.below(last.min(lines.len()).max(1))
-}
-
-fn some_line_of(random: &mut Random, lines: &Lines, key: &str) -> Option<usize> {
+/// A line with this key; a sheet that is not broken up holds every key.
+fn some_line_of(random: &mut Random, lines: &Lines, key: &str) -> usize {
     let with_key = |&at: &usize| lines[at].key == key;
     let found: Vec<usize> = (0..lines.len()).filter(with_key).collect();
-    (!found.is_empty()).then(|| random.pick(&found))
+    random.pick(&found)
+}
+
+fn spoil_some_line(random: &mut Random, lines: &mut Lines) {
+    let at = random.below(lines.len());
+    random.pick(FAULTS_IN_LINES)(random, lines, at);
 }
 
 /// Aims at 42: another key.
@@ -301,13 +323,13 @@ fn rename_line(random: &mut Random, lines: &mut Lines) {
         "", "item", "order", "specimen", "Version", "version ", " mode", "kana", "kanafamilyy",
         "value", "status", "sent=", "ITEM",
     ];
-    let at = some_line(random, lines);
+    let at = random.below(lines.len());
     lines[at].key = random.pick(&keys);
 }
 
 /// Aims at 42: lines taken out, doubled or swapped.
 fn disorder_lines(random: &mut Random, lines: &mut Lines) {
-    let (at, other) = (some_line(random, lines), random.below(lines.len()));
+    let (at, other) = (random.below(lines.len()), random.below(lines.len()));
     match random.below(3) {
         0 => drop(lines.remove(at)),
         1 => {
@@ -320,14 +342,12 @@ fn disorder_lines(random: &mut Random, lines: &mut Lines) {
 }
 
 /// Aims at 43: a value that belongs elsewhere.
-fn misvalue(random: &mut Random, lines: &mut Lines) {
-    let at = some_line(random, lines);
+fn misvalue(random: &mut Random, lines: &mut Lines, at: usize) {
     lines[at].value = words::nearly(random);
 }
 
 /// Aims at 43: something put in at an end of the value, `=` and escapes among it.
-fn misspell(random: &mut Random, lines: &mut Lines) {
-    let at = some_line(random, lines);
+fn misspell(random: &mut Random, lines: &mut Lines, at: usize) {
     let value = &mut lines[at].value;
     let put_in = random.pick(&["=", " ", "0", "A", "a", "\\F\\", "\\Q\\", "&", "\""]);
     if random.one_in(2) {
@@ -338,14 +358,12 @@ fn misspell(random: &mut Random, lines: &mut Lines) {
 }
 
 /// Aims at 43: the text `""`.
-fn quotes(random: &mut Random, lines: &mut Lines) {
-    let at = some_line(random, lines);
+fn quotes(_: &mut Random, lines: &mut Lines, at: usize) {
     lines[at].value = b"\"\"".to_vec();
 }
 
 /// Aims at 43 where a value is required.
-fn empty(random: &mut Random, lines: &mut Lines) {
-    let at = some_line(random, lines);
+fn empty(_: &mut Random, lines: &mut Lines, at: usize) {
     lines[at].value.clear();
 }
 
@@ -358,9 +376,7 @@ fn lengthen_text(random: &mut Random, lines: &mut Lines) {
     ];
     let (key, limit) = random.pick(&limits);
     let length = limit + random.below(2);
-    let Some(at) = some_line_of(random, lines, key) else {
-        return;
-    };
+    let at = some_line_of(random, lines, key);
     lines[at].value = words::text_of(random, length);
     match key {
         "value" => set_result(lines, at, "ST"),
@@ -372,9 +388,7 @@ fn lengthen_text(random: &mut Random, lines: &mut Lines) {
 /// Aims at 43: a number as long as may be, or by a byte longer.
 fn lengthen_number(random: &mut Random, lines: &mut Lines) {
     let length = 16 + random.below(2);
-    let Some(at) = some_line_of(random, lines, "value") else {
-        return;
-    };
+    let at = some_line_of(random, lines, "value");
     let number = words::number_of(random, length);
     let value_type = random.pick(&["NM", "SN", "SN"]);
     let second = value_type == "SN" && random.one_in(2);
@@ -401,9 +415,7 @@ fn set_result(lines: &mut Lines, at: usize, value_type: &str) {
 
 /// Aims at 43 in value, second and status.
 fn mismatch_outcome(random: &mut Random, lines: &mut Lines) {
-    let Some(at) = some_line_of(random, lines, "type") else {
-        return;
-    };
+    let at = some_line_of(random, lines, "type");
     let outcome = words::odd_outcome(random);
     lines[at].value = outcome.value_type.into();
     for (line, part) in lines[at + 1..].iter_mut().zip(outcome.parts) {
@@ -415,10 +427,9 @@ fn mismatch_outcome(random: &mut Random, lines: &mut Lines) {
 /// Aims at 43 in kanagiven.
 fn mismatch_kana(random: &mut Random, lines: &mut Lines) {
     for key in ["kanafamily", "kanagiven"] {
-        if let Some(at) = some_line_of(random, lines, key) {
-            let least = random.below(2);
-            lines[at].value = words::text(random, least..=least * 48);
-        }
+        let at = some_line_of(random, lines, key);
+        let least = random.below(2);
+        lines[at].value = words::text(random, least..=least * 48);
     }
 }
 
