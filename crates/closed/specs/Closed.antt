@@ -1,0 +1,47 @@
+-- What the routines of the closed fields tell, each of the field at the start of what is left of its segment.
+use mathlib.Core.Path.{_≡_}
+use mathlib.Core.Bool.{Bool, not}
+use mathlib.Core.List.{List, _∷_}
+use Prim.Native.Nat.{ℕ, zero, suc}
+use lib.Dec.{ltb}
+use lib.ListN.{length}
+use Rattle.rules.specs.declared.Delims.{Delims}
+use Rattle.rules.specs.Told.{_then_, _when_}
+use Rattle.rules.specs.Lists.{bytes, same, has, split}
+use Rattle.rules.specs.Lists as L
+use Rattle.rules.specs.Shift.{met}
+use Rattle.rules.specs.Judge.{rawFour, valueFault}
+use Rattle.rules.specs.Judge as J
+use Rattle.scan.specs.Scan.{until, is, ends, next}
+
+-- the field at the start of t, and its first component, as their bytes are met
+abbrev pub fieldAt : Delims → List ℕ → List ℕ
+fieldAt d t = until (is (d .field)) (met t)
+
+abbrev pub firstOf : Delims → List ℕ → List ℕ
+firstOf d t = until (ends d) (met t)
+
+-- from the n-th next component on, in the repetition at the start
+unfoldable pub forward : Delims → ℕ → List ℕ → List ℕ
+forward d zero m = m
+forward d (suc n) m = forward d n (next d m)
+
+-- a closed field: the number of its first fault, and its length
+pub record ClosedOf (faultOf : List ℕ → ℕ) (f : List ℕ) (fault len : ℕ) : Type 0 where
+  pub told : fault ≡ faultOf f
+  pub long : len ≡ length f
+
+-- MSH-18: "as raw bytes the repetition separator, then `ISO IR87`, nothing else"
+unfoldable pub charsetFault : Delims → List ℕ → ℕ
+charsetFault d f = 25 when not (same f (d .repetition ∷ bytes "ISO IR87"))
+
+-- OBX-5: "22 first, and 23 for an excess component", one after n + 1
+unfoldable pub shapeFault : Delims → ℕ → List ℕ → ℕ
+shapeFault d n f = 22 when has (d .repetition) f then 23 when ltb (suc n) (length (split (d .component) f))
+
+-- OBX-5: where it has no fault also whether its value is filled, and whether a part beside it is
+pub record ValueOf (d : Delims) (type f : List ℕ) (fault len : ℕ) (number parts : Bool) : Type 0 where
+  pub told : fault ≡ valueFault d type f
+  pub long : len ≡ length f
+  pub filled : fault ≡ 0 → number ≡ L.filled (rawFour d type f .value)
+  pub beside : fault ≡ 0 → parts ≡ J.beside (rawFour d type f)
