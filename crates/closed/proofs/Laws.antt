@@ -1,32 +1,37 @@
 -- Laws of the closed fields. Assumes nothing.
 use Prim.Native.Nat.{ℕ, zero, suc, _+_, _-_, _≤_, _<_}
 use native.Mathlib.Omega.{arith}
-use mathlib.Core.Path.{_≡_, refl, sym, ap, _∙_}
-use mathlib.Core.Bool.{Bool, true, false, not, _&&_, _||_}
+use mathlib.Core.Path.{_≡_, refl, sym, ap, subst, _∙_}
+use mathlib.Core.Bool.{Bool, true, false, cond, not, _&&_, _||_}
 use mathlib.Core.List.{List, [], _∷_, map}
 use borrow.Author.Tests.{eqb-true, eqb-false, leb-true, le-leb, lt-ltb, le-ltb}
 use lib.Dec.{eqb, leb, ltb}
-use lib.ListN.{length, getD, take, drop}
+use lib.ListN.{length, getD, take, drop, length-drop}
 use lib.Seq.{take-all}
 use Rattle.rules.specs.declared.Delims.{Delims}
 use Rattle.rules.specs.declared.Mode.{Mode}
 use Rattle.rules.specs.declared.Mode.the-variants.{One}
 use Rattle.rules.specs.Told.{_then_, _when_}
-use Rattle.rules.specs.Lists.{bytes, empty, same, all, has, split}
+use Rattle.rules.specs.Lists.{bytes, empty, filled, same, all, has, nth, split, isOneOf}
 use Rattle.rules.specs.Shift.{step, isOne, mark, marks, met, within, byteOf}
 use Rattle.rules.specs.Value as Val
-use Rattle.rules.specs.Judge.{judge}
-use Rattle.rules.proofs.Logic.{cases, both, zeroCases}
-use Rattle.rules.proofs.Lists.{rest-is, part-length, all-cons, all-first}
+use Rattle.rules.specs.Escape.{unescape, unescapeAt}
+use Rattle.rules.specs.Places.{Four, valueRules}
+use Rattle.rules.specs.Judge.{judge, faultOr23, isSN, rawFour, beside, unjoined, partsFault, valueFault, agrees}
+use Rattle.rules.proofs.Logic.{cases, both, zeroCases, then-none, then-zero, when-none}
+use Rattle.rules.proofs.Lists.{rest-is, part-length, all-cons, all-first, same-eq}
 use Rattle.rules.proofs.Modes.{length-marks, still-one}
 use Rattle.scan.specs.Scan.{until, is, ends, next, plainText, CutOf, TailOf, Proper}
 use Rattle.scan.proofs.Laws.{from-met, piece-met, ends-far}
-use Rattle.value.specs.Rules.{faultNo, fineOf}
+use Rattle.value.specs.Rules.{faultNo, fineOf, ruleOf, textOf, oneOf}
 use Rattle.value.specs.declared.Fault.{Fault}
 use Rattle.value.specs.declared.Fault.the-variants.{Nothing, Missing, Null, Repeated, Escape, Long, Value, Status, Differs}
+use Rattle.value.specs.declared.Words.the-variants.{Comparators, Joiners}
+use Rattle.value.specs.declared.Rule.{Rule}
+use Rattle.value.specs.declared.Rule.the-variants.{Number, Text, OneOf}
 use Rattle.judge.specs.Judge.{Raw}
-use Rattle.closed.specs.Closed.{fieldAt, firstOf, forward, ClosedOf, charsetFault, shapeFault}
-use Rattle.closed.proofs.Pieces.{components-over, forward-long, forward-repeats, forward-short, rest-long, rest-more, rest-none}
+use Rattle.closed.specs.Closed.{fieldAt, firstOf, forward, ClosedOf, charsetFault, shapeFault, fourAt, FourOf, ValueOf}
+use Rattle.closed.proofs.Pieces.{component-at, components-over, forward-long, forward-repeats, forward-short, rest-long, rest-more, rest-none, whole-field}
 
 -- ---- general
 -- printable bytes are met as they are
@@ -157,6 +162,10 @@ module _ (t last : List ℕ) (d : Delims) (n k j : ℕ) (clean more : Bool) (p :
       components-over d p n (met t) q ∙ ap (λ l. has (d .component) (until (is (d .field)) l)) (sym e)
       ∙ sym (ap (ltb 0) tail-long ∙ rest-none d (met last) (ap (λ l. has (d .repetition) (until (is (d .field)) l)) e ∙ forward-repeats d p n (met t) ∙ q))
 
+  pub shape-within : k ≤ length last → j ≤ length (take (length last - k) (drop k last)) → length t - length last + k + j ≤ length t
+  shape-within h g =
+      omega (arith, last-within t last d n p e, ap length (rest-is last k), length-drop k last)
+
   pub shape-repeats : more ≡ true → ClosedOf (shapeFault d n) (fieldAt d t) (faultNo Repeated) (length t - length last + k + j)
   unfolding shapeFault faultNo
   shape-repeats h = record { told = cc (shape-more); long = shape-long }
@@ -168,3 +177,145 @@ module _ (t last : List ℕ) (d : Delims) (n k j : ℕ) (clean more : Bool) (p :
   pub shape-right : more ≡ false → j ≤ 0 → ClosedOf (shapeFault d n) (fieldAt d t) (faultNo Nothing) (length t - length last + k + j)
   unfolding shapeFault faultNo
   shape-right h l = record { told = cc (shape-more, shape-over h, le-ltb 0 j l); long = shape-long }
+
+-- ---- OBX-5
+then-assoc : (a b c : ℕ) → ((a then b) then c) ≡ (a then (b then c))
+then-assoc zero b c = refl
+then-assoc (suc a) b c = refl
+
+-- a part that is absent has no fault
+absent-fine : (d : Delims) (r : Val.Rule) → judge d false r [] ≡ 0
+unfolding judge same bytes unescape unescapeAt faultOr23 Val.fault empty
+absent-fine d r = refl
+
+-- after 22 and 23 the parts are judged
+value-told : (d : Delims) (type f : List ℕ) (n k : ℕ) → cond (isSN type) 4 1 ≡ suc n
+    → (has (d .repetition) f ≡ false → partsFault d (valueRules type) (rawFour d type f) ≡ k) → valueFault d type f ≡ (shapeFault d n f then k)
+unfolding valueFault shapeFault
+value-told d type f n k e w =
+    cases (has (d .repetition) f)
+    (λ h. rw h)
+    (λ h. rw (h, w h, e))
+
+unrepeated : (d : Delims) (n : ℕ) (f : List ℕ) (k : ℕ) → (shapeFault d n f then k) ≡ 0 → has (d .repetition) f ≡ false
+unfolding shapeFault
+unrepeated d n f k h =
+    when-none 21 (has (d .repetition) f) (then-none (22 when has (d .repetition) f) (23 when ltb (suc n) (length (split (d .component) f))) (then-none (shapeFault d n f) k h .0) .0)
+
+-- the field's components, where it has no repetition
+field-component : (d : Delims) → Proper d → (n : ℕ) (t u : List ℕ) → met u ≡ forward d n (met t) → has (d .repetition) (fieldAt d t) ≡ false → nth (split (d .component) (fieldAt d t)) n ≡ firstOf d u
+field-component d p n t u e h = ap (λ l. nth (split (d .component) l) n) (whole-field d (met t) h) ∙ component-at d p n (met t) ∙ ap (until (ends d)) (sym e)
+
+-- NM and ST
+abbrev alone : List ℕ → Four (List ℕ)
+alone v = record { compare = []; value = v; join = []; second = [] }
+
+alone-fault : (d : Delims) (rs : Four Val.Rule) (v : List ℕ) → partsFault d rs (alone v) ≡ judge d false (rs .value) v
+unfolding partsFault beside unjoined empty
+alone-fault d rs v =
+    rw (absent-fine d (rs .compare), absent-fine d (rs .join), absent-fine d (rs .second)) (then-zero (judge d false (rs .value) v))
+
+alone-is : (d : Delims) (type f : List ℕ) → isSN type ≡ false → rawFour d type f ≡ alone (nth (split (d .component) f) 0)
+unfolding rawFour
+alone-is d type f s = rw s
+
+module _ (t : List ℕ) (d : Delims) (rule : Rule) (a b r : Fault) (n : ℕ) (y : Bool) (p : Proper d) (e : ClosedOf (shapeFault d 0) (fieldAt d t) (faultNo a) n)
+    (g : faultNo b ≡ judge d false (ruleOf rule) (firstOf d t)) (h : faultNo r ≡ (faultNo a then faultNo b)) (ey : y ≡ empty (firstOf d t)) where
+  module _ (type : List ℕ) (s : isSN type ≡ false) where
+    single-raw : has (d .repetition) (fieldAt d t) ≡ false → rawFour d type (fieldAt d t) ≡ alone (firstOf d t)
+    unfolding forward
+    single-raw z = alone-is d type (fieldAt d t) s ∙ ap alone (field-component d p 0 t t refl z)
+
+    single-shape : faultNo r ≡ (shapeFault d 0 (fieldAt d t) then faultNo b)
+    single-shape = h ∙ ap (λ x. x then faultNo b) (e .told)
+
+    pub single-is : valueRules type .value ≡ ruleOf rule → ValueOf d type (fieldAt d t) (faultNo r) n (not y) false
+    unfolding beside empty
+    single-is v = record {
+      told = single-shape ∙ sym (value-told d type (fieldAt d t) 0 (faultNo b) (rw s)
+          (λ z. ap (partsFault d (valueRules type)) (single-raw z) ∙ alone-fault d (valueRules type) (firstOf d t) ∙ rw v (sym g)));
+      long = e .long;
+      filled = λ z. let q = single-raw (unrepeated d 0 (fieldAt d t) (faultNo b) (sym single-shape ∙ z)) in cc;
+      beside = λ z. let q = single-raw (unrepeated d 0 (fieldAt d t) (faultNo b) (sym single-shape ∙ z)) in cc;
+    }
+
+-- SN
+pub compared-is : (d : Delims) (x y : List ℕ) (beside : Bool) (f g r : ℕ) → f ≡ judge d false (ruleOf (OneOf Comparators)) x → g ≡ judge d beside (ruleOf Number) y
+    → r ≡ (f then g) → r ≡ (judge d false (valueRules (bytes "SN") .compare) x then judge d beside (valueRules (bytes "SN") .value) y)
+unfolding valueRules ruleOf textOf same bytes
+compared-is d x y beside f g r e h k = cc
+
+pub unjoined-yes : (x y : List ℕ) (p q : Bool) → p ≡ empty x → q ≡ empty y → (not p && q) ≡ true → faultNo Value ≡ 25 when (filled x && empty y)
+unfolding faultNo
+unjoined-yes x y p q e f h = cc
+
+pub unjoined-no : (x y : List ℕ) (p q : Bool) → p ≡ empty x → q ≡ empty y → (not p && q) ≡ false → faultNo Nothing ≡ 25 when (filled x && empty y)
+unfolding faultNo
+unjoined-no x y p q e f h = cc
+
+pub joined-is : (d : Delims) (x y : List ℕ) (f g u k r : ℕ) → f ≡ judge d false (ruleOf Number) y → u ≡ 25 when (filled y && empty x) → k ≡ (f then u)
+    → g ≡ judge d false (ruleOf (OneOf Joiners)) x → r ≡ (g then k)
+    → r ≡ (judge d false (valueRules (bytes "SN") .join) x then judge d false (valueRules (bytes "SN") .second) y then 25 when (filled y && empty x))
+unfolding valueRules ruleOf textOf same bytes
+joined-is d x y f g u k r ef eu ek eg er = cc
+
+pub four-is : (d : Delims) (t number joiner second : List ℕ) (a b c z : Bool) (f g r : ℕ)
+    → a ≡ empty (firstOf d t) → b ≡ empty (firstOf d joiner) → c ≡ empty (firstOf d second) → z ≡ empty (firstOf d number)
+    → f ≡ (judge d false (valueRules (bytes "SN") .compare) (firstOf d t) then judge d ((not a || not b) || not c) (valueRules (bytes "SN") .value) (firstOf d number))
+    → g ≡ (judge d false (valueRules (bytes "SN") .join) (firstOf d joiner) then judge d false (valueRules (bytes "SN") .second) (firstOf d second) then 25 when (filled (firstOf d second) && empty (firstOf d joiner)))
+    → r ≡ (f then g) → FourOf d (fourAt d t number joiner second) r (not z) ((not a || not b) || not c)
+unfolding partsFault beside unjoined
+four-is d t number joiner second a b c z f g r ea eb ec ez ef eg er =
+    let q : ((not a || not b) || not c) ≡ beside (fourAt d t number joiner second) = cc in
+    record {
+      told = er ∙ rw (ef, eg, q) (then-assoc (judge d false (valueRules (bytes "SN") .compare) (firstOf d t)) (judge d (beside (fourAt d t number joiner second)) (valueRules (bytes "SN") .value) (firstOf d number))
+          (judge d false (valueRules (bytes "SN") .join) (firstOf d joiner) then judge d false (valueRules (bytes "SN") .second) (firstOf d second) then 25 when (filled (firstOf d second) && empty (firstOf d joiner))));
+      filled = cc;
+      beside = q;
+    }
+
+module _ (t number joiner second : List ℕ) (d : Delims) (a b r : Fault) (n : ℕ) (y z : Bool) (p : Proper d) (e : ClosedOf (shapeFault d 3) (fieldAt d t) (faultNo a) n)
+    (e₁ : met number ≡ forward d 1 (met t)) (e₂ : met joiner ≡ forward d 1 (met number)) (e₃ : met second ≡ forward d 1 (met joiner))
+    (g : FourOf d (fourAt d t number joiner second) (faultNo b) y z) (h : faultNo r ≡ (faultNo a then faultNo b)) where
+  numbers-raw : has (d .repetition) (fieldAt d t) ≡ false → rawFour d (bytes "SN") (fieldAt d t) ≡ fourAt d t number joiner second
+  unfolding rawFour same bytes forward
+  numbers-raw q =
+      cc (field-component d p 0 t t refl q, field-component d p 1 t number e₁ q, field-component d p 2 t joiner (e₂ ∙ ap (next d) e₁) q, field-component d p 3 t second (e₃ ∙ ap (next d) (e₂ ∙ ap (next d) e₁)) q)
+
+  numbers-shape : faultNo r ≡ (shapeFault d 3 (fieldAt d t) then faultNo b)
+  numbers-shape = h ∙ ap (λ x. x then faultNo b) (e .told)
+
+  pub numbers-is : ValueOf d (bytes "SN") (fieldAt d t) (faultNo r) n y z
+  unfolding same bytes
+  numbers-is = record {
+    told = numbers-shape ∙ sym (value-told d (bytes "SN") (fieldAt d t) 3 (faultNo b) refl
+        (λ q. ap (partsFault d (valueRules (bytes "SN"))) (numbers-raw q) ∙ sym (g .told)));
+    long = e .long;
+    filled = λ q. let w = numbers-raw (unrepeated d 3 (fieldAt d t) (faultNo b) (sym numbers-shape ∙ q)) in cc (g .filled);
+    beside = λ q. let w = numbers-raw (unrepeated d 3 (fieldAt d t) (faultNo b) (sym numbers-shape ∙ q)) in cc (g .beside);
+  }
+
+-- by OBX-2's word
+module _ (d : Delims) (kind f : List ℕ) (fault n : ℕ) (y z v w : Bool) (ev : v ≡ same kind (83 ∷ 78 ∷ [])) where
+  pub value-sn : v ≡ true → ValueOf d (bytes "SN") f fault n y z → ValueOf d kind f fault n y z
+  unfolding bytes
+  value-sn h = subst (λ (k : List ℕ). ValueOf d k f fault n y z) (sym (same-eq kind (83 ∷ 78 ∷ []) (sym ev ∙ h)))
+
+  module _ (hv : v ≡ false) (ew : w ≡ same kind (78 ∷ 77 ∷ [])) where
+    pub value-nm : w ≡ true → ((type : List ℕ) → isSN type ≡ false → valueRules type .value ≡ ruleOf Number → ValueOf d type f fault n y z) → ValueOf d kind f fault n y z
+    unfolding bytes valueRules ruleOf
+    value-nm h g = g kind (sym ev ∙ hv) (rw (sym ev ∙ hv, sym ew ∙ h))
+
+    pub value-st : w ≡ false → ((type : List ℕ) → isSN type ≡ false → valueRules type .value ≡ ruleOf (Text 200) → ValueOf d type f fault n y z) → ValueOf d kind f fault n y z
+    unfolding bytes valueRules ruleOf
+    value-st h g = g kind (sym ev ∙ hv) (rw (sym ev ∙ hv, sym ew ∙ h))
+
+-- ---- OBX-11 against OBX-5
+module _ (status : List ℕ) (number parts y : Bool) (e : y ≡ oneOf (70 ∷ 32 ∷ 80 ∷ 32 ∷ 67 ∷ []) status) where
+  pub agrees-filled : y ≡ true → (c : Four (List ℕ)) → number ≡ filled (c .value) → parts ≡ beside c → number ≡ agrees status c
+  unfolding agrees isOneOf oneOf bytes
+  agrees-filled h c en ep = rw (sym e ∙ h) en
+
+  pub agrees-empty : y ≡ false → (c : Four (List ℕ)) → number ≡ filled (c .value) → parts ≡ beside c → (not number && not parts) ≡ agrees status c
+  unfolding agrees isOneOf oneOf bytes
+  agrees-empty h c en ep = rw (sym e ∙ h) (cases (empty (c .value)) (λ q. cc) (λ q. cc))

@@ -10,7 +10,8 @@ use Rattle.rules.specs.Told.{_then_, _when_}
 use Rattle.rules.specs.Lists.{bytes, same, has, split}
 use Rattle.rules.specs.Lists as L
 use Rattle.rules.specs.Shift.{met}
-use Rattle.rules.specs.Judge.{rawFour, valueFault}
+use Rattle.rules.specs.Places.{Four, valueRules}
+use Rattle.rules.specs.Judge.{partsFault, rawFour, valueFault}
 use Rattle.rules.specs.Judge as J
 use Rattle.scan.specs.Scan.{until, is, ends, next}
 
@@ -38,6 +39,16 @@ charsetFault d f = 25 when not (same f (d .repetition ∷ bytes "ISO IR87"))
 -- OBX-5: "22 first, and 23 for an excess component", one after n + 1
 unfoldable pub shapeFault : Delims → ℕ → List ℕ → ℕ
 shapeFault d n f = 22 when has (d .repetition) f then 23 when ltb (suc n) (length (split (d .component) f))
+
+-- SN: the components at the starts of four parts
+abbrev pub fourAt : Delims → List ℕ → List ℕ → List ℕ → List ℕ → Four (List ℕ)
+fourAt d t number joiner second =
+    record { compare = firstOf d t; value = firstOf d number; join = firstOf d joiner; second = firstOf d second }
+
+pub record FourOf (d : Delims) (c : Four (List ℕ)) (fault : ℕ) (number parts : Bool) : Type 0 where
+  pub told : fault ≡ partsFault d (valueRules (bytes "SN")) c
+  pub filled : number ≡ L.filled (c .value)
+  pub beside : parts ≡ J.beside c
 
 -- OBX-5: where it has no fault also whether its value is filled, and whether a part beside it is
 pub record ValueOf (d : Delims) (type f : List ℕ) (fault len : ℕ) (number parts : Bool) : Type 0 where

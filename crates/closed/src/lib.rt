@@ -4,21 +4,20 @@ use value::Fault;
 use value::Rule;
 use value::Words;
 ghost use mathlib.Core.Path.{_≡_};
-ghost use mathlib.Core.Bool.{Bool};
+ghost use mathlib.Core.Bool.{false, _&&_};
 ghost use mathlib.Core.List.{List, _∷_};
 ghost use Prim.Native.Nat.{ℕ, suc, _≤_};
 ghost use lib.ListN.{length};
 ghost use Rattle.rules.specs.Told.{_then_, _when_};
-ghost use Rattle.rules.specs.Lists.{empty, filled, same, has};
+ghost use Rattle.rules.specs.Lists.{bytes, empty, filled, same};
 ghost use Rattle.rules.specs.Shift.{met};
-ghost use Rattle.rules.specs.Value as Val;
-ghost use Rattle.rules.specs.Places.{Four};
-ghost use Rattle.rules.specs.Judge.{judge, namesFault};
+ghost use Rattle.rules.specs.Places.{Four, valueRules};
+ghost use Rattle.rules.specs.Judge.{judge, isSN};
 ghost use Rattle.rules.specs.Judge as J;
 ghost use Rattle.scan.specs.Scan.{until, ends, Proper};
 ghost use Rattle.value.specs.Rules.{ruleOf, faultNo};
 ghost use Rattle.judge.specs.Judge.{Small};
-ghost use Rattle.closed.specs.Closed.{fieldAt, ClosedOf, charsetFault, forward, firstOf, shapeFault, ValueOf};
+ghost use Rattle.closed.specs.Closed.{fieldAt, ClosedOf, charsetFault, forward, firstOf, fourAt, shapeFault, FourOf, ValueOf};
 
 // A closed field: its first fault, and its length.
 pub struct ClosedRead {
@@ -137,4 +136,129 @@ fn shape(t: &[u8], d: Delims, n: usize) -> ClosedRead
         fault: Fault::Nothing,
         len,
     }
+}
+
+// A value: its first fault, its length, whether it is filled and whether a part beside it is.
+pub struct ValueRead {
+    pub fault: Fault,
+    pub len: usize,
+    pub filled: bool,
+    pub beside: bool,
+}
+
+// NM and ST: one component.
+fn single(t: &[u8], d: Delims, rule: Rule) -> ValueRead
+    requires { ⌜ Proper d × Small rule ⌝ }
+    ensures { λ r. ⌜ ((type : List ℕ) → isSN type ≡ false → valueRules type .value ≡ ruleOf rule
+        → ValueOf d type (fieldAt d (now (t .entry))) (faultNo (r .fault)) (r .len) (r .filled) (r .beside)) ⌝ }
+    ensures within { λ r. ⌜ r .len ≤ length (now (t .entry)) ⌝ }
+{
+    let e = shape(t, d, 0);
+    let len = e.len;
+    let form = e.fault;
+    let fault = earlier(form, part(t, d, false, rule));
+    ValueRead {
+        fault,
+        len,
+        filled: !blank(t, d),
+        beside: false,
+    }
+}
+
+// SN's comparator and its number, which must be filled beside a filled part.
+fn compared(t: &[u8], number: &[u8], d: Delims, beside: bool) -> Fault
+    requires { ⌜ Proper d ⌝ }
+    ensures { λ r. ⌜ faultNo r ≡ (judge d false (valueRules (bytes "SN") .compare) (firstOf d (now (t .entry))) then judge d beside (valueRules (bytes "SN") .value) (firstOf d (now (number .entry)))) ⌝ }
+{
+    earlier(
+        part(t, d, false, Rule::OneOf(Words::Comparators)),
+        part(number, d, beside, Rule::Number),
+    )
+}
+
+// "a second number needs a joiner"
+fn unjoined(joiner: &[u8], second: &[u8], d: Delims) -> Fault
+    ensures { λ r. ⌜ faultNo r ≡ 25 when (filled (firstOf d (now (second .entry))) && empty (firstOf d (now (joiner .entry)))) ⌝ }
+{
+    if !blank(second, d) & blank(joiner, d) {
+        return Fault::Value;
+    }
+    Fault::Nothing
+}
+
+// SN's joiner and its second number.
+fn joined(joiner: &[u8], second: &[u8], d: Delims) -> Fault
+    requires { ⌜ Proper d ⌝ }
+    ensures { λ r. ⌜ faultNo r ≡ (judge d false (valueRules (bytes "SN") .join) (firstOf d (now (joiner .entry))) then judge d false (valueRules (bytes "SN") .second) (firstOf d (now (second .entry))) then 25 when (filled (firstOf d (now (second .entry))) && empty (firstOf d (now (joiner .entry))))) ⌝ }
+{
+    let last = earlier(part(second, d, false, Rule::Number), unjoined(joiner, second, d));
+    earlier(part(joiner, d, false, Rule::OneOf(Words::Joiners)), last)
+}
+
+// SN's four parts.
+struct FourRead {
+    pub fault: Fault,
+    pub filled: bool,
+    pub beside: bool,
+}
+
+fn four(t: &[u8], number: &[u8], joiner: &[u8], second: &[u8], d: Delims) -> FourRead
+    requires { ⌜ Proper d ⌝ }
+    ensures { λ r. ⌜ FourOf d (fourAt d (now (t .entry)) (now (number .entry)) (now (joiner .entry)) (now (second .entry))) (faultNo (r .fault)) (r .filled) (r .beside) ⌝ }
+{
+    let beside = !blank(t, d) | !blank(joiner, d) | !blank(second, d);
+    let fault = earlier(compared(t, number, d, beside), joined(joiner, second, d));
+    FourRead {
+        fault,
+        filled: !blank(number, d),
+        beside,
+    }
+}
+
+// SN: comparator, number, joiner, second number.
+fn numbers(t: &[u8], d: Delims) -> ValueRead
+    requires { ⌜ Proper d ⌝ }
+    ensures { λ r. ⌜ ValueOf d (bytes "SN") (fieldAt d (now (t .entry))) (faultNo (r .fault)) (r .len) (r .filled) (r .beside) ⌝ }
+    ensures within { λ r. ⌜ r .len ≤ length (now (t .entry)) ⌝ }
+{
+    let e = shape(t, d, 3);
+    let len = e.len;
+    let form = e.fault;
+    let number = component(t, d, 1);
+    let joiner = component(number, d, 1);
+    let second = component(joiner, d, 1);
+    let p = four(t, number, joiner, second, d);
+    let own = p.fault;
+    let fault = earlier(form, own);
+    ValueRead {
+        fault,
+        len,
+        filled: p.filled,
+        beside: p.beside,
+    }
+}
+
+// OBX-5, given OBX-2's word.
+pub fn value(t: &[u8], d: Delims, kind: &[u8]) -> ValueRead
+    requires { ⌜ Proper d ⌝ }
+    ensures { λ r. ⌜ ValueOf d (now (kind .entry)) (fieldAt d (now (t .entry))) (faultNo (r .fault)) (r .len) (r .filled) (r .beside) ⌝ }
+    ensures within { λ r. ⌜ r .len ≤ length (now (t .entry)) ⌝ }
+{
+    if value::equal(kind, b"SN") {
+        return numbers(t, d);
+    }
+    if value::equal(kind, b"NM") {
+        return single(t, d, Rule::Number);
+    }
+    single(t, d, Rule::Text(200))
+}
+
+// 26: value against status, OBX-11.
+pub fn agrees(status: &[u8], number: bool, parts: bool) -> bool
+    ensures { λ r. ⌜ ((c : Four (List ℕ)) → number ≡ filled (c .value) → parts ≡ J.beside c → r ≡ J.agrees (now (status .entry)) c) ⌝ }
+{
+    if value::one_of(status, b"F P C") {
+        return number;
+    }
+    !number & !parts
 }
