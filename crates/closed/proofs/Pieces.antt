@@ -14,7 +14,7 @@ use Rattle.rules.proofs.Lists.{has-nil, has-here, has-there, has-first}
 use Rattle.rules.proofs.Split.{split-nil, split-here, split-there, split-none, pieces-length}
 use Rattle.scan.specs.Scan.{until, is, ends, after, onward, next, nextFrom, Proper}
 use Rattle.scan.proofs.Laws.{until-yes, until-no, until-nil}
-use Rattle.closed.specs.Closed.{forward}
+use Rattle.closed.specs.Closed.{endsRepetition, forward}
 
 -- ---- the n-th piece
 onto-head : (x : ℕ) (ps : List (List ℕ)) → nth (onto x ps) 0 ≡ x ∷ nth ps 0
@@ -46,26 +46,37 @@ unfolding onward
 piece-at sep zero s = first-piece sep s
 piece-at sep (suc n) s = later-piece sep n s ∙ piece-at sep n (after sep s)
 
+-- ---- the first piece and the others
+pub split-after : (sep : ℕ) (s : List ℕ) → has sep s ≡ true → split sep s ≡ until (is sep) s ∷ split sep (after sep s)
+unfolding until after onto
+split-after sep [] h = never (sym h ∙ has-nil sep)
+split-after sep (x ∷ s) h =
+    cases (eqb x sep) (λ e. cc (split-here sep x s e))
+    (λ e. cc (split-there sep x s e, split-after sep s (sym (has-there sep x s e) ∙ h)))
+
+after-within : (sep : ℕ) (s : List ℕ) → length (after sep s) ≤ length s
+unfolding after
+after-within sep [] = omega arith
+after-within sep (x ∷ s) = cases (eqb x sep) (λ e. rw (e, after) (omega arith)) (λ e. rw (e, after) (omega (arith, after-within sep s)))
+
+pub after-short : (sep : ℕ) (s : List ℕ) → 0 < length s → length (after sep s) < length s
+unfolding after
+after-short sep [] h = absurd (omega arith)
+after-short sep (x ∷ s) h = cases (eqb x sep) (λ e. rw (e, after) (omega arith)) (λ e. rw (e, after) (omega (arith, after-within sep s)))
+
+pub after-free : (sep x : ℕ) (s : List ℕ) → has x s ≡ false → has x (after sep s) ≡ false
+unfolding after
+after-free sep x [] h = h
+after-free sep x (b ∷ s) h = let q = has-first x b s h in cases (eqb b sep) (λ e. cc (q .1)) (λ e. cc (after-free sep x s (q .1)))
+
 -- ---- how many pieces there are
-after-none : (sep : ℕ) (s : List ℕ) → has sep s ≡ false → after sep s ≡ []
+pub after-none : (sep : ℕ) (s : List ℕ) → has sep s ≡ false → after sep s ≡ []
 unfolding after
 after-none sep [] h = refl
 after-none sep (x ∷ s) h = let q = has-first sep x s h in cc (q .0, after-none sep s (q .1))
 
-onto-length : (x : ℕ) (ps : List (List ℕ)) → 0 < length ps → length (onto x ps) ≡ length ps
-unfolding onto
-onto-length x [] h = absurd (omega arith)
-onto-length x (p ∷ ps) h = refl
-
-there-length : (sep x : ℕ) (s : List ℕ) → eqb x sep ≡ false → length (split sep (x ∷ s)) ≡ length (split sep s)
-there-length sep x s e = ap length (split-there sep x s e) ∙ onto-length x (split sep s) (omega (arith, pieces-length sep s))
-
 after-some : (sep : ℕ) (s : List ℕ) → has sep s ≡ true → length (split sep s) ≡ suc (length (split sep (after sep s)))
-unfolding after
-after-some sep [] h = never (sym h ∙ has-nil sep)
-after-some sep (x ∷ s) h =
-    cases (eqb x sep) (λ e. cc (split-here sep x s e))
-    (λ e. cc (there-length sep x s e, after-some sep s (sym (has-there sep x s e) ∙ h)))
+after-some sep s h = ap length (split-after sep s h)
 
 -- more than n + 1 pieces: a separator after the n-th
 pub pieces-over : (sep n : ℕ) (s : List ℕ) → ltb (suc n) (length (split sep s)) ≡ has sep (onward sep n s)
@@ -98,26 +109,22 @@ unfolding until
 until-free sep [] = has-nil sep
 until-free sep (x ∷ s) = cases (eqb x sep) (λ e. cc (has-nil sep)) (λ e. cc (has-there sep x (until (is sep) s) e, until-free sep s))
 
--- where a repetition ends
-abbrev pub fr : Delims → ℕ → Bool
-fr d b = eqb b (d .field) || eqb b (d .repetition)
-
 -- a field's repetition; a repetition's component
-pub repetition-is : (d : Delims) (m : List ℕ) → until (is (d .repetition)) (until (is (d .field)) m) ≡ until (fr d) m
-repetition-is d m = until-both (is (d .field)) (is (d .repetition)) (fr d) (λ b. refl) m
+pub repetition-is : (d : Delims) (m : List ℕ) → until (is (d .repetition)) (until (is (d .field)) m) ≡ until (endsRepetition d) m
+repetition-is d m = until-both (is (d .field)) (is (d .repetition)) (endsRepetition d) (λ b. refl) m
 
-component-is : (d : Delims) (m : List ℕ) → until (is (d .component)) (until (fr d) m) ≡ until (ends d) m
+component-is : (d : Delims) (m : List ℕ) → until (is (d .component)) (until (endsRepetition d) m) ≡ until (ends d) m
 unfolding ends
-component-is d m = until-both (fr d) (is (d .component)) (ends d) (λ b. refl) m
+component-is d m = until-both (endsRepetition d) (is (d .component)) (ends d) (λ b. refl) m
 
 -- ---- one component on
-ends-no : (d : Delims) (x : ℕ) → ends d x ≡ false → (fr d x ≡ false) × (eqb x (d .component) ≡ false)
+ends-no : (d : Delims) (x : ℕ) → ends d x ≡ false → (endsRepetition d x ≡ false) × (eqb x (d .component) ≡ false)
 unfolding ends
-ends-no d x e = neither (fr d x) (eqb x (d .component)) e
+ends-no d x e = neither (endsRepetition d x) (eqb x (d .component)) e
 
-ends-yes : (d : Delims) (x : ℕ) → ends d x ≡ true → eqb x (d .component) ≡ false → fr d x ≡ true
+ends-yes : (d : Delims) (x : ℕ) → ends d x ≡ true → eqb x (d .component) ≡ false → endsRepetition d x ≡ true
 unfolding ends
-ends-yes d x e f = sym (or-false (fr d x)) ∙ ap (λ (t : Bool). fr d x || t) (sym f) ∙ e
+ends-yes d x e f = sym (or-false (endsRepetition d x)) ∙ ap (λ (t : Bool). endsRepetition d x || t) (sym f) ∙ e
 
 next-there : (d : Delims) (x : ℕ) (m : List ℕ) → ends d x ≡ false → next d (x ∷ m) ≡ next d m
 unfolding next
@@ -135,7 +142,7 @@ next-nil d = rw (until-nil (ends d))
 byteCases : {P : Type 0} (d : Delims) → Proper d → (x : ℕ) (m : List ℕ)
     → (eqb x (d .field) ≡ false → eqb x (d .repetition) ≡ false → eqb x (d .component) ≡ false → next d (x ∷ m) ≡ next d m → P)
     → (eqb x (d .field) ≡ false → eqb x (d .repetition) ≡ false → eqb x (d .component) ≡ true → next d (x ∷ m) ≡ m → P)
-    → (fr d x ≡ true → next d (x ∷ m) ≡ x ∷ m → P) → P
+    → (endsRepetition d x ≡ true → next d (x ∷ m) ≡ x ∷ m → P) → P
 unfolding nextFrom
 byteCases d p x m inside between past =
     cases (ends d x)
@@ -149,20 +156,20 @@ byteCases d p x m inside between past =
 
 module _ (d : Delims) (p : Proper d) where
   -- in the repetition at the start
-  after-next : (m : List ℕ) → after (d .component) (until (fr d) m) ≡ until (fr d) (next d m)
+  after-next : (m : List ℕ) → after (d .component) (until (endsRepetition d) m) ≡ until (endsRepetition d) (next d m)
   unfolding after until
   after-next [] = rw (next-nil d)
   after-next (x ∷ m) =
       byteCases d p x m (λ f r c n. cc (after-next m)) (λ f r c n. cc) (λ e n. cc)
 
-  onward-forward : (n : ℕ) (m : List ℕ) → onward (d .component) n (until (fr d) m) ≡ until (fr d) (forward d n m)
+  onward-forward : (n : ℕ) (m : List ℕ) → onward (d .component) n (until (endsRepetition d) m) ≡ until (endsRepetition d) (forward d n m)
   unfolding onward forward
   onward-forward zero m = refl
   onward-forward (suc n) m = ap (onward (d .component) n) (after-next m) ∙ onward-forward n (next d m)
 
   -- its components
-  pub component-at : (n : ℕ) (m : List ℕ) → nth (split (d .component) (until (fr d) m)) n ≡ until (ends d) (forward d n m)
-  component-at n m = piece-at (d .component) n (until (fr d) m) ∙ ap (until (is (d .component))) (onward-forward n m) ∙ component-is d (forward d n m)
+  pub component-at : (n : ℕ) (m : List ℕ) → nth (split (d .component) (until (endsRepetition d) m)) n ≡ until (ends d) (forward d n m)
+  component-at n m = piece-at (d .component) n (until (endsRepetition d) m) ∙ ap (until (is (d .component))) (onward-forward n m) ∙ component-is d (forward d n m)
 
   -- in the field at the start
   next-repeats : (m : List ℕ) → has (d .repetition) (until (is (d .field)) (next d m)) ≡ has (d .repetition) (until (is (d .field)) m)
@@ -204,7 +211,7 @@ module _ (d : Delims) (p : Proper d) where
   forward-short (suc n) m = omega (arith, forward-short n (next d m), next-short m)
 
 -- a field without repetitions is its first repetition
-pub whole-field : (d : Delims) (m : List ℕ) → has (d .repetition) (until (is (d .field)) m) ≡ false → until (is (d .field)) m ≡ until (fr d) m
+pub whole-field : (d : Delims) (m : List ℕ) → has (d .repetition) (until (is (d .field)) m) ≡ false → until (is (d .field)) m ≡ until (endsRepetition d) m
 whole-field d m h = sym (until-none (d .repetition) (until (is (d .field)) m) h) ∙ repetition-is d m
 
 -- more than n + 1 components: another after the n-th

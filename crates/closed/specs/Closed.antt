@@ -1,26 +1,33 @@
 -- What the routines of the closed fields tell, each of the field at the start of what is left of its segment.
 use mathlib.Core.Path.{_≡_}
-use mathlib.Core.Bool.{Bool, not}
-use mathlib.Core.List.{List, _∷_}
+use mathlib.Core.Bool.{Bool, not, _||_}
+use mathlib.Core.List.{List, [], _∷_}
 use Prim.Native.Nat.{ℕ, zero, suc}
-use lib.Dec.{ltb}
+use lib.Dec.{eqb, ltb}
 use lib.ListN.{length}
 use Rattle.rules.specs.declared.Delims.{Delims}
 use Rattle.rules.specs.Told.{_then_, _when_}
-use Rattle.rules.specs.Lists.{bytes, same, has, split}
+use Rattle.rules.specs.Lists.{bytes, empty, same, has, split}
 use Rattle.rules.specs.Lists as L
 use Rattle.rules.specs.Shift.{met}
 use Rattle.rules.specs.Places.{Four, valueRules}
-use Rattle.rules.specs.Judge.{partsFault, rawFour, valueFault}
+use Rattle.rules.specs.Judge.{firstMarked, partsFault, rawFour, valueFault}
 use Rattle.rules.specs.Judge as J
 use Rattle.scan.specs.Scan.{until, is, ends, next}
 
--- the field at the start of t, and its first component, as their bytes are met
+-- where a repetition ends
+abbrev pub endsRepetition : Delims → ℕ → Bool
+endsRepetition d b = eqb b (d .field) || eqb b (d .repetition)
+
+-- the field at the start of t, the repetition and the component, as their bytes are met
 abbrev pub fieldAt : Delims → List ℕ → List ℕ
 fieldAt d t = until (is (d .field)) (met t)
 
-abbrev pub firstOf : Delims → List ℕ → List ℕ
-firstOf d t = until (ends d) (met t)
+abbrev pub repetitionAt : Delims → List ℕ → List ℕ
+repetitionAt d t = until (endsRepetition d) (met t)
+
+abbrev pub componentAt : Delims → List ℕ → List ℕ
+componentAt d t = until (ends d) (met t)
 
 -- from the n-th next component on, in the repetition at the start
 unfoldable pub forward : Delims → ℕ → List ℕ → List ℕ
@@ -36,6 +43,11 @@ pub record ClosedOf (faultOf : List ℕ → ℕ) (f : List ℕ) (fault len : ℕ
 unfoldable pub charsetFault : Delims → List ℕ → ℕ
 charsetFault d f = 25 when not (same f (d .repetition ∷ bytes "ISO IR87"))
 
+-- PID-5: r starts with the first repetition of f that bears the mark, or is empty
+pub record MarkedOf (d : Delims) (mark : ℕ) (f r : List ℕ) : Type 0 where
+  pub told : repetitionAt d r ≡ firstMarked d (mark ∷ []) (split (d .repetition) f)
+  pub found : empty (repetitionAt d r) ≡ empty r
+
 -- OBX-5: "22 first, and 23 for an excess component", one after n + 1
 unfoldable pub shapeFault : Delims → ℕ → List ℕ → ℕ
 shapeFault d n f = 22 when has (d .repetition) f then 23 when ltb (suc n) (length (split (d .component) f))
@@ -43,7 +55,7 @@ shapeFault d n f = 22 when has (d .repetition) f then 23 when ltb (suc n) (lengt
 -- SN: the components at the starts of four parts
 abbrev pub fourAt : Delims → List ℕ → List ℕ → List ℕ → List ℕ → Four (List ℕ)
 fourAt d t number joiner second =
-    record { compare = firstOf d t; value = firstOf d number; join = firstOf d joiner; second = firstOf d second }
+    record { compare = componentAt d t; value = componentAt d number; join = componentAt d joiner; second = componentAt d second }
 
 pub record FourOf (d : Delims) (c : Four (List ℕ)) (fault : ℕ) (number parts : Bool) : Type 0 where
   pub told : fault ≡ partsFault d (valueRules (bytes "SN")) c

@@ -5,19 +5,20 @@ use value::Rule;
 use value::Words;
 ghost use mathlib.Core.Path.{_≡_};
 ghost use mathlib.Core.Bool.{false, _&&_};
-ghost use mathlib.Core.List.{List, _∷_};
+ghost use mathlib.Core.List.{List, [], _∷_};
 ghost use Prim.Native.Nat.{ℕ, suc, _≤_};
 ghost use lib.ListN.{length};
 ghost use Rattle.rules.specs.Told.{_then_, _when_};
-ghost use Rattle.rules.specs.Lists.{bytes, empty, filled, same};
+ghost use Rattle.rules.specs.Lists.{bytes, empty, filled, same, has};
 ghost use Rattle.rules.specs.Shift.{met};
 ghost use Rattle.rules.specs.Places.{Four, valueRules};
-ghost use Rattle.rules.specs.Judge.{judge, isSN};
+ghost use Rattle.rules.specs.View.{componentOf};
+ghost use Rattle.rules.specs.Judge.{judge, nameFault, namesFault, isSN};
 ghost use Rattle.rules.specs.Judge as J;
 ghost use Rattle.scan.specs.Scan.{until, ends, Proper};
 ghost use Rattle.value.specs.Rules.{ruleOf, faultNo};
 ghost use Rattle.judge.specs.Judge.{Small};
-ghost use Rattle.closed.specs.Closed.{fieldAt, ClosedOf, charsetFault, forward, firstOf, fourAt, shapeFault, FourOf, ValueOf};
+ghost use Rattle.closed.specs.Closed.{fieldAt, repetitionAt, componentAt, forward, ClosedOf, charsetFault, MarkedOf, fourAt, shapeFault, FourOf, ValueOf};
 
 // A closed field: its first fault, and its length.
 pub struct ClosedRead {
@@ -78,7 +79,7 @@ fn component(t: &[u8], d: Delims, n: usize) -> &[u8]
 
 // Whether the component at the start of t is empty.
 fn blank(t: &[u8], d: Delims) -> bool
-    ensures { λ r. ⌜ r ≡ empty (firstOf d (now (t .entry))) ⌝ }
+    ensures { λ r. ⌜ r ≡ empty (componentAt d (now (t .entry))) ⌝ }
 {
     if t.len() == 0 {
         return true;
@@ -90,7 +91,7 @@ fn blank(t: &[u8], d: Delims) -> bool
 // The component at the start of t, judged.
 fn part(t: &[u8], d: Delims, required: bool, rule: Rule) -> Fault
     requires { ⌜ Proper d × Small rule ⌝ }
-    ensures { λ r. ⌜ faultNo r ≡ judge d required (ruleOf rule) (firstOf d (now (t .entry))) ⌝ }
+    ensures { λ r. ⌜ faultNo r ≡ judge d required (ruleOf rule) (componentAt d (now (t .entry))) ⌝ }
 {
     let c = scan::first(t, d);
     let n = c.len;
@@ -168,7 +169,7 @@ fn single(t: &[u8], d: Delims, rule: Rule) -> ValueRead
 // SN's comparator and its number, which must be filled beside a filled part.
 fn compared(t: &[u8], number: &[u8], d: Delims, beside: bool) -> Fault
     requires { ⌜ Proper d ⌝ }
-    ensures { λ r. ⌜ faultNo r ≡ (judge d false (valueRules (bytes "SN") .compare) (firstOf d (now (t .entry))) then judge d beside (valueRules (bytes "SN") .value) (firstOf d (now (number .entry)))) ⌝ }
+    ensures { λ r. ⌜ faultNo r ≡ (judge d false (valueRules (bytes "SN") .compare) (componentAt d (now (t .entry))) then judge d beside (valueRules (bytes "SN") .value) (componentAt d (now (number .entry)))) ⌝ }
 {
     earlier(
         part(t, d, false, Rule::OneOf(Words::Comparators)),
@@ -178,7 +179,7 @@ fn compared(t: &[u8], number: &[u8], d: Delims, beside: bool) -> Fault
 
 // "a second number needs a joiner"
 fn unjoined(joiner: &[u8], second: &[u8], d: Delims) -> Fault
-    ensures { λ r. ⌜ faultNo r ≡ 25 when (filled (firstOf d (now (second .entry))) && empty (firstOf d (now (joiner .entry)))) ⌝ }
+    ensures { λ r. ⌜ faultNo r ≡ 25 when (filled (componentAt d (now (second .entry))) && empty (componentAt d (now (joiner .entry)))) ⌝ }
 {
     if !blank(second, d) & blank(joiner, d) {
         return Fault::Value;
@@ -189,7 +190,7 @@ fn unjoined(joiner: &[u8], second: &[u8], d: Delims) -> Fault
 // SN's joiner and its second number.
 fn joined(joiner: &[u8], second: &[u8], d: Delims) -> Fault
     requires { ⌜ Proper d ⌝ }
-    ensures { λ r. ⌜ faultNo r ≡ (judge d false (valueRules (bytes "SN") .join) (firstOf d (now (joiner .entry))) then judge d false (valueRules (bytes "SN") .second) (firstOf d (now (second .entry))) then 25 when (filled (firstOf d (now (second .entry))) && empty (firstOf d (now (joiner .entry))))) ⌝ }
+    ensures { λ r. ⌜ faultNo r ≡ (judge d false (valueRules (bytes "SN") .join) (componentAt d (now (joiner .entry))) then judge d false (valueRules (bytes "SN") .second) (componentAt d (now (second .entry))) then 25 when (filled (componentAt d (now (second .entry))) && empty (componentAt d (now (joiner .entry))))) ⌝ }
 {
     let last = earlier(part(second, d, false, Rule::Number), unjoined(joiner, second, d));
     earlier(part(joiner, d, false, Rule::OneOf(Words::Joiners)), last)
@@ -261,4 +262,67 @@ pub fn agrees(status: &[u8], number: bool, parts: bool) -> bool
         return number;
     }
     !number & !parts
+}
+
+// ---- PID-5
+
+// Whether the repetition at the start of t bears the mark in component 8.
+fn marked(t: &[u8], d: Delims, mark: u8) -> bool
+    requires { ⌜ Proper d ⌝ }
+    ensures { λ r. ⌜ r ≡ same (componentOf d (repetitionAt d (now (t .entry))) 8) (mark ∷ []) ⌝ }
+{
+    let u = component(t, d, 7);
+    let c = scan::first(u, d);
+    let n = c.len;
+    led(&u[..n], mark, b"")
+}
+
+// The rest of the field f from its first repetition on that bears the mark; nothing where there is none.
+fn repetition(f: &[u8], d: Delims, mark: u8) -> &[u8]
+    requires { ⌜ Proper d × (has (d .field) (met (now f)) ≡ false) ⌝ }
+    ensures { λ r. ⌜ MarkedOf d mark (met (now (f .entry))) (now r) ⌝ }
+{
+    let mut at = 0;
+    while at < f.len() {
+        let r = &f[at..];
+        if marked(r, d, mark) {
+            return r;
+        }
+        at += scan::past(r, d.repetition);
+    }
+    &f[at..]
+}
+
+// The name at the start of t: components 1 and 2.
+fn name(t: &[u8], d: Delims) -> Fault
+    requires { ⌜ Proper d ⌝ }
+    ensures { λ r. ⌜ faultNo r ≡ nameFault d (repetitionAt d (now (t .entry))) ⌝ }
+{
+    let given = component(t, d, 1);
+    earlier(part(t, d, true, Rule::Text(48)), part(given, d, false, Rule::Text(48)))
+}
+
+// The kanji name of the field f, then the kana name.
+fn both(f: &[u8], d: Delims) -> Fault
+    requires { ⌜ Proper d × (has (d .field) (met (now f)) ≡ false) ⌝ }
+    ensures { λ r. ⌜ faultNo r ≡ namesFault d (met (now (f .entry))) ⌝ }
+{
+    let kanji = name(repetition(f, d, b'I'), d);
+    let kana = repetition(f, d, b'P');
+    if kana.len() == 0 {
+        return kanji;
+    }
+    earlier(kanji, name(kana, d))
+}
+
+// PID-5.
+pub fn names(t: &[u8], d: Delims) -> ClosedRead
+    requires { ⌜ Proper d ⌝ }
+    ensures { λ r. ⌜ ClosedOf (namesFault d) (fieldAt d (now (t .entry))) (faultNo (r .fault)) (r .len) ⌝ }
+    ensures within { λ r. ⌜ r .len ≤ length (now (t .entry)) ⌝ }
+{
+    let e = scan::finish(t, d);
+    let n = e.len;
+    let fault = both(&t[..n], d);
+    ClosedRead { fault, len: n }
 }
