@@ -9,7 +9,6 @@ use lib.Dec.{eqb, leb, ltb}
 use lib.ListN.{length, getD, take, drop, length-drop}
 use lib.Seq.{drop-drop}
 use Rattle.rules.specs.declared.Delims.{Delims}
-use Rattle.rules.specs.declared.Mode.{Mode}
 use Rattle.rules.specs.declared.Mode.the-variants.{One}
 use Rattle.rules.specs.Told.{_then_, _when_}
 use Rattle.rules.specs.Lists.{bytes, empty, filled, same, all, has, nth, split, isOneOf}
@@ -54,7 +53,7 @@ same-met (a ∷ s) (b ∷ w) h =
     cc (same-met s w (q .1)))
     (λ e. cc)
 
-pub same-one : (s : List ℕ) (b : ℕ) → same (met s) (b ∷ []) ≡ same s (b ∷ [])
+same-one : (s : List ℕ) (b : ℕ) → same (met s) (b ∷ []) ≡ same s (b ∷ [])
 unfolding met marks same mark isOne
 same-one [] b = refl
 same-one (a ∷ []) b = refl

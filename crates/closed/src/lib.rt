@@ -276,10 +276,7 @@ fn four(t: &[u8], number: &[u8], joiner: &[u8], second: &[u8], d: Delims) -> Fou
     ensures { λ r. ⌜ FourOf d (fourAt d (now (t .entry)) (now (number .entry)) (now (joiner .entry)) (now (second .entry))) (faultNo (r .fault)) (r .filled) (r .beside) ⌝ }
 {
     let beside = !blank(t, d) | !blank(joiner, d) | !blank(second, d);
-    let fault = earlier(
-        compared(t, number, d, beside),
-        joined(joiner, second, d),
-    );
+    let fault = earlier(compared(t, number, d, beside), joined(joiner, second, d));
     FourRead {
         fault,
         filled: !blank(number, d),
