@@ -1,0 +1,55 @@
+-- Laws of general use that lower crates may take over: of modes and names by cases, of pieces, of measured lists. Assumes nothing.
+use mathlib.Core.Path.{_≡_, refl, sym, ap, _∙_}
+use mathlib.Core.Bool.{Bool, true, false, cond, not, _&&_, _||_}
+use mathlib.Core.List.{List, [], _∷_, _++_}
+use Prim.Native.Nat.{ℕ, zero, suc, _+_, _-_, _≤_, _<_}
+use native.Mathlib.Omega.{arith}
+use borrow.Author.Tests.{eqb-true}
+use lib.Dec.{eqb}
+use lib.ListN.{length}
+use Rattle.rules.specs.declared.Mode.{Mode}
+use Rattle.rules.specs.declared.Mode.the-variants.{One, Esc1, Esc2, Two, Second, Back1, Back2, Bad}
+use Rattle.rules.specs.Lists.{all, has, onto, split, allButLast}
+use Rattle.rules.proofs.Logic.{cases, never, both}
+use Rattle.rules.proofs.Lists.{all-first, has-nil, has-there}
+use Rattle.rules.proofs.Split.{frees, split-nil, split-here, split-there}
+
+-- ---- what holds in each mode
+pub inModes : (P : Mode → Type 0) → P One → P Esc1 → P Esc2 → P Two → P Second → P Back1 → P Back2 → P Bad → (m : Mode) → P m
+inModes P a b c d e f g h One = a
+inModes P a b c d e f g h Esc1 = b
+inModes P a b c d e f g h Esc2 = c
+inModes P a b c d e f g h Two = d
+inModes P a b c d e f g h Second = e
+inModes P a b c d e f g h Back1 = f
+inModes P a b c d e f g h Back2 = g
+inModes P a b c d e f g h Bad = h
+
+-- ---- the pieces of a split hold no separator
+onto-frees : (x b : ℕ) (ps : List (List ℕ)) → eqb b x ≡ false → frees x ps ≡ true → frees x (onto b ps) ≡ true
+unfolding onto frees
+onto-frees x b [] e h = cc (has-there x b [] e, has-nil x)
+onto-frees x b (p ∷ ps) e h = cc (has-there x b p e)
+
+pub split-frees : (x : ℕ) (s : List ℕ) → frees x (split x s) ≡ true
+unfolding frees
+split-frees x [] = rw (split-nil x, has-nil x)
+split-frees x (b ∷ s) =
+    cases (eqb b x)
+    (λ e. rw (split-here x b s e, has-nil x) (split-frees x s))
+    (λ e. rw (split-there x b s e) (onto-frees x b (split x s) e (split-frees x s)))
+
+pub butLast-frees : (x : ℕ) (ps : List (List ℕ)) → frees x ps ≡ true → frees x (allButLast ps) ≡ true
+unfolding frees allButLast
+butLast-frees x [] h = refl
+butLast-frees x (p ∷ []) h = refl
+butLast-frees x (p ∷ q ∷ ps) h =
+    let r = both (not (has x p)) (frees x (q ∷ ps)) h in
+    cc (r .0, butLast-frees x (q ∷ ps) (r .1))
+
+-- ---- what holds for each of some bytes
+pub in-all : (p : ℕ → Bool) (x : ℕ) (s : List ℕ) → has x s ≡ true → all p s ≡ true → p x ≡ true
+in-all p x [] h k = never (sym h ∙ has-nil x)
+in-all p x (b ∷ s) h k =
+    let q = all-first p b s k in
+    cases (eqb b x) (λ e. rw (eqb-true b x e) at (q .0)) (λ e. in-all p x s (sym (has-there x b s e) ∙ h) (q .1))
