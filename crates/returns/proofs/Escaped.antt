@@ -147,15 +147,15 @@ record Coded (d : Delims) (b l : ℕ) : Type 0 where
   delim : Delim b
   fine : plainByte l ≡ true
 
-module _ (d : Delims) (p : Proper d) (b : ℕ) where
+module _ (d : Delims) (p : Proper d) where
   -- a byte other than the twelve, or outside one-byte mode, has no letter
   no-letter : (y : ℕ) → ((x : ℕ) → Delim x → eqb y x ≡ false) → letterFor (letters d) y ≡ none
   unfolding letterFor letters
   no-letter y n = cc (n (d .field) (p .f-in), n (d .component) (p .c-in), n (d .sub) (p .s-in), n (d .repetition) (p .r-in), n (d .escape) (p .e-in))
 
-  coded-is : (l : ℕ) → letterFor (letters d) b ≡ some l → Coded d b l
+  coded-is : (b l : ℕ) → letterFor (letters d) b ≡ some l → Coded d b l
   unfolding letterFor letters meaning plainByte bytes has any isOne step
-  coded-is l h =
+  coded-is b l h =
       cases (eqb b (d .field)) (λ e0. is 70 (d .field) (cc) e0 refl (p .f-in) refl)
       (λ e0. cases (eqb b (d .component)) (λ e1. is 83 (d .component) (cc) e1 refl (p .c-in) refl)
       (λ e1. cases (eqb b (d .sub)) (λ e2. is 84 (d .sub) (cc) e2 refl (p .s-in) refl)
@@ -189,7 +189,7 @@ byte-near b h = rw (lt-ltb b 256 h)
 module _ (d : Delims) (p : Proper d) where
   escape-far : (b : ℕ) (t : List ℕ) → escapeMet d ((256 + b) ∷ t) ≡ b ∷ escapeMet d t
   unfolding escapeMet
-  escape-far b t = cc (no-letter d p b (256 + b) (λ x h. delim-far x h b), byte-far b)
+  escape-far b t = cc (no-letter d p (256 + b) (λ x h. delim-far x h b), byte-far b)
 
   escape-near : (b : ℕ) (t : List ℕ) → letterFor (letters d) b ≡ none → b < 256 → escapeMet d (b ∷ t) ≡ b ∷ escapeMet d t
   unfolding escapeMet
@@ -336,7 +336,7 @@ module _ (d : Delims) (p : Proper d) where
   word-on b v h r =
       let q = plain-one b h in
       let l = small-one b (λ e. let z : _≡_ {A = ℕ} 0 1 = cc in omega arith) in
-      (rw (met-cons b (q .0) v) (escape-near b (met v) (no-letter d p b b (λ x i. delim-ne x i b (q .1))) l ∙ (rw (r .0))), clean-cons b (q .0) v (r .1))
+      (rw (met-cons b (q .0) v) (escape-near b (met v) (no-letter d p b (λ x i. delim-ne x i b (q .1))) l ∙ (rw (r .0))), clean-cons b (q .0) v (r .1))
 
   pub word : (v : List ℕ) → all plainByte v ≡ true → (escape d v ≡ v) × Clean v
   word [] h = (unfold escape escapeMet met marks in refl, unfold walk in refl)

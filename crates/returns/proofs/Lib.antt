@@ -1,3 +1,4 @@
 pub mod General
 pub mod Clean
 pub mod Escaped
+pub mod Fields
