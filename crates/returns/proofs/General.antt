@@ -53,3 +53,8 @@ in-all p x [] h k = never (sym h ∙ has-nil x)
 in-all p x (b ∷ s) h k =
     let q = all-first p b s k in
     cases (eqb b x) (λ e. rw (eqb-true b x e) at (q .0)) (λ e. in-all p x s (sym (has-there x b s e) ∙ h) (q .1))
+
+pub all-append : (p : ℕ → Bool) (s t : List ℕ) → all p s ≡ true → all p t ≡ true → all p (s ++ t) ≡ true
+unfolding all
+all-append p [] t h k = k
+all-append p (x ∷ s) t h k = let q = all-first p x s h in cc (q .0, all-append p s t (q .1) k)

@@ -2,3 +2,5 @@ pub mod General
 pub mod Clean
 pub mod Escaped
 pub mod Fields
+pub mod Groups
+pub mod Segments
