@@ -57,4 +57,4 @@ in-all p x (b ∷ s) h k =
 pub all-append : (p : ℕ → Bool) (s t : List ℕ) → all p s ≡ true → all p t ≡ true → all p (s ++ t) ≡ true
 unfolding all
 all-append p [] t h k = k
-all-append p (x ∷ s) t h k = let q = all-first p x s h in cc (q .0, all-append p s t (q .1) k)
+all-append p (x ∷ s) t h k = let q = all-first p x s h in cc (all-append p s t (q .1) k)

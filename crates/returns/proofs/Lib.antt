@@ -4,3 +4,4 @@ pub mod Escaped
 pub mod Fields
 pub mod Groups
 pub mod Segments
+pub mod Closed
