@@ -150,6 +150,7 @@ module _ (d : Delims) (p : Proper d) where
       let o = next (wordOk d p (bytes "PID") refl) (next b (next b (next (x3 .ok) (next b (next (N .ok) (next b (next (x7 .ok) (next (x8 .ok) last)))))))) in
       let e = field-at d p o Pid in
       record {
+        known = refl;
         oks = o;
         row = λ at.
             rw (
@@ -300,6 +301,7 @@ module _ (d : Delims) (p : Proper d) where
       (next b (next b (next (x11 .ok) last))))))))))) in
       let e = field-at d p o Obx in
       record {
+        known = refl;
         oks = o;
         row = λ at.
             rw (

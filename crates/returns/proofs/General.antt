@@ -6,9 +6,12 @@ use Prim.Native.Nat.{ℕ, zero, suc, _+_, _-_, _≤_, _<_}
 use native.Mathlib.Omega.{arith}
 use borrow.Author.Tests.{eqb-true}
 use lib.Dec.{eqb}
-use lib.ListN.{length}
+use lib.ListN.{length, getD}
 use Rattle.rules.specs.declared.Mode.{Mode}
 use Rattle.rules.specs.declared.Mode.the-variants.{One, Esc1, Esc2, Two, Second, Back1, Back2, Bad}
+use Rattle.rules.specs.declared.Name.{Name}
+use Rattle.rules.specs.declared.Name.the-variants.{Msh, Pid, Pv1, Spm, Obr, Orc, Obx, Other}
+use Rattle.rules.specs.Frame.{rank, is}
 use Rattle.rules.specs.Lists.{all, has, onto, split, allButLast}
 use Rattle.rules.proofs.Logic.{cases, never, both}
 use Rattle.rules.proofs.Lists.{all-first, has-nil, has-there}
@@ -24,6 +27,28 @@ inModes P a b c d e f g h Second = e
 inModes P a b c d e f g h Back1 = f
 inModes P a b c d e f g h Back2 = g
 inModes P a b c d e f g h Bad = h
+
+-- ---- what holds of each name
+pub inNames : (P : Name → Type 0) → P Msh → P Pid → P Pv1 → P Spm → P Obr → P Orc → P Obx → P Other → (n : Name) → P n
+inNames P a b c d e f g h Msh = a
+inNames P a b c d e f g h Pid = b
+inNames P a b c d e f g h Pv1 = c
+inNames P a b c d e f g h Spm = d
+inNames P a b c d e f g h Obr = e
+inNames P a b c d e f g h Orc = f
+inNames P a b c d e f g h Obx = g
+inNames P a b c d e f g h Other = h
+
+-- a name is known by its rank
+named : ℕ → Name
+named n = getD (Other ∷ Msh ∷ Pid ∷ Pv1 ∷ Spm ∷ Obr ∷ Orc ∷ Obx ∷ []) n Other
+
+pub name-is : (a b : Name) → is a b ≡ true → a ≡ b
+unfolding named
+name-is a b e = sym (back a) ∙ ap named (eqb-true (rank a) (rank b) e) ∙ back b
+  where
+    back : (n : Name) → named (rank n) ≡ n
+    back n = inNames (λ n. named (rank n) ≡ n) refl refl refl refl refl refl refl refl n
 
 -- ---- the pieces of a split hold no separator
 onto-frees : (x b : ℕ) (ps : List (List ℕ)) → eqb b x ≡ false → frees x ps ≡ true → frees x (onto b ps) ≡ true

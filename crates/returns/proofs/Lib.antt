@@ -5,3 +5,4 @@ pub mod Fields
 pub mod Groups
 pub mod Segments
 pub mod Closed
+pub mod Messages

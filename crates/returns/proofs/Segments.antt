@@ -16,7 +16,7 @@ use Rattle.rules.specs.Lists.{bytes, empty, same, has, any, all, split, onto, n
 use Rattle.rules.specs.Shift.{step, isOne, mark, marks, met}
 use Rattle.rules.specs.Escape.{escape}
 use Rattle.rules.specs.Value.{fault, tooLong, holds, fits}
-use Rattle.rules.specs.Frame.{spelling, Known}
+use Rattle.rules.specs.Frame.{spelling, Known, is}
 use Rattle.rules.specs.Places.{Place, Field, reads, closed, places, entryIn, entryOf}
 use Rattle.rules.specs.View.{pieceOf, fieldOf, componentOf, firstRepetition, seenIn, partOf, Segment, segmentOf, Part, whole, seenAt, partAt}
 use Rattle.rules.specs.Judge.{plainOf, judgeAll}
@@ -79,6 +79,7 @@ abbrev pub knownAs : Delims → ℕ → Piece → Known
 knownAs d at q = record { name = q .name; start = at; body = met (segmentText d q) }
 
 pub record Says (d : Delims) (q : Piece) (before after : List ℕ) (rows : List Row) : Type 0 where
+  pub known : is (q .name) Other ≡ false
   pub oks : Oks d (spelling (q .name) ∷ q .fields)
   pub row : (at : ℕ) → let s = segmentOf d (knownAs d at q) in rowOf (q .name) (map (λ (l : Line). l .source d s) (lines (q .name))) ≡ rows
   pub faults : (at : ℕ) → Meets d before (knownAs d at q) (places (q .name))
@@ -142,6 +143,7 @@ module _ (d : Delims) (p : Proper d) where
       let o = next (wordOk (bytes "SPM") refl) (next (countOk i) (next blankOk (next blankOk (next (x4 .ok) (oks-blanks d p 12 (next (x17 .ok) last)))))) in
       let e = field-at d p o Spm in
       record {
+        known = refl;
         oks = o;
         row = λ at. rw (read-value d p x4 _ 4 1 (e at 4), read-value d p x17 _ 17 1 (e at 17));
         faults = λ at. (seen x4 (e at 4) (F .0, ((refl, refl), tt)), refl, (seen x17 (e at 17) (F .1 .0, tt), refl, tt));
@@ -156,6 +158,7 @@ module _ (d : Delims) (p : Proper d) where
       let o = next (wordOk (bytes "PV1") refl) (next blankOk (next (x2 .ok) last)) in
       let e = field-at d p o Pv1 in
       record {
+        known = refl;
         oks = o;
         row = λ at. rw (read-value d p x2 _ 2 1 (e at 2));
         faults = λ at. (seen x2 (e at 2) (F .0, tt), refl, tt);
@@ -171,6 +174,7 @@ module _ (d : Delims) (p : Proper d) where
       let o = next (wordOk (bytes "OBR") refl) (next blankOk (next (x2 .ok) (next blankOk (next (x4 .ok) last)))) in
       let e = field-at d p o Obr in
       record {
+        known = refl;
         oks = o;
         row = λ at. rw (read-value d p x2 _ 2 1 (e at 2), read-value d p x4 _ 4 1 (e at 4));
         faults = λ at. (seen x2 (e at 2) (F .0, tt), refl, (seen x4 (e at 4) (F .1 .0, ((refl, refl), tt)), refl, tt));
@@ -186,6 +190,7 @@ module _ (d : Delims) (p : Proper d) where
       let o = next (wordOk (bytes "ORC") refl) (next (x1 .ok) (next (x2 .ok) last)) in
       let e = field-at d p o Orc in
       record {
+        known = refl;
         oks = o;
         row = λ at. refl;
         faults = λ at. (
@@ -219,6 +224,7 @@ module _ (d : Delims) (p : Proper d) where
       let e18 : (at : ℕ) → fieldOf d (knownAs d at (pieceAt (piecesOf d i j (header mode sent control)) 0)) 18 ≡ d .repetition ∷ bytes "ISO IR87" =
       λ at. e at 18 ∙ (o18 .1 ∙ rw m) in
       record {
+        known = refl;
         oks = o;
         row = λ at. rw (read-value d p x11 _ 11 1 (e at 11), read-value d p x7 _ 7 1 (e at 7), read-value d p x10 _ 10 1 (e at 10));
         faults = λ at. (
