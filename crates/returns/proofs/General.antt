@@ -11,6 +11,7 @@ use Rattle.rules.specs.declared.Mode.{Mode}
 use Rattle.rules.specs.declared.Mode.the-variants.{One, Esc1, Esc2, Two, Second, Back1, Back2, Bad}
 use Rattle.rules.specs.declared.Name.{Name}
 use Rattle.rules.specs.declared.Name.the-variants.{Msh, Pid, Pv1, Spm, Obr, Orc, Obx, Other}
+use Rattle.rules.specs.Told.{Told, gives, refused}
 use Rattle.rules.specs.Frame.{rank, is}
 use Rattle.rules.specs.Lists.{all, has, onto, split, allButLast}
 use Rattle.rules.proofs.Logic.{cases, never, both}
@@ -83,3 +84,12 @@ pub all-append : (p : ℕ → Bool) (s t : List ℕ) → all p s ≡ true → al
 unfolding all
 all-append p [] t h k = k
 all-append p (x ∷ s) t h k = let q = all-first p x s h in cc (all-append p s t (q .1) k)
+
+-- ---- a list by cases, with the equation
+pub listCases : {A P : Type 0} (s : List A) → (s ≡ [] → P) → ((x : A) (r : List A) → s ≡ x ∷ r → P) → P
+listCases [] f g = f refl
+listCases (x ∷ r) f g = g x r refl
+
+-- a refusal gives nothing
+pub not-given : {A P : Type 0} {n s f : ℕ} {a : A} → refused n s f ≡ gives a → P
+not-given h = let z : _≡_ {A = ℕ} 0 1 = cc in absurd (omega arith)

@@ -6,3 +6,4 @@ pub mod Groups
 pub mod Segments
 pub mod Closed
 pub mod Messages
+pub mod Sheets
