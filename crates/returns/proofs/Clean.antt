@@ -63,6 +63,14 @@ clean-append a b h k = rw (walk-append, h) k
 pub clean-rest : (a b : List ℕ) → Clean a → Clean (a ++ b) → Clean b
 clean-rest a b h k = cc (walk-append 0x20 One a b)
 
+pub cleans-append : (ps qs : List (List ℕ)) → Cleans ps → Cleans qs → Cleans (ps ++ qs)
+cleans-append [] qs h k = k
+cleans-append (p ∷ ps) qs h k = (h .0, cleans-append ps qs (h .1) k)
+
+pub cleans-parts : (ps qs : List (List ℕ)) → Cleans (ps ++ qs) → Cleans ps × Cleans qs
+cleans-parts [] qs h = (tt, h)
+cleans-parts (p ∷ ps) qs h = let r = cleans-parts ps qs (h .1) in ((h .0, r .0), r .1)
+
 -- ---- an end of lines: it acts in one-byte mode only, and no text that keeps the rule by itself holds it
 pub record End (x : ℕ) : Type 0 where
   pub acts : (m : Mode) → step x m x ≡ cond (isOne m) One Bad
@@ -117,14 +125,18 @@ after-end end E m s h =
     (λ e. (one-is m e, rw (E .acts m, e) at h))
     (λ e. absurd (not-bad end (step end m end) s h (rw (E .acts m, e))))
 
-pub ended-cleans : (end : ℕ) → End end → (ps : List (List ℕ)) → frees end ps ≡ true → walk end One (ended end ps) ≡ One → Cleans ps
+walk-cleans : (end : ℕ) → End end → (ps : List (List ℕ)) → frees end ps ≡ true → walk end One (ended end ps) ≡ One → Cleans ps
 unfolding frees ended walk
-ended-cleans end E [] f h = tt
-ended-cleans end E (p ∷ ps) f h =
+walk-cleans end E [] f h = tt
+walk-cleans end E (p ∷ ps) f h =
     let q = both (not (has end p)) (frees end ps) f in
     let w : walk end One p ≡ walk 0x20 One p = walk-free end One p (not-true (has end p) (q .0)) in
     let r = after-end end E (walk 0x20 One p) (ended end ps) (rw (walk-append, w) at h) in
-    (r .0, ended-cleans end E ps (q .1) (r .1))
+    (r .0, walk-cleans end E ps (q .1) (r .1))
+
+pub ended-cleans : (end : ℕ) → End end → (ps : List (List ℕ)) → frees end ps ≡ true → keeps end (ended end ps) ≡ true → Cleans ps
+unfolding keeps
+ended-cleans end E ps f h = walk-cleans end E ps f (one-is (walk end One (ended end ps)) h)
 
 cleans-walk : (end : ℕ) → End end → (ps : List (List ℕ)) → Cleans ps → walk end One (ended end ps) ≡ One
 unfolding ended walk isOne

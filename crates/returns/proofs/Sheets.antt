@@ -1,18 +1,17 @@
 -- A sheet that is read is the sheet of its rows, and the rows are valid; valid rows are read back from their sheet. Assumes nothing.
 use mathlib.Core.Path.{_≡_, refl, sym, ap, _∙_}
 use mathlib.Core.Bool.{Bool, true, false, cond, not, _&&_, _||_}
-use mathlib.Core.List.{List, [], _∷_, _++_, append-assoc, append-nil}
+use mathlib.Core.List.{List, [], _∷_, _++_, map, append-assoc, append-nil}
 use Prim.Native.Nat.{ℕ, zero, suc, _+_, _≤_, _<_}
 use native.Mathlib.Omega.{arith}
 use borrow.Author.Tests.{ltb-false, le-ltb}
 use lib.Dec.{eqb, ltb}
 use lib.ListN.{length, getD, drop}
-use Rattle.rules.specs.declared.Mode.the-variants.{One}
 use Rattle.rules.specs.declared.Name.{Name}
 use Rattle.rules.specs.declared.Name.the-variants.{Msh, Pid, Pv1, Spm, Obr, Orc, Obx, Other}
 use Rattle.rules.specs.Told.{gives, refused, _>>=_}
 use Rattle.rules.specs.Lists.{bytes, empty, same, starts, any, onto, split, allButLast, last, ended, nth, isOneOf}
-use Rattle.rules.specs.Shift.{step, isOne, walk, keeps}
+use Rattle.rules.specs.Shift.{step, walk, keeps}
 use Rattle.rules.specs.Frame.{is, rank}
 use Rattle.rules.specs.Value.{fault, holds, words}
 use Rattle.rules.specs.Row.{Line, line, lines, Row, header, patient, visit, specimen, order, result, groupOf, values, rowOf}
@@ -20,11 +19,13 @@ use Rattle.rules.specs.Sheet.{keyOf, linesText, rowLines, sheetOf, lineOk, line
 use Rattle.rules.proofs.Logic.{cases, toldCases, never, both, not-false, guard, eqb-sym, eqb-self}
 use Rattle.rules.proofs.Lists.{any-cons, same-eq, starts-eq, starts-own, drop-own, from, exactly}
 use Rattle.rules.proofs.Split.{frees, ended-lines, split-ended, butLast-snoc, last-snoc}
-use Rattle.rules.proofs.Modes.{one-is}
 use Rattle.returns.proofs.General.{inNames, name-is, listCases, not-given, split-frees, butLast-frees}
-use Rattle.returns.proofs.Clean.{Clean, Cleans, keeps-clean, clean-append, clean-rest, end-0A, cleans-free, ended-cleans, cleans-ended}
+use Rattle.returns.proofs.Clean.{Cleans, clean-append, clean-rest, cleans-append, cleans-parts, end-0A, cleans-free, ended-cleans, cleans-ended}
 use Rattle.returns.proofs.Groups.{facts, must-filled, meets-rule}
 use Rattle.returns.proofs.Messages.{First, first, Tidy}
+
+abbrev keys : List Line → List (List ℕ)
+keys ls = map keyOf ls
 
 -- ---- a line is read as it was written, and was written as it is read
 line-read : (i : ℕ) (l : Line) (vs : List (List ℕ)) (w : List ℕ) → lineOk l vs w ≡ true → lineTold i l vs (keyOf l ++ w) ≡ gives w
@@ -154,7 +155,7 @@ rows-back (t ∷ ts) g (l ∷ ls) vs i rows h =
       cut = cc;
       holds = cc;
       next = B .next;
-      is = B .is ∙ rw append-assoc;
+      is = cc (append-assoc vs (v ∷ []) (B .ws));
     })
     (λ n s f e. not-given (rw e at h))
 rows-back (t ∷ ts) g [] vs i rows h =
@@ -247,3 +248,75 @@ rows-read [] a vs v i = unfold rowsTold valid in rw (v, append-nil)
 rows-read (r ∷ rs) a vs v i =
     let f = first a r rs v in
     row-read r a vs (rowLines rs) i rs (f .follows) (f .holds) (λ n. rows-read rs (groupOf r) (values r) (f .rest) n ∙ rw (row-back r))
+
+-- ---- the values of a line keep the shift rule as the line does
+keys-clean : (g : Name) → Cleans (keys (lines g))
+unfolding lines line keyOf bytes walk step
+keys-clean g =
+    inNames (λ g. Cleans (keys (lines g)))
+    (refl, (refl, (refl, (refl, tt)))) (refl, (refl, (refl, (refl, (refl, (refl, (refl, tt))))))) (refl, tt) (refl, (refl, tt)) (refl, (refl, tt)) tt
+    (refl, (refl, (refl, (refl, (refl, (refl, (refl, (refl, (refl, (refl, tt)))))))))) tt g
+
+values-clean : (ls : List Line) (vs ws : List (List ℕ)) → good ls vs ws ≡ true → Cleans (keys ls) → Cleans (linesText ls ws) → Cleans ws
+unfolding good linesText
+values-clean [] vs [] g k h = tt
+values-clean [] vs (w ∷ ws) g k h = never (sym g)
+values-clean (l ∷ ls) vs [] g k h = tt
+values-clean (l ∷ ls) vs (w ∷ ws) g k h =
+    (clean-rest (keyOf l) w (k .0) (h .0), values-clean ls (vs ++ (w ∷ [])) ws (both (lineOk l vs w) (good ls (vs ++ (w ∷ [])) ws) g .1) (k .1) (h .1))
+
+text-clean : (ls : List Line) (ws : List (List ℕ)) → Cleans (keys ls) → Cleans ws → Cleans (linesText ls ws)
+unfolding linesText
+text-clean [] ws k h = tt
+text-clean (l ∷ ls) [] k h = tt
+text-clean (l ∷ ls) (w ∷ ws) k h = (clean-append (keyOf l) w (k .0) (h .0), text-clean ls ws (k .1) (h .1))
+
+lines-tidy : (a : Name) (rows : List Row) → valid a rows ≡ true → Cleans (rowLines rows) → Tidy rows
+unfolding rowLines
+lines-tidy a [] v h = tt
+lines-tidy a (r ∷ rs) v h =
+    let f = first a r rs v in
+    let c = cleans-parts (linesText (lines (groupOf r)) (values r)) (rowLines rs) h in
+    (values-clean (lines (groupOf r)) [] (values r) (f .holds) (keys-clean (groupOf r)) (c .0), lines-tidy (groupOf r) rs (f .rest) (c .1))
+
+tidy-lines : (rows : List Row) → Tidy rows → Cleans (rowLines rows)
+unfolding rowLines
+tidy-lines [] t = tt
+tidy-lines (r ∷ rs) t =
+    cleans-append (linesText (lines (groupOf r)) (values r)) (rowLines rs) (text-clean (lines (groupOf r)) (values r) (keys-clean (groupOf r)) (t .0)) (tidy-lines rs (t .1))
+
+-- ---- THE SHEET'S RETURN
+pub record SheetIs (s : List ℕ) (rows : List Row) : Type 0 where
+  pub is : sheetOf rows ≡ s
+  pub lines : linesOf s ≡ rowLines rows
+  pub ok : valid Other rows ≡ true
+  pub tidy : Tidy rows
+
+pub sheet-is : (s : List ℕ) (rows : List Row) → readSheet s ≡ gives rows → SheetIs s rows
+unfolding readSheet linesOf sheetOf linesText rowOf
+sheet-is s rows h =
+    let g0 = guard 40 0 0 (ltb 65536 (length s)) _ rows h in
+    let g1 = guard 41 0 0 (not (keeps 0x0A s && empty (last (split 0x0A s)))) _ rows (g0 .1) in
+    let b = both (keeps 0x0A s) (empty (last (split 0x0A s))) (not-false (keeps 0x0A s && empty (last (split 0x0A s))) (g1 .0)) in
+    let B = rows-back (linesOf s) Other [] [] 1 rows (g1 .1) in
+    let e : rows ≡ B .later = B .is in
+    let c : linesOf s ≡ rowLines rows = B .cut ∙ ap rowLines (sym e) in
+    let v : valid Other rows ≡ true = ap (valid Other) e ∙ B .next in
+    let i : ended 0x0A (rowLines rows) ≡ s = rw (← c) (ended-lines 0x0A s (b .1)) in
+    let f : frees 0x0A (rowLines rows) ≡ true = rw (← c) (butLast-frees 0x0A (split 0x0A s) (split-frees 0x0A s)) in
+    let k : keeps 0x0A (ended 0x0A (rowLines rows)) ≡ true = rw i (b .0) in
+    record { is = i; lines = c; ok = v; tidy = lines-tidy Other rows v (ended-cleans 0x0A end-0A (rowLines rows) f k) }
+
+pub sheet-read : (rows : List Row) → valid Other rows ≡ true → Tidy rows → length (sheetOf rows) ≤ 65536 → readSheet (sheetOf rows) ≡ gives rows
+unfolding readSheet linesOf sheetOf empty rowOf
+sheet-read rows v t l =
+    let c = tidy-lines rows t in
+    let s = split-ended 0x0A (rowLines rows) (cleans-free 0x0A end-0A (rowLines rows) c) in
+    rw (
+      le-ltb 65536 (length (ended 0x0A (rowLines rows))) l,
+      cleans-ended 0x0A end-0A (rowLines rows) c,
+      s,
+      last-snoc (rowLines rows),
+      butLast-snoc (rowLines rows),
+    )
+    (rows-read rows Other [] v 1)
