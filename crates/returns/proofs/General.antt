@@ -4,7 +4,7 @@ use mathlib.Core.Bool.{Bool, true, false, cond, not, _&&_, _||_}
 use mathlib.Core.List.{List, [], _∷_, _++_}
 use Prim.Native.Nat.{ℕ, zero, suc, _+_, _-_, _≤_, _<_}
 use native.Mathlib.Omega.{arith}
-use borrow.Author.Tests.{eqb-true}
+use borrow.Author.Tests.{eqb-true, eqb-false}
 use lib.Dec.{eqb}
 use lib.ListN.{length, getD}
 use Rattle.rules.specs.declared.Mode.{Mode}
@@ -13,9 +13,9 @@ use Rattle.rules.specs.declared.Name.{Name}
 use Rattle.rules.specs.declared.Name.the-variants.{Msh, Pid, Pv1, Spm, Obr, Orc, Obx, Other}
 use Rattle.rules.specs.Told.{Told, gives, refused}
 use Rattle.rules.specs.Frame.{rank, is}
-use Rattle.rules.specs.Lists.{all, has, onto, split, allButLast}
+use Rattle.rules.specs.Lists.{same, all, any, has, onto, split, allButLast}
 use Rattle.rules.proofs.Logic.{cases, never, both}
-use Rattle.rules.proofs.Lists.{all-first, has-nil, has-there}
+use Rattle.rules.proofs.Lists.{same-eq, all-first, has-nil, has-there}
 use Rattle.rules.proofs.Split.{frees, split-nil, split-here, split-there}
 
 -- ---- what holds in each mode
@@ -93,3 +93,33 @@ listCases (x ∷ r) f g = g x r refl
 -- a refusal gives nothing
 pub not-given : {A P : Type 0} {n s f : ℕ} {a : A} → refused n s f ≡ gives a → P
 not-given h = let z : _≡_ {A = ℕ} 0 1 = cc in absurd (omega arith)
+
+-- one of two tests
+pub either : (x y : Bool) {P : Type 0} → (x || y) ≡ true → (x ≡ true → P) → (y ≡ true → P) → P
+either true y h f g = f refl
+either false y h f g = g h
+
+-- what holds for each number of a range
+unfoldable pub range : ℕ → ℕ → List ℕ
+range low zero = []
+range low (suc n) = low ∷ range (suc low) n
+
+pub in-range : (p : ℕ → Bool) (low n : ℕ) → all p (range low n) ≡ true → (b : ℕ) → low ≤ b → b < low + n → p b ≡ true
+unfolding range
+in-range p low zero h b l u = absurd (omega arith)
+in-range p low (suc n) h b l u =
+    let q = all-first p low (range (suc low) n) h in
+    cases (eqb low b) (λ e. rw (eqb-true low b e) at (q .0)) (λ e. in-range p (suc low) n (q .1) b (omega (arith, eqb-false low b e)) (omega arith))
+
+pub all-each : (p q : ℕ → Bool) → ((b : ℕ) → p b ≡ true → q b ≡ true) → (s : List ℕ) → all p s ≡ true → all q s ≡ true
+unfolding all
+all-each p q f [] h = refl
+all-each p q f (b ∷ s) h = let r = all-first p b s h in cc (f b (r .0), all-each p q f s (r .1))
+
+-- one of some words
+pub one-of : (p : List ℕ → Bool) (v : List ℕ) (ps : List (List ℕ)) → any (same v) ps ≡ true → all p ps ≡ true → p v ≡ true
+unfolding any
+one-of p v [] h k = never (sym h)
+one-of p v (q ∷ ps) h k =
+    let r = all-first p q ps k in
+    cases (same v q) (λ e. rw (same-eq v q e) (r .0)) (λ e. one-of p v ps (rw (e, any) at h) (r .1))

@@ -1,9 +1,12 @@
 pub mod General
 pub mod Clean
 pub mod Escaped
+pub mod Plain
 pub mod Fields
 pub mod Groups
 pub mod Segments
 pub mod Closed
 pub mod Messages
 pub mod Sheets
+pub mod Sizes
+pub mod Accepts

@@ -25,9 +25,10 @@ use Rattle.rules.specs.Row.{Line, line, lines, fourAt, Row, header, visit, spec
 use Rattle.rules.specs.Message.{blanks, decimal, decimalTo, encoding, Piece, piece, piecesOf, segmentText}
 use Rattle.rules.proofs.Logic.{cases}
 use Rattle.rules.proofs.Lists.{same-self}
-use Rattle.returns.proofs.General.{all-append}
+use Rattle.returns.proofs.General.{in-range, all-append}
 use Rattle.returns.proofs.Clean.{Cleans}
 use Rattle.returns.proofs.Escaped.{Proper, plainByte}
+use Rattle.returns.proofs.Plain.{bytewise}
 use Rattle.returns.proofs.Fields.{Ok, Oks, last, next, also, end, FieldIs, escaped, plain, nothing, comp-ok, single, several, value-at, judge-at, field-at, oks-blanks, ok-cons}
 use Rattle.returns.proofs.Groups.{Keeps, no-fault, Facts}
 
@@ -100,18 +101,7 @@ tables = tt
 
 -- ---- a number's digits
 digit-plain : (n : ℕ) → n < 10 → plainByte (48 + n) ≡ true
-unfolding plainByte isOne step has any bytes
-digit-plain zero h = refl
-digit-plain (suc zero) h = refl
-digit-plain (suc (suc zero)) h = refl
-digit-plain (suc (suc (suc zero))) h = refl
-digit-plain (suc (suc (suc (suc zero)))) h = refl
-digit-plain (suc (suc (suc (suc (suc zero))))) h = refl
-digit-plain (suc (suc (suc (suc (suc (suc zero)))))) h = refl
-digit-plain (suc (suc (suc (suc (suc (suc (suc zero))))))) h = refl
-digit-plain (suc (suc (suc (suc (suc (suc (suc (suc zero)))))))) h = refl
-digit-plain (suc (suc (suc (suc (suc (suc (suc (suc (suc zero))))))))) h = refl
-digit-plain (suc (suc (suc (suc (suc (suc (suc (suc (suc (suc n)))))))))) h = absurd (omega arith)
+digit-plain n h = in-range plainByte 48 10 (unfold bytewise in refl) (48 + n) (omega arith) (omega arith)
 
 decimal-plain : (k n : ℕ) → all plainByte (decimalTo k n) ≡ true
 unfolding decimalTo all
