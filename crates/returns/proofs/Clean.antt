@@ -6,9 +6,10 @@ use Prim.Native.Nat.{ℕ}
 use native.Mathlib.Omega.{arith}
 use borrow.Author.Tests.{eqb-true}
 use lib.Dec.{eqb}
+use lib.ListN.{List·getD-map}
 use Rattle.rules.specs.declared.Mode.{Mode}
 use Rattle.rules.specs.declared.Mode.the-variants.{One, Bad}
-use Rattle.rules.specs.Lists.{has, led, join, ended}
+use Rattle.rules.specs.Lists.{nth, has, led, join, ended}
 use Rattle.rules.specs.Shift.{within, step, isOne, walk, keeps, mark, marks, met}
 use Rattle.rules.proofs.Logic.{cases, both, not-true}
 use Rattle.rules.proofs.Lists.{has-nil, has-first, has-there}
@@ -148,7 +149,12 @@ pub cleans-ended : (end : ℕ) → End end → (ps : List (List ℕ)) → Cleans
 unfolding keeps isOne
 cleans-ended end E ps h = rw (cleans-walk end E ps h)
 
--- ---- pieces that are joined
+-- ---- pieces as they are met
+pub nth-met : (ps : List (List ℕ)) (i : ℕ) → nth (map met ps) i ≡ met (nth ps i)
+unfolding met marks
+nth-met ps i = List·getD-map met ps i []
+
+-- those that are joined
 module _ (x : ℕ) (t : step 0x20 One x ≡ One) where
   pub stays : step 0x0D One x ≡ One
   stays = agree 0x0D One x (λ e. let z : _≡_ {A = ℕ} 0 1 = cc in omega arith) ∙ t

@@ -3,14 +3,13 @@ use mathlib.Core.Path.{_≡_, refl, sym, ap, _∙_}
 use mathlib.Core.Bool.{Bool, true, false, cond, not, _&&_, _||_}
 use mathlib.Core.List.{List, [], _∷_, _++_, map}
 use mathlib.Core.Option.{some}
-use Prim.Native.Nat.{ℕ, zero, suc, _-_, _*_, _≤_}
+use Prim.Native.Nat.{ℕ, zero, suc, _-_}
 use lib.Dec.{eqb}
-use lib.ListN.{length, List·getD-map}
 use Rattle.rules.specs.declared.Delims.{Delims}
 use Rattle.rules.specs.declared.Name.{Name}
 use Rattle.rules.specs.Told.{_then_, _when_}
 use Rattle.rules.specs.Lists.{bytes, empty, same, has, all, split, led, join, nth}
-use Rattle.rules.specs.Shift.{marks, met}
+use Rattle.rules.specs.Shift.{met}
 use Rattle.rules.specs.Escape.{unescape, escape}
 use Rattle.rules.specs.Value.{Rule, fault}
 use Rattle.rules.specs.View.{pieceOf, fieldOf, componentOf, firstRepetition}
@@ -19,8 +18,8 @@ use Rattle.rules.specs.Message.{composed, blanks}
 use Rattle.rules.proofs.Logic.{both, not-true}
 use Rattle.rules.proofs.Lists.{has-nil, has-there, has-append}
 use Rattle.rules.proofs.Split.{frees, split-none, split-join}
-use Rattle.returns.proofs.Clean.{Clean, Cleans, clean-cons, clean-join, met-cons, met-join}
-use Rattle.returns.proofs.Escaped.{Delim, Proper, Separator, by-field, by-component, by-repetition, plainByte, word, delim-one, escaped-clean, escaped-back, escaped-free, escaped-empty, escaped-null, escaped-length}
+use Rattle.returns.proofs.Clean.{Clean, Cleans, clean-cons, clean-join, met-cons, met-join, nth-met}
+use Rattle.returns.proofs.Escaped.{Delim, Proper, Separator, by-field, by-component, by-repetition, plainByte, word, delim-one, escaped-clean, escaped-back, escaped-free, escaped-empty, escaped-null}
 
 -- ---- a component as it is written, and what it says
 pub record Comp (d : Delims) (c v : List ℕ) : Type 0 where
@@ -135,9 +134,7 @@ module _ (d : Delims) (p : Proper d) where
 
     pub component-is : (c : ℕ) → componentOf d (met f) c ≡ met (nth cs (c - 1))
     unfolding componentOf
-    component-is c =
-        let e : nth (map met cs) (c - 1) ≡ met (nth cs (c - 1)) = unfold met marks in List·getD-map met cs (c - 1) [] in
-        rw (x .cut) e
+    component-is c = rw (x .cut) (nth-met cs (c - 1))
 
     pub value-in : (c : ℕ) → plainOf d (componentOf d (met f) c) ≡ nth vs (c - 1)
     unfolding unescapedOr

@@ -2,6 +2,7 @@
 use mathlib.Core.Path.{_≡_, refl, sym, ap, _∙_}
 use mathlib.Core.Bool.{Bool, true, false, cond, not, _&&_, _||_}
 use mathlib.Core.List.{List, [], _∷_, _++_}
+use mathlib.Core.Option.{none, some}
 use Prim.Native.Nat.{ℕ, zero, suc, _+_, _-_, _≤_, _<_}
 use native.Mathlib.Omega.{arith}
 use borrow.Author.Tests.{eqb-true, eqb-false}
@@ -123,3 +124,6 @@ one-of p v [] h k = never (sym h)
 one-of p v (q ∷ ps) h k =
     let r = all-first p q ps k in
     cases (same v q) (λ e. rw (same-eq v q e) (r .0)) (λ e. one-of p v ps (rw (e, any) at h) (r .1))
+
+pub nothing-some : {A P : Type 0} {a : A} → none ≡ some a → P
+nothing-some h = let z : _≡_ {A = ℕ} 0 1 = cc in absurd (omega arith)

@@ -8,5 +8,8 @@ pub mod Segments
 pub mod Closed
 pub mod Messages
 pub mod Sheets
+pub mod Measures
 pub mod Sizes
 pub mod Accepts
+pub mod Whole
+pub mod Accepted

@@ -28,6 +28,7 @@ use Rattle.returns.proofs.Clean.{Clean, Cleans}
 use Rattle.returns.proofs.Escaped.{Proper, plainByte, word, escaped-length}
 use Rattle.returns.proofs.Plain.{bytewise, number-plain, digits-plain, capitals-plain}
 use Rattle.returns.proofs.Groups.{Facts, facts, meets-rule}
+use Rattle.returns.proofs.Measures.{total, join-total}
 use Rattle.returns.proofs.Segments.{pieceAt}
 use Rattle.returns.proofs.Messages.{first, Tidy}
 
@@ -74,19 +75,6 @@ module _ (d : Delims) (p : Proper d) where
       (λ e. let m = meets-rule q r v e h in filled-sized n r v a c (m .0) (m .1))
 
 -- ---- joined fields
-unfoldable total : List (List ℕ) → ℕ
-total [] = 0
-total (f ∷ fs) = suc (length f) + total fs
-
-led-total : (x : ℕ) (fs : List (List ℕ)) → length (led x fs) ≡ total fs
-unfolding led total
-led-total x [] = refl
-led-total x (f ∷ fs) = rw (length-append, led-total x fs) (omega arith)
-
-join-total : (x : ℕ) (f : List ℕ) (fs : List (List ℕ)) → length (join x (f ∷ fs)) ≡ length f + total fs
-unfolding join
-join-total x f fs = rw (length-append, led-total x fs)
-
 segment-total : (d : Delims) (q : Piece) → length (segmentText d q) ≡ length (spelling (q .name)) + total (q .fields)
 unfolding segmentText
 segment-total d q = join-total (d .field) (spelling (q .name)) (q .fields)
