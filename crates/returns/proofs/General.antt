@@ -127,3 +127,7 @@ one-of p v (q ∷ ps) h k =
 
 pub nothing-some : {A P : Type 0} {a : A} → none ≡ some a → P
 nothing-some h = let z : _≡_ {A = ℕ} 0 1 = cc in absurd (omega arith)
+
+pub one-word : (v w : List ℕ) → any (same v) (w ∷ []) ≡ true → v ≡ w
+unfolding any
+one-word v w h = cases (same v w) (λ e. same-eq v w e) (λ e. cc)

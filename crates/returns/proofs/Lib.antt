@@ -13,3 +13,5 @@ pub mod Sizes
 pub mod Accepts
 pub mod Whole
 pub mod Accepted
+pub mod AcceptedClosed
+pub mod Again

@@ -19,7 +19,7 @@ use Rattle.rules.specs.Sheet.{keyOf, linesText, rowLines, sheetOf, lineOk, line
 use Rattle.rules.proofs.Logic.{cases, toldCases, never, both, not-false, guard, eqb-sym, eqb-self}
 use Rattle.rules.proofs.Lists.{any-cons, same-eq, starts-eq, starts-own, drop-own, from, exactly}
 use Rattle.rules.proofs.Split.{frees, ended-lines, split-ended, butLast-snoc, last-snoc}
-use Rattle.returns.proofs.General.{inNames, name-is, listCases, not-given, split-frees, butLast-frees}
+use Rattle.returns.proofs.General.{inNames, name-is, listCases, not-given, one-word, split-frees, butLast-frees}
 use Rattle.returns.proofs.Clean.{Cleans, clean-append, clean-rest, cleans-append, cleans-parts, end-0A, cleans-free, ended-cleans, cleans-ended}
 use Rattle.returns.proofs.Groups.{facts, must-filled, meets-rule}
 use Rattle.returns.proofs.Messages.{First, first, Tidy}
@@ -51,10 +51,6 @@ good-length (l ∷ ls) vs [] h = never (sym h)
 good-length (l ∷ ls) vs (w ∷ ws) h = ap suc (good-length ls (vs ++ (w ∷ [])) ws (both (lineOk l vs w) (good ls (vs ++ (w ∷ [])) ws) h .1))
 
 -- "version is 1"
-one-word : (v w : List ℕ) → any (same v) (w ∷ []) ≡ true → v ≡ w
-unfolding any
-one-word v w h = cases (same v w) (λ e. same-eq v w e) (λ e. cc)
-
 version-is : (ws : List (List ℕ)) → good (lines Msh) [] ws ≡ true → nth ws 0 ≡ bytes "1"
 unfolding lines
 version-is [] h = cc (good-length (lines Msh) [] [] h)
