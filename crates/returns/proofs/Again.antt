@@ -44,25 +44,16 @@ name-starts (n ∷ ns) s h = cases (starts (spelling n) s) (λ e. rw (e, nameAmo
 no-delim : (x : ℕ) (v : List ℕ) → Delim x → all (λ (b : ℕ). not (has b twelve)) v ≡ true → has x v ≡ false
 no-delim x v i h = cases (has x v) (λ e. never (sym i ∙ not-true (has x twelve) (in-all (λ (b : ℕ). not (has b twelve)) x v e h))) (λ e. e)
 
-record Spelled (n : Name) : Type 0 where
-  three : length (spelling n) ≡ 3
-  clean : Clean (spelling n)
-  met : met (spelling n) ≡ spelling n
-  free : all (λ (b : ℕ). not (has b twelve)) (spelling n) ≡ true
+-- three bytes of one-byte mode, and no delimiter
+abbrev Spelled : Name → Type 0
+Spelled n = (length (spelling n) ≡ 3) × Clean (spelling n) × (met (spelling n) ≡ spelling n) × (all (λ (b : ℕ). not (has b twelve)) (spelling n) ≡ true)
 
 spelled : (n : Name) → is n Other ≡ false → Spelled n
 unfolding spelling bytes walk step isOne met marks mark all has any
 spelled n =
-    let r = λ (h : true ≡ true). h in
     inNames (λ n. is n Other ≡ false → Spelled n)
-    (λ h. record { three = refl; clean = refl; met = refl; free = refl })
-    (λ h. record { three = refl; clean = refl; met = refl; free = refl })
-    (λ h. record { three = refl; clean = refl; met = refl; free = refl })
-    (λ h. record { three = refl; clean = refl; met = refl; free = refl })
-    (λ h. record { three = refl; clean = refl; met = refl; free = refl })
-    (λ h. record { three = refl; clean = refl; met = refl; free = refl })
-    (λ h. record { three = refl; clean = refl; met = refl; free = refl })
-    (λ h. never h) n
+    (λ h. (refl, refl, refl, refl)) (λ h. (refl, refl, refl, refl)) (λ h. (refl, refl, refl, refl)) (λ h. (refl, refl, refl, refl))
+    (λ h. (refl, refl, refl, refl)) (λ h. (refl, refl, refl, refl)) (λ h. (refl, refl, refl, refl)) (λ h. never h) n
 
 named : (x : ℕ) → Delim x → (s : List ℕ) → is (nameOf s) Other ≡ false → 3 ≤ length (nth (split x (met s)) 0)
 unfolding nameOf
@@ -71,8 +62,8 @@ named x i s h =
     let S = spelled (nameOf s) h in
     let t = drop (length n) s in
     let e : s ≡ n ++ t = starts-eq n s (name-starts knownNames s h) in
-    let m : met s ≡ n ++ met t = ap met e ∙ met-append n t (clean-keeps 0x0D n (S .clean)) ∙ rw (S .met) in
-    rw (m, split-free x n (met t) (no-delim x n i (S .free)), length-append) (omega (arith, S .three))
+    let m : met s ≡ n ++ met t = ap met e ∙ met-append n t (clean-keeps 0x0D n (S .1)) ∙ rw (S .2) in
+    rw (m, split-free x n (met t) (no-delim x n i (S .3)), length-append) (omega (arith, S .0))
 
 -- ---- one segment
 seg-good : (d : Delims) → Proper d → (ord : List ℕ) (at : ℕ) (body : List ℕ) → Whole body → (n : Name) → 3 ≤ length (nth (split (d .field) body) 0)
@@ -97,10 +88,10 @@ order-step a g n gs h = cases (any (is g) (after a)) (λ e. (e, cc)) (λ e. absu
 
 -- what follows a name, but an ORC, follows its group
 follows : (a g : Name) → any (is g) (after a) ≡ true → is g Orc ≡ false → any (is g) (nextGroups (groupAt a)) ≡ true
-unfolding nextGroups
+unfolding nextGroups any
 follows a g =
     inNames (λ a. any (is g) (after a) ≡ true → is g Orc ≡ false → any (is g) (nextGroups (groupAt a)) ≡ true)
-    (λ h o. h) (λ h o. h) (λ h o. h) (λ h o. h) (λ h o. never (sym h ∙ (unfold any in rw o))) (λ h o. h) (λ h o. h) (λ h o. h) a
+    (λ h o. h) (λ h o. h) (λ h o. h) (λ h o. h) (λ h o. never (sym h ∙ rw (o, any))) (λ h o. h) (λ h o. h) (λ h o. h) a
 
 orc-after : (a : Name) → any (is Orc) (after a) ≡ true → groupAt a ≡ Obr
 unfolding any

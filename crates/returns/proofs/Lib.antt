@@ -15,3 +15,5 @@ pub mod Whole
 pub mod Accepted
 pub mod AcceptedClosed
 pub mod Again
+pub mod Demand2
+pub mod WholeCase
