@@ -1,18 +1,17 @@
 -- An accepted segment: its values keep the rules of the sheet's lines and the shift rule, and its lines are hardly longer than it. Assumes
 -- nothing.
-use mathlib.Core.Path.{_≡_, refl, sym, ap, _∙_}
-use mathlib.Core.Bool.{Bool, true, false, cond, not, _&&_, _||_}
-use mathlib.Core.List.{List, [], _∷_, _++_, map}
-use Prim.Native.Nat.{ℕ, zero, suc, _+_, _-_, _≤_, _<_}
+use mathlib.Core.Path.{_≡_, refl}
+use mathlib.Core.List.{List, [], _∷_, map}
+use Prim.Native.Nat.{ℕ, zero, suc, _+_, _-_, _≤_}
 use native.Mathlib.Omega.{arith}
 use lib.ListN.{length}
 use Rattle.rules.specs.declared.Delims.{Delims}
 use Rattle.rules.specs.declared.Name.{Name}
 use Rattle.rules.specs.declared.Name.the-variants.{Msh, Pv1, Spm, Obr}
-use Rattle.rules.specs.Told.{Told, gives, _>>_, _then_, _when_}
+use Rattle.rules.specs.Told.{Told, gives, _>>_, _when_}
 use Rattle.rules.specs.Lists.{bytes, empty, same, has, any, split, onto, nth, ended, isOneOf}
 use Rattle.rules.specs.Shift.{walk, step}
-use Rattle.rules.specs.Value.{fault, tooLong, holds, fits}
+use Rattle.rules.specs.Value.{fault, tooLong, holds}
 use Rattle.rules.specs.Frame.{Known}
 use Rattle.rules.specs.Places.{Place, Field, reads, closed, places, entryIn, entryOf}
 use Rattle.rules.specs.View.{pieceOf, fieldOf, componentOf, firstRepetition, seenIn, partOf, Segment, segmentOf, Part, whole, seenAt, partAt}

@@ -1,15 +1,15 @@
 -- PID and OBX of an accepted message. Assumes nothing.
-use mathlib.Core.Path.{_≡_, refl, sym, ap, _∙_}
+use mathlib.Core.Path.{_≡_, refl, ap}
 use mathlib.Core.Bool.{Bool, true, false, cond, not, _&&_, _||_}
 use mathlib.Core.List.{List, [], _∷_}
-use Prim.Native.Nat.{ℕ, zero, suc, _+_, _-_, _≤_, _<_}
+use Prim.Native.Nat.{ℕ, suc, _+_, _≤_}
 use native.Mathlib.Omega.{arith}
 use lib.Dec.{ltb}
 use lib.ListN.{length}
 use Rattle.rules.specs.declared.Delims.{Delims}
 use Rattle.rules.specs.declared.Name.the-variants.{Pid, Obx}
-use Rattle.rules.specs.Told.{_then_, _when_}
-use Rattle.rules.specs.Lists.{bytes, empty, filled, same, has, any, split, onto, nth, isOneOf}
+use Rattle.rules.specs.Told.{_when_}
+use Rattle.rules.specs.Lists.{bytes, empty, filled, same, has, split, onto, nth, isOneOf}
 use Rattle.rules.specs.Value.{Rule, fault, holds, words, text, fits}
 use Rattle.rules.specs.Escape.{unescape, unescapeAt}
 use Rattle.rules.specs.Places.{places, Four, valueRules}
@@ -27,7 +27,7 @@ use Rattle.returns.proofs.Measures.{sum, pieces-fit, piece-there, nth-s
 use Rattle.returns.proofs.Accepted.{Zeros, whole-field, whole-component, GoodSeg, sources, seg, readings, component-short}
 
 -- a filled text has a byte
-pub long-one : (v : List ℕ) → empty v ≡ false → 1 ≤ length v
+long-one : (v : List ℕ) → empty v ≡ false → 1 ≤ length v
 unfolding empty
 long-one [] h = never h
 long-one (x ∷ v) h = omega arith

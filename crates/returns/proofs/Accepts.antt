@@ -1,19 +1,18 @@
 -- The message that is written of a sheet's rows is accepted. Assumes nothing.
-use mathlib.Core.Path.{_≡_, refl, sym, ap, _∙_}
-use mathlib.Core.Bool.{Bool, true, false, cond, not, _&&_, _||_}
+use mathlib.Core.Path.{_≡_, refl, sym}
+use mathlib.Core.Bool.{true, _&&_, _||_}
 use mathlib.Core.List.{List, [], _∷_, map}
-use Prim.Native.Nat.{ℕ, _≤_, _<_}
+use Prim.Native.Nat.{ℕ, _≤_}
 use native.Mathlib.Omega.{arith}
 use borrow.Author.Tests.{ltb-false, le-ltb, le-leb, lt-ltb}
 use lib.Dec.{ltb, leb}
 use lib.ListN.{length, length-map}
 use Rattle.rules.specs.declared.Delims.{Delims}
 use Rattle.rules.specs.declared.Name.the-variants.{Spm, Obr, Obx, Other}
-use Rattle.rules.specs.Told.{gives, accepted, refuse_if_else_, _>>_}
-use Rattle.rules.specs.Lists.{empty, all, split, last, ended}
+use Rattle.rules.specs.Told.{gives, accepted}
+use Rattle.rules.specs.Lists.{empty, all, split, last}
 use Rattle.rules.specs.Shift.{keeps}
-use Rattle.rules.specs.Frame.{delimsOk, headerOk, delimsOf, segments, segmentsOk, nameOk}
-use Rattle.rules.specs.View.{view}
+use Rattle.rules.specs.Frame.{delimsOk, segments, segmentsOk, nameOk}
 use Rattle.rules.specs.Check.{frameTold, checkTold}
 use Rattle.rules.specs.Row.{Row}
 use Rattle.rules.specs.Sheet.{valid}
@@ -26,13 +25,12 @@ use Rattle.returns.proofs.Messages.{Tidy, name-ok, segments-are, all-en
 use Rattle.returns.proofs.Sizes.{Short, short}
 
 -- what is told where a message is given
-pub record Wrote (d : Delims) (rows : List Row) (room : ℕ) (m : List ℕ) : Type 0 where
+pub record Wrote (d : Delims) (rows : List Row) (m : List ℕ) : Type 0 where
   pub is : m ≡ messageOf d rows
   pub bytes-fit : length (messageOf d rows) ≤ 32768
   pub segments-fit : length (written d rows) ≤ 512
-  pub room-fits : length (messageOf d rows) ≤ room
 
-pub wrote : (d : Delims) (rows : List Row) (room : ℕ) (m : List ℕ) → messageTold d rows room ≡ gives m → Wrote d rows room m
+pub wrote : (d : Delims) (rows : List Row) (room : ℕ) (m : List ℕ) → messageTold d rows room ≡ gives m → Wrote d rows m
 unfolding messageTold
 wrote d rows room m h =
     let g = guard 44 0 0 (ltb 32768 (length (messageOf d rows)) || ltb 512 (length (written d rows))) _ m h in
@@ -43,7 +41,6 @@ wrote d rows room m h =
       is = sym e;
       bytes-fit = ltb-false 32768 (length (messageOf d rows)) (o .0);
       segments-fit = ltb-false 512 (length (written d rows)) (o .1);
-      room-fits = ltb-false room (length (messageOf d rows)) (k .0);
     }
 
 -- ---- 13: every segment is short and has a good name

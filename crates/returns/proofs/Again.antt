@@ -1,8 +1,8 @@
 -- An accepted message: its rows are those of a sheet that is accepted, under 57,000 bytes. Assumes nothing.
 use mathlib.Core.Path.{_≡_, refl, sym, ap, _∙_}
-use mathlib.Core.Bool.{Bool, true, false, cond, not, _&&_, _||_}
+use mathlib.Core.Bool.{true, false, cond, not, _&&_}
 use mathlib.Core.List.{List, [], _∷_, _++_, map}
-use Prim.Native.Nat.{ℕ, zero, suc, _+_, _*_, _≤_, _<_}
+use Prim.Native.Nat.{ℕ, suc, _+_, _*_, _≤_, _<_}
 use native.Mathlib.Omega.{arith}
 use borrow.Author.Tests.{ltb-false, eqb-true}
 use lib.Dec.{eqb, ltb, leb}
@@ -12,18 +12,18 @@ use Rattle.rules.specs.declared.Counts.{Counts}
 use Rattle.rules.specs.declared.Mode.the-variants.{One}
 use Rattle.rules.specs.declared.Name.{Name}
 use Rattle.rules.specs.declared.Name.the-variants.{Msh, Pid, Pv1, Spm, Obr, Orc, Obx, Other}
-use Rattle.rules.specs.Told.{Told, gives, refused, accepted, refuse_if_else_, _>>_}
-use Rattle.rules.specs.Lists.{bytes, empty, nth, starts, all, any, count, has, split, allButLast, last, ended}
+use Rattle.rules.specs.Told.{Told, gives, refused, accepted, _>>_}
+use Rattle.rules.specs.Lists.{bytes, empty, nth, starts, all, any, count, has, split, last, ended}
 use Rattle.rules.specs.Shift.{step, isOne, walk, mark, marks, keeps, met}
 use Rattle.rules.specs.Frame.{delimsOk, headerOk, delimsOf, segments, segmentsOk, knownNames, spelling, nameAmong, nameOf, is, knownFrom, known, after, orderFault}
 use Rattle.rules.specs.Places.{places}
 use Rattle.rules.specs.View.{partOf, Segment, segmentOf, View, view}
 use Rattle.rules.specs.Check.{partsTold, orderAfter, placesTold, namesOf, countsTold, viewTold, frameTold, checkTold}
-use Rattle.rules.specs.Row.{lines, Row, groupOf, values, rowOf, rowsFrom, rowsOf}
-use Rattle.rules.specs.Sheet.{linesText, rowLines, sheetOf, nextGroups, good, valid}
+use Rattle.rules.specs.Row.{lines, Row, rowOf, rowsFrom, rowsOf}
+use Rattle.rules.specs.Sheet.{linesText, rowLines, sheetOf, nextGroups, valid}
 use Rattle.rules.proofs.Logic.{cases, never, both, not-true, not-false, guard}
-use Rattle.rules.proofs.Lists.{starts-eq, any-first}
-use Rattle.rules.proofs.Split.{front, later, frees, split-free, ended-append, ended-lines}
+use Rattle.rules.proofs.Lists.{starts-eq}
+use Rattle.rules.proofs.Split.{frees, split-free, ended-append, ended-lines}
 use Rattle.rules.proofs.Modes.{length-marks, met-append}
 use Rattle.returns.proofs.General.{inNames, name-is, in-all, not-given, split-frees, butLast-frees}
 use Rattle.returns.proofs.Clean.{Clean, Cleans, clean-keeps, end-0D, ended-cleans}

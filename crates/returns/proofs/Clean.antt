@@ -1,6 +1,6 @@
 -- Texts that keep the shift rule by themselves: the rule with an end that is allowed anyway (20) allows no other byte. Assumes nothing.
-use mathlib.Core.Path.{_≡_, refl, sym, ap, _∙_}
-use mathlib.Core.Bool.{Bool, true, false, cond, not, _&&_, _||_}
+use mathlib.Core.Path.{_≡_, refl, _∙_}
+use mathlib.Core.Bool.{true, false, cond, not}
 use mathlib.Core.List.{List, [], _∷_, _++_, map}
 use Prim.Native.Nat.{ℕ}
 use native.Mathlib.Omega.{arith}
@@ -53,10 +53,6 @@ walk-any end m (b ∷ s) h = rw (agree end m b (not-bad 0x20 (step 0x20 m b) s h
 pub clean-keeps : (end : ℕ) (s : List ℕ) → Clean s → keeps end s ≡ true
 unfolding keeps isOne
 clean-keeps end s h = rw (walk-any end One s h)
-
-pub keeps-clean : (s : List ℕ) → keeps 0x20 s ≡ true → Clean s
-unfolding keeps
-keeps-clean s h = one-is (walk 0x20 One s) h
 
 pub clean-append : (a b : List ℕ) → Clean a → Clean b → Clean (a ++ b)
 clean-append a b h k = rw (walk-append, h) k

@@ -1,13 +1,12 @@
 -- The closed fields PID-5 and OBX-5 as they are written, and so PID and OBX. Assumes nothing.
-use mathlib.Core.Path.{_≡_, refl, sym, ap, _∙_}
+use mathlib.Core.Path.{_≡_, refl, sym, _∙_}
 use mathlib.Core.Bool.{Bool, true, false, cond, not, _&&_, _||_}
-use mathlib.Core.List.{List, [], _∷_, _++_, map, append-nil}
+use mathlib.Core.List.{List, [], _∷_, _++_, append-nil}
 use Prim.Native.Nat.{ℕ}
 use lib.Dec.{ltb}
 use lib.ListN.{length}
 use Rattle.rules.specs.declared.Delims.{Delims}
 use Rattle.rules.specs.declared.Name.the-variants.{Pid, Obx}
-use Rattle.rules.specs.Told.{_then_, _when_}
 use Rattle.rules.specs.Lists.{bytes, empty, filled, same, has, any, all, split, isOneOf}
 use Rattle.rules.specs.Shift.{marks, mark, met, isOne, step}
 use Rattle.rules.specs.Escape.{unescape, escape, escapeMet, unescapeAt}
@@ -15,15 +14,15 @@ use Rattle.rules.specs.Value.{Rule, fault, tooLong, holds, words, text, fits}
 use Rattle.rules.specs.Places.{Four, valueRules}
 use Rattle.rules.specs.View.{componentOf}
 use Rattle.rules.specs.Judge.{unescapedOr, plainOf, faultOr23, judge, firstMarked, kanji, kana, nameFault, namesFault, isSN, rawFour, beside, unjoined, partsFault, valueFault, agrees}
-use Rattle.rules.specs.Row.{lines, Row, patient, result}
-use Rattle.rules.specs.Message.{composed, nameText, namesText, valueText, piecesOf}
+use Rattle.rules.specs.Row.{lines, patient, result}
+use Rattle.rules.specs.Message.{nameText, namesText, valueText, piecesOf}
 use Rattle.rules.proofs.Logic.{cases, never, both, neither, not-true, not-false}
 use Rattle.rules.proofs.Lists.{empty-is}
 use Rattle.rules.proofs.Split.{split-none, split-next}
 use Rattle.rules.proofs.Modes.{met-append}
 use Rattle.returns.proofs.Clean.{Clean, Cleans, clean-keeps, clean-append}
 use Rattle.returns.proofs.Escaped.{Proper, plainByte, escaped-back, escaped-empty, escaped-null}
-use Rattle.returns.proofs.Fields.{Ok, Oks, last, next, also, end, FieldIs, escaped, plain, nothing, single, several, value-in, judge-in, component-is, field-at, ok-cons, has-neither}
+use Rattle.returns.proofs.Fields.{Ok, last, next, also, end, FieldIs, escaped, plain, nothing, single, several, value-in, judge-in, component-is, field-at, ok-cons, has-neither}
 use Rattle.returns.proofs.Groups.{Keeps, no-fault, filled-must, Facts}
 use Rattle.returns.proofs.Segments.{tables, Says, seen, pieceAt, read-value, wordOk, countOk, blankOk}
 

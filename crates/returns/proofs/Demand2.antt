@@ -1,31 +1,29 @@
 -- The claims of demand 2, proved. Assumes nothing.
-use mathlib.Core.Path.{_≡_, refl, sym, ap, _∙_}
-use mathlib.Core.Bool.{Bool, true, false, cond, not, _&&_, _||_}
+use mathlib.Core.Path.{_≡_, refl, sym, _∙_}
+use mathlib.Core.Bool.{true, cond, _||_}
 use mathlib.Core.List.{List, [], _∷_, _++_}
-use Prim.Native.Nat.{ℕ, zero, suc, _+_, _≤_, _<_}
+use Prim.Native.Nat.{ℕ, _+_}
 use Prim.Native.String.{String}
 use native.Mathlib.Omega.{arith}
-use borrow.Author.Tests.{ltb-false, le-ltb}
-use lib.Dec.{ltb, leb}
+use borrow.Author.Tests.{le-ltb}
+use lib.Dec.{ltb}
 use lib.ListN.{length, take, drop}
 use Rattle.rules.specs.declared.Delims.{Delims}
-use Rattle.rules.specs.declared.Counts.{Counts}
 use Rattle.rules.specs.declared.Name.{Name}
-use Rattle.rules.specs.declared.Name.the-variants.{Spm, Obr, Obx, Other}
-use Rattle.rules.specs.declared.Written.{Written}
-use Rattle.rules.specs.declared.Written.the-variants.{Wrote, NotWritten}
-use Rattle.rules.specs.Told.{Told, gives, refused, accepted, refuse_if_else_, _>>_, _>>=_, toldLength, over, lengthOf}
+use Rattle.rules.specs.declared.Name.the-variants.{Spm, Obr, Obx}
+use Rattle.rules.specs.declared.Written.the-variants.{Wrote}
+use Rattle.rules.specs.Told.{Told, gives, refused, accepted, lengthOf}
 use Rattle.rules.specs.Lists.{bytes, starts, all, any, has, distinct, count}
-use Rattle.rules.specs.Frame.{delimsOk, segments, is}
+use Rattle.rules.specs.Frame.{delimsOk, is}
 use Rattle.rules.specs.View.{view}
 use Rattle.rules.specs.Check.{checkTold}
 use Rattle.rules.specs.Row.{line, lines, Row, header, patient, visit, specimen, order, result, groupOf, values, rowsOf}
-use Rattle.rules.specs.Sheet.{keyOf, linesText, rowLines, sheetOf, linesOf, readSheet, sheetTold, toSheet}
+use Rattle.rules.specs.Sheet.{keyOf, linesText, rowLines, sheetOf, readSheet, sheetTold, toSheet}
 use Rattle.rules.specs.Message.{base, written, messageOf, messageTold, toMessage}
 use Rattle.rules.proofs.Logic.{cases, toldCases, guard}
 use Rattle.rules.proofs.Lists.{take-own}
 use Rattle.rules.proofs.Unique.{length-unique}
-use Rattle.returns.specs.Demand2.{toMessageBy, linesWith, countsOf, Only44Or45, given, overflow, short, SheetIsWritten, Returned, SheetReturns, Turned, MessageReturns, Call, SheetCalls, MessageCalls}
+use Rattle.returns.specs.Demand2.{toMessageBy, linesWith, countsOf, Only44Or45, given, overflow, short, SheetIsWritten, SheetReturns, MessageReturns, Call, SheetCalls, MessageCalls}
 use Rattle.returns.proofs.General.{not-given}
 use Rattle.returns.proofs.Messages.{counted, rows-return}
 use Rattle.returns.proofs.Sheets.{SheetIs, sheet-is, sheet-read}
@@ -33,48 +31,36 @@ use Rattle.returns.proofs.Accepts.{wrote, segments-short, message-accep
 use Rattle.returns.proofs.Again.{rows-of-accepted}
 
 -- ---- the counts of a sheet's lines are those of its rows
--- in each row, one line begins with the first key of its group, and no other with that of a specimen, an order or a result
-one-line : (key : String) (g : Name) → ((r : Row) (ts : List (List ℕ)) → count (starts (bytes key)) (linesText (lines (groupOf r)) (values r) ++ ts) ≡ cond (is g (groupOf r)) 1 0 + count (starts (bytes key)) ts)
-    → (rows : List Row) → count (starts (bytes key)) (rowLines rows) ≡ counted g rows
-unfolding rowLines count
-one-line key g h [] = refl
-one-line key g h (r ∷ rs) = rw (h r (rowLines rs), one-line key g h rs)
+abbrev begins : String → List (List ℕ) → ℕ
+begins key ts = count (starts (bytes key)) ts
 
--- to unfold this name is to see which of a row's lines begin with a key
-unfoldable keyed : Unit {0}
+-- a row of the group g has one line that begins with the key, and other rows have none
+abbrev OneLine : String → Name → Row → List (List ℕ) → Type 0
+OneLine key g r ts = begins key (linesText (lines (groupOf r)) (values r) ++ ts) ≡ cond (is g (groupOf r)) 1 0 + begins key ts
+
+one-line : (r : Row) (ts : List (List ℕ)) → OneLine "specimen=" Spm r ts × OneLine "order=" Obr r ts × OneLine "item=" Obx r ts
 unfolding count starts bytes linesText lines line keyOf values
-keyed = tt
+one-line (header a b c) ts = (omega arith, omega arith, omega arith)
+one-line (patient a b c d e f g) ts = (omega arith, omega arith, omega arith)
+one-line (visit a) ts = (omega arith, omega arith, omega arith)
+one-line (specimen a b) ts = (omega arith, omega arith, omega arith)
+one-line (order a b) ts = (omega arith, omega arith, omega arith)
+one-line (result a b c d e f g h k l) ts = (omega arith, omega arith, omega arith)
 
-spm-lines : (r : Row) (ts : List (List ℕ)) → count (starts (bytes "specimen=")) (linesText (lines (groupOf r)) (values r) ++ ts) ≡ cond (is Spm (groupOf r)) 1 0 + count (starts (bytes "specimen=")) ts
-unfolding keyed
-spm-lines (header a b c) ts = omega arith
-spm-lines (patient a b c d e f g) ts = omega arith
-spm-lines (visit a) ts = omega arith
-spm-lines (specimen a b) ts = omega arith
-spm-lines (order a b) ts = omega arith
-spm-lines (result a b c d e f g h k l) ts = omega arith
-
-obr-lines : (r : Row) (ts : List (List ℕ)) → count (starts (bytes "order=")) (linesText (lines (groupOf r)) (values r) ++ ts) ≡ cond (is Obr (groupOf r)) 1 0 + count (starts (bytes "order=")) ts
-unfolding keyed
-obr-lines (header a b c) ts = omega arith
-obr-lines (patient a b c d e f g) ts = omega arith
-obr-lines (visit a) ts = omega arith
-obr-lines (specimen a b) ts = omega arith
-obr-lines (order a b) ts = omega arith
-obr-lines (result a b c d e f g h k l) ts = omega arith
-
-obx-lines : (r : Row) (ts : List (List ℕ)) → count (starts (bytes "item=")) (linesText (lines (groupOf r)) (values r) ++ ts) ≡ cond (is Obx (groupOf r)) 1 0 + count (starts (bytes "item=")) ts
-unfolding keyed
-obx-lines (header a b c) ts = omega arith
-obx-lines (patient a b c d e f g) ts = omega arith
-obx-lines (visit a) ts = omega arith
-obx-lines (specimen a b) ts = omega arith
-obx-lines (order a b) ts = omega arith
-obx-lines (result a b c d e f g h k l) ts = omega arith
+lines-counted : (key : String) (g : Name) → ((r : Row) (ts : List (List ℕ)) → OneLine key g r ts) → (rows : List Row) → begins key (rowLines rows) ≡ counted g rows
+unfolding rowLines count
+lines-counted key g h [] = refl
+lines-counted key g h (r ∷ rs) = rw (h r (rowLines rs), lines-counted key g h rs)
 
 counts-of : (s : List ℕ) (rows : List Row) → SheetIs s rows → countsOf s ≡ accepted (counted Spm rows) (counted Obr rows) (counted Obx rows)
 unfolding countsOf linesWith
-counts-of s rows S = rw (S .lines, one-line "specimen=" Spm spm-lines rows, one-line "order=" Obr obr-lines rows, one-line "item=" Obx obx-lines rows)
+counts-of s rows S =
+    rw (
+      S .lines,
+      lines-counted "specimen=" Spm (λ r ts. one-line r ts .0) rows,
+      lines-counted "order=" Obr (λ r ts. one-line r ts .1) rows,
+      lines-counted "item=" Obx (λ r ts. one-line r ts .2) rows,
+    )
 
 -- ---- from a sheet
 told-only : (d : Delims) (rows : List Row) (room : ℕ) → Only44Or45 (messageTold d rows room)
@@ -134,7 +120,7 @@ pub base-ok : delimsOk base ≡ true
 unfolding delimsOk base all has any bytes distinct
 base-ok = refl
 
-by-base : (s : List ℕ) (room : ℕ) → toMessageBy base s room ≡ toMessage s room
+pub by-base : (s : List ℕ) (room : ℕ) → toMessageBy base s room ≡ toMessage s room
 unfolding toMessage toMessageBy
 by-base s room = refl
 

@@ -1,8 +1,8 @@
 -- A text that is escaped: it keeps the shift rule, holds no separator, is unescaped to itself, and is at most three times as long. Over any
 -- five delimiters that the header rule allows. Assumes nothing.
-use mathlib.Core.Path.{_≡_, refl, sym, ap, _∙_}
-use mathlib.Core.Bool.{Bool, true, false, cond, not, _&&_, _||_}
-use mathlib.Core.List.{List, [], _∷_, _++_}
+use mathlib.Core.Path.{_≡_, refl, ap, _∙_}
+use mathlib.Core.Bool.{Bool, true, false, not, _&&_}
+use mathlib.Core.List.{List, [], _∷_}
 use mathlib.Core.Option.{none, some}
 use Prim.Native.Nat.{ℕ, _+_, _-_, _*_, _≤_, _<_}
 use native.Mathlib.Omega.{arith}
@@ -15,9 +15,9 @@ use Rattle.rules.specs.declared.Mode.the-variants.{One, Bad}
 use Rattle.rules.specs.Lists.{bytes, empty, same, has, any, all, distinct}
 use Rattle.rules.specs.Shift.{step, isOne, walk, mark, marks, met, byteOf}
 use Rattle.rules.specs.Frame.{fiveOf, delimsOk}
-use Rattle.rules.specs.Escape.{Letter, letters, meaning, letterFor, plain, opened, named, push, unescapeAt, unescape, escapeMet, escape}
+use Rattle.rules.specs.Escape.{Letter, letters, meaning, letterFor, plain, push, unescapeAt, unescape, escapeMet, escape}
 use Rattle.rules.proofs.Logic.{cases, optionCases, never, both, not-true, eqb-self, eqb-sym}
-use Rattle.rules.proofs.Lists.{same-eq, same-self, all-first, has-first, has-nil, has-there}
+use Rattle.rules.proofs.Lists.{same-eq, same-self, all-first, has-first}
 use Rattle.rules.proofs.Modes.{one-is, walk-step, length-marks}
 use Rattle.returns.proofs.General.{in-all}
 use Rattle.returns.proofs.Clean.{Clean, not-bad, agree, stays, met-cons, clean-cons}
@@ -37,10 +37,10 @@ module _ (x : ℕ) (h : Delim x) where
   delim-small = ltb-true x 256 (in-all (λ (b : ℕ). ltb b 256) x twelve h (unfold all bytes in refl))
 
   -- no other byte is one
-  pub delim-ne : (b : ℕ) → has b twelve ≡ false → eqb b x ≡ false
+  delim-ne : (b : ℕ) → has b twelve ≡ false → eqb b x ≡ false
   delim-ne b n = ne-eqb b x (λ e. never (cc (ap (λ (y : ℕ). has y twelve) e)))
 
-  pub delim-far : (b : ℕ) → eqb (256 + b) x ≡ false
+  delim-far : (b : ℕ) → eqb (256 + b) x ≡ false
   delim-far b = ne-eqb (256 + b) x (λ e. omega (arith, delim-small))
 
 -- ---- "five different delimiters": what the laws use of them
@@ -97,7 +97,7 @@ proper d h =
 unfoldable pub plainByte : ℕ → Bool
 plainByte b = isOne (step 0x20 One b) && not (has b twelve)
 
-pub plain-one : (b : ℕ) → plainByte b ≡ true → (step 0x20 One b ≡ One) × (has b twelve ≡ false)
+plain-one : (b : ℕ) → plainByte b ≡ true → (step 0x20 One b ≡ One) × (has b twelve ≡ false)
 unfolding plainByte
 plain-one b h =
     let p = both (isOne (step 0x20 One b)) (not (has b twelve)) h in

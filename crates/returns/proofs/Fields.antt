@@ -1,13 +1,12 @@
 -- Components, fields and segments as they are written, and what is seen of them. Assumes nothing.
-use mathlib.Core.Path.{_≡_, refl, sym, ap, _∙_}
-use mathlib.Core.Bool.{Bool, true, false, cond, not, _&&_, _||_}
+use mathlib.Core.Path.{_≡_, refl, _∙_}
+use mathlib.Core.Bool.{Bool, true, false, not}
 use mathlib.Core.List.{List, [], _∷_, _++_, map}
 use mathlib.Core.Option.{some}
 use Prim.Native.Nat.{ℕ, zero, suc, _-_}
 use lib.Dec.{eqb}
 use Rattle.rules.specs.declared.Delims.{Delims}
 use Rattle.rules.specs.declared.Name.{Name}
-use Rattle.rules.specs.Told.{_then_, _when_}
 use Rattle.rules.specs.Lists.{bytes, empty, same, has, all, split, led, join, nth}
 use Rattle.rules.specs.Shift.{met}
 use Rattle.rules.specs.Escape.{unescape, escape}

@@ -1,18 +1,18 @@
 -- Laws of general use that lower crates may take over: of modes and names by cases, of pieces, of measured lists. Assumes nothing.
 use mathlib.Core.Path.{_≡_, refl, sym, ap, _∙_}
-use mathlib.Core.Bool.{Bool, true, false, cond, not, _&&_, _||_}
+use mathlib.Core.Bool.{Bool, true, false, not, _||_}
 use mathlib.Core.List.{List, [], _∷_, _++_}
 use mathlib.Core.Option.{none, some}
-use Prim.Native.Nat.{ℕ, zero, suc, _+_, _-_, _≤_, _<_}
+use Prim.Native.Nat.{ℕ, zero, suc, _+_, _≤_, _<_}
 use native.Mathlib.Omega.{arith}
 use borrow.Author.Tests.{eqb-true, eqb-false}
 use lib.Dec.{eqb}
-use lib.ListN.{length, getD}
+use lib.ListN.{getD}
 use Rattle.rules.specs.declared.Mode.{Mode}
 use Rattle.rules.specs.declared.Mode.the-variants.{One, Esc1, Esc2, Two, Second, Back1, Back2, Bad}
 use Rattle.rules.specs.declared.Name.{Name}
 use Rattle.rules.specs.declared.Name.the-variants.{Msh, Pid, Pv1, Spm, Obr, Orc, Obx, Other}
-use Rattle.rules.specs.Told.{Told, gives, refused}
+use Rattle.rules.specs.Told.{gives, refused}
 use Rattle.rules.specs.Frame.{rank, is}
 use Rattle.rules.specs.Lists.{same, all, any, has, onto, split, allButLast}
 use Rattle.rules.proofs.Logic.{cases, never, both}

@@ -1,21 +1,20 @@
 -- The written message as a whole: its segments, its view, its rows, its order and its counts. Assumes nothing.
-use mathlib.Core.Path.{_≡_, refl, sym, ap, _∙_}
-use mathlib.Core.Bool.{Bool, true, false, cond, not, _&&_, _||_}
+use mathlib.Core.Path.{_≡_, refl, sym, _∙_}
+use mathlib.Core.Bool.{true, false, cond, _&&_}
 use mathlib.Core.List.{List, [], _∷_, _++_, map}
-use Prim.Native.Nat.{ℕ, zero, suc, _+_, _≤_}
+use Prim.Native.Nat.{ℕ, suc, _+_}
 use native.Mathlib.Omega.{arith}
 use borrow.Author.Tests.{le-leb}
-use lib.Dec.{eqb, leb}
 use lib.ListN.{length}
 use Rattle.rules.specs.declared.Delims.{Delims}
 use Rattle.rules.specs.declared.Name.{Name}
-use Rattle.rules.specs.declared.Name.the-variants.{Msh, Pid, Pv1, Spm, Obr, Orc, Obx, Other}
-use Rattle.rules.specs.Told.{gives, accepted, _>>_}
-use Rattle.rules.specs.Lists.{bytes, empty, starts, any, count, split, allButLast, last, led, join, ended}
+use Rattle.rules.specs.declared.Name.the-variants.{Spm, Obr, Orc, Obx, Other}
+use Rattle.rules.specs.Told.{gives, accepted}
+use Rattle.rules.specs.Lists.{bytes, empty, starts, any, count, split, last, led, join, ended}
 use Rattle.rules.specs.Shift.{keeps}
 use Rattle.rules.specs.Frame.{delimsOk, headerOk, delimsOf, segments, nameOk, capital, capitalOrDigit, knownNames, spelling, nameAmong, nameOf, is, knownFrom, known, after, orderFault}
 use Rattle.rules.specs.Places.{places}
-use Rattle.rules.specs.View.{partOf, Segment, segmentOf, View, view}
+use Rattle.rules.specs.View.{partOf, Segment, segmentOf, view}
 use Rattle.rules.specs.Check.{partsTold, placesTold, countsTold, viewTold}
 use Rattle.rules.specs.Row.{lines, Row, header, patient, visit, specimen, order, result, groupOf, values, rowsFrom, rowsOf}
 use Rattle.rules.specs.Sheet.{nextGroups, good, valid}
@@ -27,7 +26,7 @@ use Rattle.returns.proofs.Clean.{Cleans, cleans-free, cleans-ended, end
 use Rattle.returns.proofs.Escaped.{Proper, proper}
 use Rattle.returns.proofs.Fields.{segment-clean}
 use Rattle.returns.proofs.Groups.{Facts, facts}
-use Rattle.returns.proofs.Segments.{Says, Said, none, more, knownAs, meets, spm, pv1, obr, orc, msh}
+use Rattle.returns.proofs.Segments.{Said, none, more, knownAs, meets, spm, pv1, obr, orc, msh}
 use Rattle.returns.proofs.Closed.{pid, obx}
 
 -- ---- rows: the first of them and the rest
@@ -60,7 +59,7 @@ module _ (d : Delims) (p : Proper d) where
   row-said (order x1 x2) i j rs qs F C D ord = more (obr d p i j x1 x2 ord F C) (more (orc d p i j x1 x2 F C) (D x1))
   row-said (result x1 x2 x3 x4 x5 x6 x7 x8 x9 x10) i j rs qs F C D ord = more (obx d p i j x1 x2 x3 x4 x5 x6 x7 x8 x9 x10 ord F C) (D ord)
 
-  pub said : (a : Name) (i j : ℕ) (rows : List Row) → valid a rows ≡ true → Tidy rows → (ord : List ℕ) → Said d ord (pieces d i j rows) rows
+  said : (a : Name) (i j : ℕ) (rows : List Row) → valid a rows ≡ true → Tidy rows → (ord : List ℕ) → Said d ord (pieces d i j rows) rows
   unfolding pieces
   said a i j [] v t ord = none
   said a i j (r ∷ rs) v t ord =
@@ -119,7 +118,7 @@ name-ok d n fs =
     (λ h. t 79 66 82 fs refl) (λ h. t 79 82 67 fs refl) (λ h. t 79 66 88 fs refl) (λ h. never h) n
 
 -- ---- the segments as they are seen
-unfoldable pub segsFrom : Delims → ℕ → List Piece → List Segment
+unfoldable segsFrom : Delims → ℕ → List Piece → List Segment
 segsFrom d at [] = []
 segsFrom d at (q ∷ qs) = segmentOf d (knownAs d at q) ∷ segsFrom d (at + suc (length (segmentText d q))) qs
 

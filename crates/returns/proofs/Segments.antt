@@ -1,6 +1,6 @@
 -- Each segment as it is written: it says its row, and no part of it is at fault. Assumes nothing.
-use mathlib.Core.Path.{_≡_, refl, sym, ap, _∙_}
-use mathlib.Core.Bool.{Bool, true, false, cond, not, _&&_, _||_}
+use mathlib.Core.Path.{_≡_, refl, _∙_}
+use mathlib.Core.Bool.{true, false}
 use mathlib.Core.List.{List, [], _∷_, _++_, map}
 use Prim.Native.Nat.{ℕ, zero, suc, _+_, _-_, _/_, _%_, _<_}
 use native.Mathlib.Nat.{mod-lt}
@@ -9,13 +9,12 @@ use borrow.Author.Tests.{ltb-true}
 use lib.Dec.{ltb}
 use lib.ListN.{getD}
 use Rattle.rules.specs.declared.Delims.{Delims}
-use Rattle.rules.specs.declared.Name.{Name}
 use Rattle.rules.specs.declared.Name.the-variants.{Msh, Pv1, Spm, Obr, Orc, Other}
-use Rattle.rules.specs.Told.{gives, _>>_, _then_, _when_}
+use Rattle.rules.specs.Told.{gives}
 use Rattle.rules.specs.Lists.{bytes, empty, same, has, any, all, split, onto, nth, isOneOf}
 use Rattle.rules.specs.Shift.{step, isOne, mark, marks, met}
 use Rattle.rules.specs.Escape.{escape}
-use Rattle.rules.specs.Value.{fault, tooLong, holds, fits}
+use Rattle.rules.specs.Value.{fault, tooLong, holds}
 use Rattle.rules.specs.Frame.{spelling, Known, is}
 use Rattle.rules.specs.Places.{Place, Field, reads, closed, places, entryIn, entryOf}
 use Rattle.rules.specs.View.{pieceOf, fieldOf, componentOf, firstRepetition, seenIn, partOf, Segment, segmentOf, Part, whole, seenAt, partAt}

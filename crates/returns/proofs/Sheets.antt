@@ -1,28 +1,28 @@
 -- A sheet that is read is the sheet of its rows, and the rows are valid; valid rows are read back from their sheet. Assumes nothing.
 use mathlib.Core.Path.{_≡_, refl, sym, ap, _∙_}
-use mathlib.Core.Bool.{Bool, true, false, cond, not, _&&_, _||_}
+use mathlib.Core.Bool.{true, false, not, _&&_}
 use mathlib.Core.List.{List, [], _∷_, _++_, map, append-assoc, append-nil}
-use Prim.Native.Nat.{ℕ, zero, suc, _+_, _≤_, _<_}
+use Prim.Native.Nat.{ℕ, suc, _≤_, _<_}
 use native.Mathlib.Omega.{arith}
-use borrow.Author.Tests.{ltb-false, le-ltb}
-use lib.Dec.{eqb, ltb}
-use lib.ListN.{length, getD, drop}
+use borrow.Author.Tests.{le-ltb}
+use lib.Dec.{ltb}
+use lib.ListN.{length, drop}
 use Rattle.rules.specs.declared.Name.{Name}
 use Rattle.rules.specs.declared.Name.the-variants.{Msh, Pid, Pv1, Spm, Obr, Orc, Obx, Other}
 use Rattle.rules.specs.Told.{gives, refused, _>>=_}
-use Rattle.rules.specs.Lists.{bytes, empty, same, starts, any, onto, split, allButLast, last, ended, nth, isOneOf}
+use Rattle.rules.specs.Lists.{bytes, empty, starts, any, onto, split, last, ended, nth, isOneOf}
 use Rattle.rules.specs.Shift.{step, walk, keeps}
 use Rattle.rules.specs.Frame.{is, rank}
-use Rattle.rules.specs.Value.{fault, holds, words}
+use Rattle.rules.specs.Value.{holds, words}
 use Rattle.rules.specs.Row.{Line, line, lines, Row, header, patient, visit, specimen, order, result, groupOf, values, rowOf}
 use Rattle.rules.specs.Sheet.{keyOf, linesText, rowLines, sheetOf, lineOk, lineTold, nextGroups, opens, openedBy, rowsTold, linesOf, readSheet, good, valid}
 use Rattle.rules.proofs.Logic.{cases, toldCases, never, both, not-false, guard, eqb-sym, eqb-self}
-use Rattle.rules.proofs.Lists.{any-cons, same-eq, starts-eq, starts-own, drop-own, from, exactly}
+use Rattle.rules.proofs.Lists.{any-cons, starts-eq, starts-own, drop-own, from, exactly}
 use Rattle.rules.proofs.Split.{frees, ended-lines, split-ended, butLast-snoc, last-snoc}
 use Rattle.returns.proofs.General.{inNames, name-is, listCases, not-given, one-word, split-frees, butLast-frees}
 use Rattle.returns.proofs.Clean.{Cleans, clean-append, clean-rest, cleans-append, cleans-parts, end-0A, cleans-free, ended-cleans, cleans-ended}
 use Rattle.returns.proofs.Groups.{facts, must-filled, meets-rule}
-use Rattle.returns.proofs.Messages.{First, first, Tidy}
+use Rattle.returns.proofs.Messages.{first, Tidy}
 
 abbrev keys : List Line → List (List ℕ)
 keys ls = map keyOf ls

@@ -1,25 +1,25 @@
 -- A written segment stays under 850 bytes: the rules bound the values, and only a text is escaped, to three bytes for one. Assumes nothing.
-use mathlib.Core.Path.{_≡_, refl, sym, ap, _∙_}
+use mathlib.Core.Path.{_≡_, refl}
 use mathlib.Core.Bool.{Bool, true, false, cond, not, _&&_, _||_}
 use mathlib.Core.List.{List, [], _∷_, _++_}
-use Prim.Native.Nat.{ℕ, zero, suc, _+_, _*_, _/_, _%_, _≤_, _<_}
+use Prim.Native.Nat.{ℕ, zero, suc, _+_, _*_, _/_, _≤_, _<_}
 use native.Mathlib.Nat.{div-lt-iff-lt-mul}
 use native.Mathlib.Omega.{arith}
-use borrow.Author.Tests.{ltb-true, ltb-false, leb-true, eqb-true}
+use borrow.Author.Tests.{ltb-false, leb-true, eqb-true}
 use lib.Dec.{eqb, ltb, leb}
 use lib.ListN.{length, length-append}
 use Rattle.rules.specs.declared.Delims.{Delims}
 use Rattle.rules.specs.declared.Name.{Name}
 use Rattle.rules.specs.declared.Name.the-variants.{Spm, Obr, Obx}
-use Rattle.rules.specs.Lists.{bytes, empty, filled, same, any, all, split, onto, led, join, isOneOf}
+use Rattle.rules.specs.Lists.{bytes, empty, filled, same, all, split, onto, join, isOneOf}
 use Rattle.rules.specs.Shift.{marks, met}
 use Rattle.rules.specs.Frame.{capitalOrDigit, spelling, is}
 use Rattle.rules.specs.Value.{Rule, time, date, number, text, digits, capitals, words, digitsOk, dayOk, clockOk, holds, tooLong, fits}
 use Rattle.rules.specs.Escape.{escape, escapeMet}
-use Rattle.rules.specs.Places.{places, entryIn, entryOf, valueRules, Four}
-use Rattle.rules.specs.Judge.{isSN, unjoined, beside, agrees}
+use Rattle.rules.specs.Places.{places, entryIn, entryOf, valueRules}
+use Rattle.rules.specs.Judge.{isSN}
 use Rattle.rules.specs.Row.{line, lines, fourAt, Row, header, patient, visit, specimen, order, result, groupOf, values}
-use Rattle.rules.specs.Sheet.{good, valid}
+use Rattle.rules.specs.Sheet.{valid}
 use Rattle.rules.specs.Message.{composed, blanks, encoding, decimal, decimalTo, nameText, namesText, valueText, Piece, piecesOf, specimens, results, pieces, segmentText}
 use Rattle.rules.proofs.Logic.{cases, both}
 use Rattle.rules.proofs.Lists.{empty-is}

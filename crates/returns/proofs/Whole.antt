@@ -1,8 +1,8 @@
 -- Any message: its pieces each keep the shift rule by themselves, and what is unescaped of one keeps it, is no longer, and is "" only where
 -- the piece is. Assumes nothing.
 use mathlib.Core.Path.{_≡_, refl, sym, ap, _∙_}
-use mathlib.Core.Bool.{Bool, true, false, cond, not, _&&_, _||_}
-use mathlib.Core.List.{List, [], _∷_, _++_, map}
+use mathlib.Core.Bool.{Bool, true, false}
+use mathlib.Core.List.{List, [], _∷_, map}
 use mathlib.Core.Option.{Option, none, some}
 use Prim.Native.Nat.{ℕ, zero, suc, _≤_}
 use native.Mathlib.Omega.{arith}
@@ -12,10 +12,10 @@ use lib.ListN.{length}
 use Rattle.rules.specs.declared.Delims.{Delims}
 use Rattle.rules.specs.declared.Mode.{Mode}
 use Rattle.rules.specs.declared.Mode.the-variants.{One, Bad}
-use Rattle.rules.specs.Told.{_then_, _when_}
+use Rattle.rules.specs.Told.{_when_}
 use Rattle.rules.specs.Lists.{bytes, empty, same, has, any, split, onto, nth}
 use Rattle.rules.specs.Shift.{walk, isOne, step, mark, marks, met, byteOf}
-use Rattle.rules.specs.Value.{Rule, fault, fits}
+use Rattle.rules.specs.Value.{Rule, fault}
 use Rattle.rules.specs.Escape.{Letter, letters, meaning, At, plain, opened, named, push, unescapeAt, unescape}
 use Rattle.rules.specs.Judge.{unescapedOr, plainOf, faultOr23, judge}
 use Rattle.rules.proofs.Logic.{cases, optionCases, never, then-none, when-none}

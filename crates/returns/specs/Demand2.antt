@@ -1,7 +1,7 @@
 -- DEMAND 2, THE RETURN: "A sheet that is written and read returns byte for byte." What is claimed of the rules; proofs/Demand2.antt proves
 -- each claim, and nothing is assumed but what stands here.
 use mathlib.Core.Path.{_≡_}
-use mathlib.Core.Bool.{Bool, true}
+use mathlib.Core.Bool.{true}
 use mathlib.Core.List.{List, _++_}
 use Prim.Native.Nat.{ℕ, _≤_, _<_}
 use Prim.Native.String.{String}
