@@ -260,12 +260,28 @@ module _ (d : Delims) (p : Proper d) where
       let c11 = component-short d (fieldOf d k 11) 1 in
       let l11 : 1 ≤ length (nth (split (d .field) body) 11) = omega (arith, there f11) in
       record {
-        ok = (fi .keeps, (fn .keeps, (f2 .keeps, (
-          (F .c .keeps .0, rw (F .c .keeps .1)),
-          ((F .v .keeps .0, rw (must-may (beside R) (r .value) (plainOf d (R .value)) (F .v .keeps .1))),
-          ((F .j .keeps .0, rw (F .j .keeps .1)),
-          ((F .s .keeps .0, rw (F .s .keeps .1, plain-joined r R F) (value-there r R F)),
-          (f6 .keeps, (f8 .keeps, ((f11 .keeps .0, rw (f11 .keeps .1, plain-agrees r R F status, a)), tt))))))))));
+        ok = (
+          fi .keeps,
+          (
+            fn .keeps,
+            (
+              f2 .keeps,
+              (
+                (F .c .keeps .0, rw (F .c .keeps .1)),
+                (
+                  (F .v .keeps .0, rw (must-may (beside R) (r .value) (plainOf d (R .value)) (F .v .keeps .1))),
+                  (
+                    (F .j .keeps .0, rw (F .j .keeps .1)),
+                    (
+                      (F .s .keeps .0, rw (F .s .keeps .1, plain-joined r R F) (value-there r R F)),
+                      (f6 .keeps, (f8 .keeps, ((f11 .keeps .0, rw (f11 .keeps .1, plain-agrees r R F status, a)), tt))),
+                    ),
+                  ),
+                ),
+              ),
+            ),
+          ),
+        );
         tidy = (fi .clean, (fn .clean, (f2 .clean, (F .c .clean, (F .v .clean, (F .j .clean, (F .s .clean, (f6 .clean, (f8 .clean, (f11 .clean, tt))))))))));
         size = rw (lines-size (lines Obx) (sources d k))
             (omega (

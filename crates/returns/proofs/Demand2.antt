@@ -162,8 +162,7 @@ message-calls m out out′ back back′ n r C D =
     let T = message-returns m c h in
     let g = guard 45 0 0 (ltb (length out) (length (T .sheet))) (gives (T .sheet)) s (sym (T .given (length out)) ∙ e) in
     let q : take n out′ ≡ T .sheet = cc (g .1) in
-    let o : Only44Or45 (toMessage (take n out′) (length back)) = rw (q, ← by-base (T .sheet) (length back)) (sheet-is-written base (T .sheet) (T .rows) (length back) (T .read)) in
-    (
+    let o : Only44Or45 (toMessage (take n out′) (length back)) = rw (q, ← by-base (T .sheet) (length back)) (sheet-is-written base (T .sheet) (T .rows) (length back) (T .read)) in (
       rw (D .returns) (only-length (toMessage (take n out′) (length back)) o),
       λ k w.
           called (toMessage (take n out′)) k back back′ (rw w at D)

@@ -152,70 +152,80 @@ module _ (d : Delims) (p : Proper d) where
   row-short : (r : Row) (i j : ℕ) (qs : List Piece) → i < 1000 → j < 1000 → Facts (lines (groupOf r)) [] (values r) → Cleans (values r) → Short d qs → Short d (piecesOf d i j r ++ qs)
   unfolding piecesOf values blanks encoding lines line fourAt entryIn entryOf places total spelling bytes
   row-short (header mode sent control) i j qs hi hj F C S =
-      let q = piecesOf d i j (header mode sent control) in
-      (omega (
-        arith,
-        segment-total d (pieceAt q 0),
-        composed-total d (bytes "OUL") (bytes "R22" ∷ bytes "OUL_R22" ∷ []),
-        sized d p 1 true (words "P T D") mode (unfold bounded in refl) (C .1 .0) (F .1 .0 .1),
-        sized d p 14 true time sent (unfold bounded in refl) (C .1 .1 .0) (F .1 .1 .0 .1),
-        sized d p 60 true (text 20) control (unfold bounded in refl) (C .1 .1 .1 .0) (F .1 .1 .1 .0 .1),
-      ), S)
+      let q = piecesOf d i j (header mode sent control) in (
+        omega (
+          arith,
+          segment-total d (pieceAt q 0),
+          composed-total d (bytes "OUL") (bytes "R22" ∷ bytes "OUL_R22" ∷ []),
+          sized d p 1 true (words "P T D") mode (unfold bounded in refl) (C .1 .0) (F .1 .0 .1),
+          sized d p 14 true time sent (unfold bounded in refl) (C .1 .1 .0) (F .1 .1 .0 .1),
+          sized d p 60 true (text 20) control (unfold bounded in refl) (C .1 .1 .1 .0) (F .1 .1 .1 .0 .1),
+        ),
+        S,
+      )
   row-short (patient id f g kf kg birth sex) i j qs hi hj F C S =
       let Fk = F .1 .1 .1 in
       let Ck = C .1 .1 .1 in
       let kgk = both (fits false (text 48) kg) (filled kf || empty kg) (Fk .1 .0 .1) in
-      let t : (q : Bool) (v : List ℕ) → Clean v → fits q (text 48) v ≡ true → length (escape d v) ≤ 144 = λ q v. sized d p 144 q (text 48) v (unfold bounded in refl) in
-      (omega (
-        arith,
-        segment-total d (pieceAt (piecesOf d i j (patient id f g kf kg birth sex)) 0),
-        names-short f g kf kg (t true f (C .1 .0) (F .1 .0 .1)) (t false g (C .1 .1 .0) (F .1 .1 .0 .1)) (t false kf (Ck .0) (Fk .0 .1)) (t false kg (Ck .1 .0) (kgk .0)),
-        sized d p 60 true (text 20) id (unfold bounded in refl) (C .0) (F .0 .1),
-        sized d p 8 false date birth (unfold bounded in refl) (Ck .1 .1 .0) (Fk .1 .1 .0 .1),
-        sized d p 1 true (words "M F O U") sex (unfold bounded in refl) (Ck .1 .1 .1 .0) (Fk .1 .1 .1 .0 .1),
-      ), S)
+      let t : (q : Bool) (v : List ℕ) → Clean v → fits q (text 48) v ≡ true → length (escape d v) ≤ 144 = λ q v. sized d p 144 q (text 48) v (unfold bounded in refl) in (
+        omega (
+          arith,
+          segment-total d (pieceAt (piecesOf d i j (patient id f g kf kg birth sex)) 0),
+          names-short f g kf kg (t true f (C .1 .0) (F .1 .0 .1)) (t false g (C .1 .1 .0) (F .1 .1 .0 .1)) (t false kf (Ck .0) (Fk .0 .1)) (t false kg (Ck .1 .0) (kgk .0)),
+          sized d p 60 true (text 20) id (unfold bounded in refl) (C .0) (F .0 .1),
+          sized d p 8 false date birth (unfold bounded in refl) (Ck .1 .1 .0) (Fk .1 .1 .0 .1),
+          sized d p 1 true (words "M F O U") sex (unfold bounded in refl) (Ck .1 .1 .1 .0) (Fk .1 .1 .1 .0 .1),
+        ),
+        S,
+      )
   row-short (visit class) i j qs hi hj F C S =
       (omega (arith, segment-total d (pieceAt (piecesOf d i j (visit class)) 0), sized d p 1 true (words "I O") class (unfold bounded in refl) (C .0) (F .0 .1)), S)
-  row-short (specimen kind collected) i j qs hi hj F C S =
-      (omega (
-        arith,
-        segment-total d (pieceAt (piecesOf d i j (specimen kind collected)) 0),
-        composed-total d (escape d kind) ([] ∷ bytes "JC10" ∷ []),
-        decimal-short i hi,
-        sized d p 3 true (digits 3) kind (unfold bounded in refl) (C .0) (F .0 .1),
-        sized d p 14 true time collected (unfold bounded in refl) (C .1 .0) (F .1 .0 .1),
-      ), S)
+  row-short (specimen kind collected) i j qs hi hj F C S = (
+    omega (
+      arith,
+      segment-total d (pieceAt (piecesOf d i j (specimen kind collected)) 0),
+      composed-total d (escape d kind) ([] ∷ bytes "JC10" ∷ []),
+      decimal-short i hi,
+      sized d p 3 true (digits 3) kind (unfold bounded in refl) (C .0) (F .0 .1),
+      sized d p 14 true time collected (unfold bounded in refl) (C .1 .0) (F .1 .0 .1),
+    ),
+    S,
+  )
   row-short (order id group) i j qs hi hj F C S =
-      let l = sized d p 15 true (digits 15) id (unfold bounded in refl) (C .0) (F .0 .1) in
-      (omega (
-        arith,
-        segment-total d (pieceAt (piecesOf d i j (order id group)) 0),
-        composed-total d (escape d group) ([] ∷ bytes "99003" ∷ []),
-        sized d p 8 true (capitals 8) group (unfold bounded in refl) (C .1 .0) (F .1 .0 .1),
-      ), (omega (arith, segment-total d (pieceAt (piecesOf d i j (order id group)) 1)), S))
+      let l = sized d p 15 true (digits 15) id (unfold bounded in refl) (C .0) (F .0 .1) in (
+        omega (
+          arith,
+          segment-total d (pieceAt (piecesOf d i j (order id group)) 0),
+          composed-total d (escape d group) ([] ∷ bytes "99003" ∷ []),
+          sized d p 8 true (capitals 8) group (unfold bounded in refl) (C .1 .0) (F .1 .0 .1),
+        ),
+        (omega (arith, segment-total d (pieceAt (piecesOf d i j (order id group)) 1)), S),
+      )
   row-short (result item name type c v k s unit flag status) i j qs hi hj F C S =
       let Fc = F .1 .1 .1 in
       let Cc = C .1 .1 .1 in
       let Fu = Fc .1 .1 .1 .1 in
       let Cu = Cc .1 .1 .1 .1 in
-      let r = valueRules type in
-      (omega (
-        arith,
-        segment-total d (pieceAt (piecesOf d i j (result item name type c v k s unit flag status)) 0),
-        composed-total d (escape d item) (escape d name ∷ bytes "JC10" ∷ []),
-        value-short type c v k s (Cc .0) (Cc .1 .0) (Cc .1 .1 .0) (Cc .1 .1 .1 .0)
-            (both (fits false (r .compare) c) true (Fc .0 .1) .0)
-            (both (fits false (r .value) v) true (Fc .1 .0 .1) .0)
-            (both (fits false (r .join) k) true (Fc .1 .1 .0 .1) .0)
-            (both (fits false (r .second) s) _ (Fc .1 .1 .1 .0 .1) .0),
-        decimal-short j hj,
-        sized d p 17 true (capitals 17) item (unfold bounded in refl) (C .0) (F .0 .1),
-        sized d p 144 false (text 48) name (unfold bounded in refl) (C .1 .0) (F .1 .0 .1),
-        sized d p 2 true (words "NM SN ST") type (unfold bounded in refl) (C .1 .1 .0) (F .1 .1 .0 .1),
-        sized d p 60 false (text 20) unit (unfold bounded in refl) (Cu .0) (Fu .0 .1),
-        sized d p 2 false (words "L H LL HH N A") flag (unfold bounded in refl) (Cu .1 .0) (Fu .1 .0 .1),
-        sized d p 1 true (words "F P C I X") status (unfold bounded in refl) (Cu .1 .1 .0) (both (fits true (words "F P C I X") status) _ (Fu .1 .1 .0 .1) .0),
-      ), S)
+      let r = valueRules type in (
+        omega (
+          arith,
+          segment-total d (pieceAt (piecesOf d i j (result item name type c v k s unit flag status)) 0),
+          composed-total d (escape d item) (escape d name ∷ bytes "JC10" ∷ []),
+          value-short type c v k s (Cc .0) (Cc .1 .0) (Cc .1 .1 .0) (Cc .1 .1 .1 .0)
+              (both (fits false (r .compare) c) true (Fc .0 .1) .0)
+              (both (fits false (r .value) v) true (Fc .1 .0 .1) .0)
+              (both (fits false (r .join) k) true (Fc .1 .1 .0 .1) .0)
+              (both (fits false (r .second) s) _ (Fc .1 .1 .1 .0 .1) .0),
+          decimal-short j hj,
+          sized d p 17 true (capitals 17) item (unfold bounded in refl) (C .0) (F .0 .1),
+          sized d p 144 false (text 48) name (unfold bounded in refl) (C .1 .0) (F .1 .0 .1),
+          sized d p 2 true (words "NM SN ST") type (unfold bounded in refl) (C .1 .1 .0) (F .1 .1 .0 .1),
+          sized d p 60 false (text 20) unit (unfold bounded in refl) (Cu .0) (Fu .0 .1),
+          sized d p 2 false (words "L H LL HH N A") flag (unfold bounded in refl) (Cu .1 .0) (Fu .1 .0 .1),
+          sized d p 1 true (words "F P C I X") status (unfold bounded in refl) (Cu .1 .1 .0) (both (fits true (words "F P C I X") status) _ (Fu .1 .1 .0 .1) .0),
+        ),
+        S,
+      )
 
   -- ---- all of them: the counters stay under the number of segments
   some-piece : (r : Row) (i j : ℕ) → 1 ≤ length (piecesOf d i j r)
@@ -229,11 +239,10 @@ module _ (d : Delims) (p : Proper d) where
 
   one-more : (r : Row) (i j : ℕ) → (specimens i r ≤ suc i) × (results j r ≤ suc j)
   unfolding specimens results
-  one-more r i j =
-      (
-        cases (is (groupOf r) Spm) (λ e. rw e (omega arith)) (λ e. rw e (omega arith)),
-        cases (is (groupOf r) Obx) (λ e. rw e (omega arith)) (λ e. cases (is (groupOf r) Obr) (λ f. rw (e, f) (omega arith)) (λ f. rw (e, f) (omega arith))),
-      )
+  one-more r i j = (
+    cases (is (groupOf r) Spm) (λ e. rw e (omega arith)) (λ e. rw e (omega arith)),
+    cases (is (groupOf r) Obx) (λ e. rw e (omega arith)) (λ e. cases (is (groupOf r) Obr) (λ f. rw (e, f) (omega arith)) (λ f. rw (e, f) (omega arith))),
+  )
 
   pub short : (a : Name) (i j : ℕ) (rows : List Row) → valid a rows ≡ true → Tidy rows → i + length (pieces d i j rows) ≤ 512 → j + length (pieces d i j rows) ≤ 512
       → Short d (pieces d i j rows)
