@@ -42,7 +42,8 @@ pub data Only44Or45 {A : Type 0} (t : Told A) : Type 0 where
 abbrev pub SheetIsWritten : Type 0
 SheetIsWritten = (d : Delims) (s : List ℕ) (rows : List Row) (room : ℕ) → readSheet s ≡ gives rows → Only44Or45 (toMessageBy d s room)
 
--- The message of a sheet is accepted with the right counts, has no segment of 850 bytes, and turned into a sheet gives the same bytes.
+-- The message of a sheet is accepted with the right counts, stays far from the 4,096 bytes of a segment, and turned into a sheet gives the
+-- same bytes.
 pub record Returned (s m : List ℕ) : Type 0 where
   pub counts : checkTold m ≡ countsOf s
   pub under850 : all (λ (segment : List ℕ). ltb (length segment) 850) (segments m) ≡ true
@@ -52,8 +53,8 @@ abbrev pub SheetReturns : Type 0
 SheetReturns = (d : Delims) → delimsOk d ≡ true → (s m : List ℕ) (room : ℕ) → toMessageBy d s room ≡ gives m → Returned s m
 
 -- ---- from a message
--- An accepted message has a sheet under 57,000 bytes, which only 45 can refuse to give, and which is accepted. "An accepted message turned into a sheet and, if not refused with
--- 44, written again reads as the same sheet", and has the same counts.
+-- An accepted message has a sheet under 57,000 bytes, which only 45 can refuse to give, and which is accepted: so 40 never stands in the
+-- way. "An accepted message turned into a sheet and, if not refused with 44, written again reads as the same sheet", with the same counts.
 pub record Turned (m : List ℕ) (c : Counts) : Type 0 where
   pub sheet : List ℕ
   pub rows : List Row
