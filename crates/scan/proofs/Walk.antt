@@ -4,7 +4,7 @@ use mathlib.Core.Bool.{Bool, true, false, not, _&&_, _||_}
 use mathlib.Core.List.{List, [], _∷_, _++_, map, append-assoc, append-nil}
 use Prim.Native.Nat.{ℕ, zero, suc, _+_, _-_, _≤_, _<_}
 use native.Mathlib.Omega.{arith}
-use borrow.Author.Tests.{eq-eqb, ne-eqb, leb-true, ltb-true, ltb-false, lt-ltb, le-ltb}
+use borrow.Author.Tests.{eqb-false, eq-eqb, ne-eqb, leb-true, ltb-true, ltb-false, lt-ltb, le-ltb}
 use mir.Syntax.{w8}
 use mir.Val.{Fits}
 use lib.Dec.{eqb, leb, ltb}
@@ -267,6 +267,11 @@ module _ (end sep n : ℕ) (s : List ℕ) (left at i : ℕ) (inv : Parting end s
         raw = ap (map byteOf) (between-then m at i j (inv .later) far) ∙ map-append byteOf (between at i m) (between i j m)
             ∙ rw (inv .raw, c .1, bytes-on end s i j k r) (sym (between-then s at i j (inv .later) far));
       }
+
+  pub part-plain : (t : Bool) → i < length s → sep < 256 → t ≡ within 0x20 0x7E (getD s i 0) → (t && not (eqb (getD s i 0) sep)) ≡ true → Parting end sep n s left at (i + 1)
+  part-plain t h l e y =
+      let q = both t (not (eqb (getD s i 0) sep)) y in
+      part-on (i + 1) true (plain-on end s i h (sym e ∙ q .0)) l (eqb-false (getD s i 0) sep (not-true (eqb (getD s i 0) sep) (q .1)))
 
   cut-here : i < length s → drop at (marks end One s) ≡ between at i (marks end One s) ++ (getD s i 0 ∷ drop (i + 1) (marks end One s))
   unfolding mark isOne
