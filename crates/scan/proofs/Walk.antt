@@ -9,19 +9,19 @@ use mir.Syntax.{w8}
 use mir.Val.{Fits}
 use lib.Dec.{eqb, leb, ltb}
 use lib.ListN.{length, getD, take, drop, length-append, length-drop}
-use lib.Seq.{drop-drop, take-add, take-at, drop-at}
+use lib.Seq.{drop-drop, take-at, drop-at}
 use Rattle.rules.specs.declared.Delims.{Delims}
 use Rattle.rules.specs.declared.Mode.{Mode}
 use Rattle.rules.specs.declared.Mode.the-variants.{One, Two, Second}
 use Rattle.rules.specs.Shift.{step, isOne, walk, keeps, mark, marks, met, within, byteOf}
 use Rattle.rules.specs.Lists.{nth, has, split}
 use Rattle.rules.specs.Fetch.{span, startOf}
-use Rattle.rules.proofs.Logic.{cases, both, not-true, not-false, never, and-true, and-assoc, or-false, or-assoc, eqb-self}
+use Rattle.rules.proofs.Logic.{cases, both, not-true, not-false, never, and-true, and-assoc, or-false, or-assoc}
 use Rattle.rules.proofs.Lists.{here, over, rest-is, any-first, has-cons, has-nil, has-append}
-use Rattle.rules.proofs.Split.{split-nil, split-cons, split-next, split-none, front, later}
-use Rattle.rules.proofs.Modes.{one-is, met-as, byte-met, still-one, marks-nil, marks-cons, marks-here, marks-over, length-marks, met-rest}
+use Rattle.rules.proofs.Split.{split-cons, split-next, split-none, later}
+use Rattle.rules.proofs.Modes.{one-is, met-as, byte-met, still-one, marks-here, marks-over, length-marks, met-rest}
 use Rattle.scan.specs.Scan.{is, meetsOf, until, after, onward, between, hidden, Hides, Units, Reaches, ends, escapes, plainText, nextFrom, next, alnum, Printable, Proper, CutOf, TailOf}
-use Rattle.scan.proofs.Laws.{map-append, between-none, between-one, between-first, between-rest, between-then, between-take, between-length, until-yes, until-no, until-nil, until-stops, after-drop, Far, far-is, far-ends, far-escapes, ends-far, hidden-append, hidden-nil, hidden-length, hidden-bytes, hidden-until, hidden-has, hidden-free, hidden-plain, plain-cons, plain-nil, from-met, alnum-plain}
+use Rattle.scan.proofs.Laws.{map-append, between-none, between-one, between-first, between-rest, between-then, between-take, between-length, until-yes, until-no, until-nil, until-stops, after-drop, Far, far-is, far-escapes, ends-far, hidden-append, hidden-nil, hidden-length, hidden-bytes, hidden-until, hidden-has, hidden-free, hidden-plain, plain-cons, plain-nil, from-met, alnum-plain}
 
 -- ---- meets
 pub meets-is : (m : Mode) (b a : ℕ) (t : Bool) → a < 256 → t ≡ isOne m → (t && eqb b a) ≡ meetsOf a (mark m b)

@@ -20,7 +20,7 @@ shared-slice-read-b : tie.Need-shared-slice-read-b Inv-loop μ-loop
 shared-slice-read-b c = search needs
 
 returns : tie.Need-returns Inv-loop μ-loop
-returns c = search (find-plain, find-on, find-here, find-over, needs)
+returns c = search (find-here, find-over, needs)
 
 plain-requires : tie.Need-plain-requires Inv-loop μ-loop
 plain-requires c κs = search needs
@@ -41,10 +41,10 @@ loop-less-2 : tie.Need-loop-less-2 Inv-loop μ-loop
 loop-less-2 c = search needs
 
 loop-again-2 : tie.Need-loop-again-2 Inv-loop μ-loop
-loop-again-2 c = search (find-plain, find-on, find-here, find-over, needs)
+loop-again-2 c = search (find-on, needs)
 
 returns-2 : tie.Need-returns-2 Inv-loop μ-loop
-returns-2 c = search (find-plain, find-on, find-here, find-over, needs)
+returns-2 c = search (find-over, needs)
 
 pub find-spec : {M : Type 1} → statement M
 find-spec =

@@ -15,7 +15,7 @@ abbrev μ-loop : tie.MeasureT-loop
 μ-loop s end i₀ i = length s - i
 
 loop-holds : tie.Need-loop-holds Inv-loop μ-loop
-loop-holds c = search (keeps-plain, keeps-on, keeps-not, keeps-over, needs)
+loop-holds c = search needs
 
 shared-slice-read-plain : tie.Need-shared-slice-read-plain Inv-loop μ-loop
 shared-slice-read-plain c = search needs
@@ -36,16 +36,16 @@ advance-requires : tie.Need-advance-requires Inv-loop μ-loop
 advance-requires c κs = search needs
 
 returns : tie.Need-returns Inv-loop μ-loop
-returns c = search (keeps-plain, keeps-on, keeps-not, keeps-over, needs)
+returns c = search (keeps-not, needs)
 
 loop-less-2 : tie.Need-loop-less-2 Inv-loop μ-loop
 loop-less-2 c = search needs
 
 loop-again-2 : tie.Need-loop-again-2 Inv-loop μ-loop
-loop-again-2 c = search (keeps-plain, keeps-on, keeps-not, keeps-over, needs)
+loop-again-2 c = search (keeps-on, needs)
 
 returns-2 : tie.Need-returns-2 Inv-loop μ-loop
-returns-2 c = search (keeps-plain, keeps-on, keeps-not, keeps-over, needs)
+returns-2 c = search (keeps-over, needs)
 
 pub keeps-spec : {M : Type 1} → statement M
 keeps-spec =

@@ -18,10 +18,10 @@ two-requires : tie.Need-two-requires Inv-loop μ-loop
 two-requires c κs = search needs
 
 returns : tie.Need-returns Inv-loop μ-loop
-returns c = search (units-none, units-on, units-done, needs)
+returns c = search (units-none, units-done, needs)
 
 loop-holds : tie.Need-loop-holds Inv-loop μ-loop
-loop-holds c = search (units-none, units-on, units-done, needs)
+loop-holds c = search (units-none, units-done, needs)
 
 add-loop : tie.Need-add-loop Inv-loop μ-loop
 add-loop c = search needs
@@ -39,7 +39,7 @@ unit-requires : tie.Need-unit-requires Inv-loop μ-loop
 unit-requires c κs = search needs
 
 returns-2 : tie.Need-returns-2 Inv-loop μ-loop
-returns-2 c = search (units-none, units-on, units-done, needs)
+returns-2 c = search (units-done, needs)
 
 add-i : tie.Need-add-i Inv-loop μ-loop
 add-i c = search needs
@@ -48,10 +48,10 @@ loop-less : tie.Need-loop-less Inv-loop μ-loop
 loop-less c = search needs
 
 loop-again : tie.Need-loop-again Inv-loop μ-loop
-loop-again c = search (units-none, units-on, units-done, needs)
+loop-again c = search (units-on, units-done, needs)
 
 returns-3 : tie.Need-returns-3 Inv-loop μ-loop
-returns-3 c = search (units-none, units-on, units-done, needs)
+returns-3 c = search (units-done, needs)
 
 pub units-spec : {M : Type 1} → statement M
 units-spec =
