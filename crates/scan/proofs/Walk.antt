@@ -316,7 +316,7 @@ module _ (end sep n : ℕ) (s : List ℕ) where
       = inv .stretch ∙ rw z (ap (λ l. nth (split sep l) 0) cut ∙ ap (λ ps. nth ps 0) (split-next sep v (drop (i + 1) m) (inv .free))) in (
         sym (ap (map byteOf) is-v ∙ inv .raw),
         let q : startOf sep n m ≡ at + 0 = inv .place ∙ rw z (ap (λ k. at + k) (start-first sep (drop at m))) in
-        let e : at ≡ startOf sep n m = omega arith in ap (λ k. (x, k + y)) e,
+            let e : at ≡ startOf sep n m = omega arith in ap (λ k. (x, k + y)) e,
       )
 
   -- at the end: the last stretch, or an absent one
@@ -334,7 +334,7 @@ module _ (end sep n : ℕ) (s : List ℕ) where
       = inv .stretch ∙ rw z (ap (λ l. nth (split sep l) 0) (cut-over left at i inv h) ∙ ap (λ ps. nth ps 0) (split-none sep v (inv .free))) in (
         sym (ap (map byteOf) is-v ∙ inv .raw ∙ ap (λ k. between at k s) ends),
         let q : startOf sep n m ≡ at + 0 = inv .place ∙ rw z (ap (λ k. at + k) (start-first sep (drop at m))) in
-        let e : at ≡ startOf sep n m = omega arith in ap (λ k. (x, k + y)) e,
+            let e : at ≡ startOf sep n m = omega arith in ap (λ k. (x, k + y)) e,
       )
 
   pub part-none : (left at i x y : ℕ) → Parting end sep n s left at i → i ≤ length s → length s ≤ i → (left ≡ 0 → ⊥) → PartOf end sep n s (between i (length s) s) (x, y) (x, i + y)
