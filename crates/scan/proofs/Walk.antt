@@ -437,6 +437,10 @@ module _ (d : Delims) (t : List ℕ) (clean : Bool) (i : ℕ) (inv : Cutting d t
             ∙ sym (append-assoc (take i t) (between i j t) (map byteOf U)) ∙ ap (λ l. l ++ map byteOf U) (between-take t i j (omega (arith, r .later)));
       }
 
+  pub first-plain : (y z w : Bool) → i < length t → Proper d → y ≡ ends d (getD t i 0) → y ≡ false → z ≡ escapes d (getD t i 0) → w ≡ within 0x20 0x7E (getD t i 0) → w ≡ true
+      → Cutting d t (clean && not z) (i + 1)
+  first-plain y z w h p e g f v o = first-on y z true (i + 1) p e g f (plain-on 0x0D t i h (sym v ∙ o))
+
 -- a letter or a digit is no delimiter
 apart : (b x : ℕ) → alnum b ≡ true → alnum x ≡ false → eqb b x ≡ false
 apart b x h g = ne-eqb b x (λ q. let z : true ≡ false = sym h ∙ ap alnum q ∙ g in never z)
