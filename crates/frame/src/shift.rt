@@ -9,7 +9,7 @@ pub fn keeps(s: &[u8]) -> bool
     let mut mode = Mode::One;
     let mut i = 0;
     while i < s.len() {
-        mode = scan::step(mode, s[i]);
+        mode = scan::step(mode, s[i], 0x0D);
         i += 1;
     }
     scan::one(mode)

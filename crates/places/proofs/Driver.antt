@@ -19,7 +19,7 @@ use Rattle.rules.specs.View.{fieldOf, partOf, segmentOf, Segment}
 use Rattle.rules.specs.Check.{faultTold, partsTold, placesTold, orderAfter}
 use Rattle.scan.specs.Scan.{until}
 use Rattle.scan.specs.Scan as S
-use Rattle.scan.proofs.Laws.{cases}
+use Rattle.rules.proofs.Logic.{cases}
 use Rattle.value.proofs.Laws.{split-more}
 use Rattle.places.specs.Check.{here, FoundIn}
 

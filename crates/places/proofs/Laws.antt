@@ -22,7 +22,9 @@ use Rattle.rules.specs.Escape.{Letter, unescape, unescapeAt, letters, meaning, 
 use Rattle.rules.specs.Judge.{plainOf, judge, judgeAll, faultOr23, unescapedOr}
 use Rattle.rules.specs.Check.{ownFault, laterFault, partFault, numberOf, faultTold, partsTold}
 use Rattle.scan.specs.Scan.{until, is, ends, onward, plainText, CutOf, TailOf, Proper}
-use Rattle.scan.proofs.Laws.{cases, rest-is, from-met, piece-met, ends-far}
+use Rattle.rules.proofs.Logic.{cases}
+use Rattle.rules.proofs.Lists.{rest-is}
+use Rattle.scan.proofs.Laws.{from-met, piece-met, ends-far}
 use Rattle.value.specs.Rules.{ruleOf, faultNo, fineOf, textOf}
 use Rattle.value.specs.declared.Fault.{Fault}
 use Rattle.value.specs.declared.Fault.the-variants.{Nothing, Missing, Null, Repeated, Escape, Long, Value, Status, Differs}
