@@ -7,14 +7,17 @@ use mathlib.Core.Bool.{Bool, true, false, cond, not, _&&_, _||_}
 use borrow.Author.Tests.{ne-eqb}
 use lib.Dec.{eqb}
 use lib.ListN.{length, take, drop, length-drop}
+use lib.Seq.{drop-drop}
 use Rattle.rules.specs.declared.Delims.{Delims}
 use Rattle.rules.specs.Told.{_then_, _when_}
 use Rattle.rules.specs.Lists.{has}
 use Rattle.rules.specs.Shift.{met, byteOf}
-use Rattle.rules.specs.Judge.{judge}
+use Rattle.rules.specs.Judge.{judge, judgeAll}
+use Rattle.rules.specs.View.{seenIn, firstRepetition}
+use Rattle.rules.proofs.Logic.{never, not-true, not-false}
 use Rattle.rules.proofs.Lists.{rest-is, part-length}
 use Rattle.rules.proofs.Modes.{length-marks}
-use Rattle.scan.specs.Scan.{until, is, ends, next, onward, plainText, CutOf, TailOf, Proper}
+use Rattle.scan.specs.Scan.{until, is, ends, after, next, onward, plainText, CutOf, TailOf, Proper}
 use Rattle.scan.proofs.Laws.{from-met, piece-met, ends-far}
 use Rattle.value.specs.Rules.{ruleOf, faultNo, fineOf}
 use Rattle.value.specs.declared.Fault.{Fault}
@@ -23,8 +26,11 @@ use Rattle.value.specs.declared.Rule.{Rule}
 use Rattle.judge.specs.Judge.{Raw, Small}
 use Rattle.places.specs.declared.Place.{Place}
 use Rattle.places.specs.declared.Place.the-variants.{Unread, Must, May}
-use Rattle.places.specs.Check.{placeFault, Smalls, JudgedOf, componentsFault, ReadOf}
-use Rattle.places.proofs.Pieces.{next-more, next-long, next-low, rest-long, rest-more}
+use Rattle.places.specs.declared.Form.{Form}
+use Rattle.places.specs.declared.Form.the-variants.{One, Three}
+use Rattle.places.specs.declared.Walk.{Walk}
+use Rattle.places.specs.Check.{placeFault, Smalls, JudgedOf, componentsFault, ComponentsOf, entriesFrom, entriesFault, formFault, formHead, SmallForm, ReadOf, Went}
+use Rattle.places.proofs.Pieces.{forward, component-is, next-more, next-long, next-low, rest-long, rest-more, after-field}
 
 -- ---- faults
 pub fine-zero : (f : Fault) → fineOf f ≡ true → faultNo f ≡ 0
@@ -107,7 +113,7 @@ part-long : (t : List ℕ) (n : ℕ) → length (take (length t - n) (drop n t))
 part-long t n = ap length (rest-is t n) ∙ length-drop n t
 
 pub one-read : (d : Delims) → Proper d → (place : Place) (t : List ℕ) (f n k : ℕ) (more : Bool) → JudgedOf d place t f n
-    → TailOf d (met (take (length t - n) (drop n t))) k more → ReadOf d (place ∷ []) t more f n (n + k)
+    → TailOf d (met (take (length t - n) (drop n t))) k more → ComponentsOf d (place ∷ []) t more f n (n + k)
 unfolding componentsFault
 one-read d p place t f n k more j e =
     let m : List ℕ = met t in
@@ -134,8 +140,8 @@ module _ (d : Delims) (p : Proper d) (t u : List ℕ) (e : met u ≡ next d (met
   pub rest-fits : length u ≤ length t
   rest-fits = omega (arith, next-low d (met t), met-length t, met-length u, ap length e)
 
-  pub led-read : (place : Place) (ps : List Place) (f g h n k l : ℕ) (more : Bool) → JudgedOf d place t f n → ReadOf d ps u more g k l
-      → h ≡ (f then g) → ReadOf d (place ∷ ps) t more h n (length t - length u + l)
+  pub led-read : (place : Place) (ps : List Place) (f g h n k l : ℕ) (more : Bool) → JudgedOf d place t f n → ComponentsOf d ps u more g k l
+      → h ≡ (f then g) → ComponentsOf d (place ∷ ps) t more h n (length t - length u + l)
   unfolding componentsFault
   led-read place ps f g h n k l more j r q = record {
     more = r .more ∙ ap (λ m. has (d .repetition) (until (is (d .field)) m)) e ∙ next-more d p (met t);
@@ -149,6 +155,102 @@ module _ (d : Delims) (p : Proper d) (t u : List ℕ) (e : met u ≡ next d (met
   pub led-within : (l : ℕ) → l ≤ length u → length t - length u + l ≤ length t
   led-within l h = omega (arith, rest-fits)
 
+-- ---- the components of a field as the table lists them
+forward-next : (d : Delims) (k : ℕ) (m : List ℕ) → forward d (suc k) m ≡ next d (forward d k m)
+unfolding forward
+forward-next d zero m = refl
+forward-next d (suc k) m = forward-next d k (next d m)
+
+entries-are : (d : Delims) → Proper d → (m : List ℕ) (k : ℕ) (ps : List Place)
+    → componentsFault d ps (forward d k m) ≡ judgeAll d (map (seenIn d (firstRepetition d (until (is (d .field)) m))) (entriesFrom (suc k) ps))
+unfolding componentsFault entriesFrom judgeAll seenIn placeFault
+entries-are d p m k [] = refl
+entries-are d p m k (q ∷ ps) =
+    let e = ap (componentsFault d ps) (sym (forward-next d k m)) ∙ entries-are d p m (suc k) ps in
+    placed q e
+  where
+    placed : (q : Place) → componentsFault d ps (next d (forward d k m)) ≡ judgeAll d (map (seenIn d (firstRepetition d (until (is (d .field)) m))) (entriesFrom (suc (suc k)) ps))
+        → componentsFault d (q ∷ ps) (forward d k m) ≡ judgeAll d (map (seenIn d (firstRepetition d (until (is (d .field)) m))) (entriesFrom (suc k) (q ∷ ps)))
+    placed Unread e = e
+    placed (Must r) e = rw (component-is d p k m) (ap (λ n. judge d true (ruleOf r) (until (ends d) (forward d k m)) then n) e)
+    placed (May r) e = rw (component-is d p k m) (ap (λ n. judge d false (ruleOf r) (until (ends d) (forward d k m)) then n) e)
+
+joined-read : (d : Delims) → Proper d → (ps : List Place) (t : List ℕ) (more : Bool) (f g h l : ℕ) → ComponentsOf d ps t more f h l → g ≡ (22 when more then f)
+    → ReadOf d (entriesFault d (entriesFrom 1 ps)) (until (ends d)) t g h l
+unfolding entriesFault forward
+joined-read d p ps t more f g h l c e = record {
+  told = e ∙ cc (c .more, c .told, entries-are d p (met t) 0 ps);
+  raw = c .raw;
+  long = c .long;
+}
+
+module _ (d : Delims) (p : Proper d) (form : Form) (t : List ℕ) (more : Bool) (f g h k l j : ℕ) (e : (g ≡ (22 when more then f)) × (k ≡ h) × (j ≡ l)) where
+  pub read-one : (a : Place) → form ≡ One a → ComponentsOf d (a ∷ []) t more f h l → ReadOf d (formFault d form) (formHead d form) t g k j
+  unfolding formFault formHead
+  read-one a q c = rw (q, e .1, e .2) (joined-read d p (a ∷ []) t more f g h l c (e .0))
+
+  pub read-three : (x y z : Place) → form ≡ Three x y z → ComponentsOf d (x ∷ y ∷ z ∷ []) t more f h l → ReadOf d (formFault d form) (formHead d form) t g k j
+  unfolding formFault formHead
+  read-three x y z q c = rw (q, e .1, e .2) (joined-read d p (x ∷ y ∷ z ∷ []) t more f g h l c (e .0))
+
+pub small-one : (form : Form) (a : Place) → form ≡ One a → SmallForm form → Smalls a
+unfolding SmallForm
+small-one form a e h = rw e at h
+
+module _ (form : Form) (a b c : Place) (e : form ≡ Three a b c) (h : SmallForm form) where
+  smalls : Smalls a × Smalls b × Smalls c
+  unfolding SmallForm
+  smalls = rw e at h
+
+  pub small-first : Smalls a
+  small-first = smalls .0
+
+  pub small-second : Smalls b
+  small-second = smalls .1
+
+  pub small-third : Smalls c
+  small-third = smalls .2
+
+-- ---- on to a field
+pub past-on : (s x : List ℕ) (sep left to r : ℕ) → x ≡ onward sep left (met (drop to s)) → 0 < left
+    → met (drop r (take (length s - to) (drop to s))) ≡ after sep (met (take (length s - to) (drop to s))) → x ≡ onward sep (left - 1) (met (drop (to + r) s))
+unfolding onward
+past-on s x sep zero to r inv h e = absurd (omega arith)
+past-on s x sep (suc k) to r inv h e =
+    let j : suc k - 1 ≡ k = omega arith in
+    let q : met (drop (to + r) s) ≡ after sep (met (drop to s)) = rw (rest-is s to, drop-drop) at e in
+    rw (j, q) inv
+
+pub past-end : (s x : List ℕ) (sep left to : ℕ) → x ≡ onward sep left (met (drop to s)) → left ≤ 0 → met (drop to s) ≡ x
+unfolding onward
+past-end s x sep zero to inv h = sym inv
+past-end s x sep (suc k) to inv h = absurd (omega arith)
+
+field-far : (d : Delims) → Proper d → (b : ℕ) → is (d .field) (256 + b) ≡ false
+field-far d p b = ne-eqb (256 + b) (d .field) (omega (arith, p .field .high))
+
+module _ (d : Delims) (s : List ℕ) (n : ℕ) (own : List ℕ → ℕ) (first : List ℕ → List ℕ) (w : Walk) (q : Bool) (e : q ≡ fineOf (w .fault)) where
+  pub field-ended : not q ≡ true → Went d s n own first w w
+  field-ended h = record { ended = λ f. refl; judged = λ f. never (sym f ∙ sym e ∙ not-true q h) }
+
+  pub field-judged : (r : Walk) (u k : ℕ) → Proper d → not q ≡ false → met (drop u s) ≡ onward (d .field) (n - w .field) (met (drop (w .at) s))
+      → ReadOf d own first (take (length s - u) (drop u s)) (faultNo (r .fault)) (r .head) k → r .field ≡ n → r .start ≡ u → r .at ≡ u + k → Went d s n own first w r
+  field-judged r u k p h g c a b f = record {
+    ended = λ z. never (sym (not-false q h) ∙ e ∙ z);
+    judged = λ z. let t : List ℕ = drop u s in
+        let x : ReadOf d own first t (faultNo (r .fault)) (r .head) k = rw (rest-is s u) at c in
+        let m : drop (r .at) s ≡ drop (length (until (is (d .field)) (met t))) t = rw f (sym (drop-drop k u s) ∙ ap (λ i. drop i t) (x .long)) in
+        record {
+          told = x .told ∙ ap (λ l. own (until (is (d .field)) l)) g;
+          numbered = a;
+          raw = sym (ap (λ l. map byteOf (first l)) g) ∙ x .raw ∙ ap (λ i. take (r .head) (drop i s)) (sym b);
+          rest = ap (λ l. after (d .field) (met l)) m ∙ ap (after (d .field)) (sym (from-met (is (d .field)) (field-far d p) t)) ∙ after-field (d .field) (met t) ∙ ap (after (d .field)) g;
+        };
+  }
+
+pub part-within : (s : List ℕ) (u k : ℕ) → u ≤ length s → k ≤ length (take (length s - u) (drop u s)) → u + k ≤ length s
+part-within s u k h e = omega (arith, part-long s u)
+
 pub ruleset first-of·laws = (first-later, first-stays)
 pub ruleset repeated·laws = (repeated-yes, repeated-no)
 pub ruleset judge-place·laws = (unread-is, must-is, may-is, must-small, may-small)
@@ -156,3 +258,6 @@ pub ruleset component·laws = (head-raw, component-judged, part-length)
 pub ruleset one·laws = (one-read, one-within)
 pub ruleset two·laws = (led-read, rest-fits, led-within)
 pub ruleset three·laws = (led-read, rest-fits, led-within)
+pub ruleset judge-field·laws = (read-one, read-three, small-one, small-first, small-second, small-third)
+pub ruleset past·laws = (past-on, past-end, one-within)
+pub ruleset field·laws = (field-ended, field-judged, part-within)

@@ -13,7 +13,7 @@ ghost use Rattle.rules.specs.Shift.{met};
 ghost use Rattle.scan.specs.Scan.{Printable, Proper, onward};
 ghost use Rattle.value.specs.Rules.{faultNo};
 ghost use Rattle.judge.specs.Judge.{Raw};
-ghost use Rattle.places.specs.Check.{placeFault, Smalls, JudgedOf, ReadOf};
+ghost use Rattle.places.specs.Check.{placeFault, formFault, formHead, Smalls, SmallForm, JudgedOf, ComponentsOf, ReadOf, Begins, Ready, Went, Within, FoundIn};
 
 // A component of a field, as the table has it.
 pub enum Place {
@@ -81,23 +81,23 @@ fn component(t: &[u8], d: Delims, place: Place) -> Judged
 }
 
 // The field at the start of t: whether it repeats, the first fault of its components, the length of the first one and its own.
-struct Read {
+struct Components {
     repeats: bool,
     fault: Fault,
     head: usize,
     len: usize,
 }
 
-fn one(t: &[u8], d: Delims, a: Place) -> Read
+fn one(t: &[u8], d: Delims, a: Place) -> Components
     requires { ⌜ Proper d × Smalls a ⌝ }
-    ensures { λ r. ⌜ ReadOf d (a ∷ []) (now (t .entry)) (r .repeats) (faultNo (r .fault)) (r .head) (r .len) ⌝ }
+    ensures { λ r. ⌜ ComponentsOf d (a ∷ []) (now (t .entry)) (r .repeats) (faultNo (r .fault)) (r .head) (r .len) ⌝ }
     ensures within { λ r. ⌜ (r .len ≤ length (now (t .entry))) × (r .head ≤ length (now (t .entry))) ⌝ }
 {
     let x = component(t, d, a);
     let fault = x.fault;
     let head = x.len;
     let e = scan::finish(&t[head..], d);
-    Read {
+    Components {
         repeats: e.repeats,
         fault,
         head,
@@ -105,9 +105,9 @@ fn one(t: &[u8], d: Delims, a: Place) -> Read
     }
 }
 
-fn two(t: &[u8], d: Delims, a: Place, b: Place) -> Read
+fn two(t: &[u8], d: Delims, a: Place, b: Place) -> Components
     requires { ⌜ Proper d × Smalls a × Smalls b ⌝ }
-    ensures { λ r. ⌜ ReadOf d (a ∷ b ∷ []) (now (t .entry)) (r .repeats) (faultNo (r .fault)) (r .head) (r .len) ⌝ }
+    ensures { λ r. ⌜ ComponentsOf d (a ∷ b ∷ []) (now (t .entry)) (r .repeats) (faultNo (r .fault)) (r .head) (r .len) ⌝ }
     ensures within { λ r. ⌜ (r .len ≤ length (now (t .entry))) × (r .head ≤ length (now (t .entry))) ⌝ }
 {
     let x = component(t, d, a);
@@ -116,7 +116,7 @@ fn two(t: &[u8], d: Delims, a: Place, b: Place) -> Read
     let u = scan::behind(t, head, d);
     let r = one(u, d, b);
     let g = r.fault;
-    Read {
+    Components {
         repeats: r.repeats,
         fault: first_of(f, g),
         head,
@@ -124,9 +124,9 @@ fn two(t: &[u8], d: Delims, a: Place, b: Place) -> Read
     }
 }
 
-fn three(t: &[u8], d: Delims, a: Place, b: Place, c: Place) -> Read
+fn three(t: &[u8], d: Delims, a: Place, b: Place, c: Place) -> Components
     requires { ⌜ Proper d × Smalls a × Smalls b × Smalls c ⌝ }
-    ensures { λ r. ⌜ ReadOf d (a ∷ b ∷ c ∷ []) (now (t .entry)) (r .repeats) (faultNo (r .fault)) (r .head) (r .len) ⌝ }
+    ensures { λ r. ⌜ ComponentsOf d (a ∷ b ∷ c ∷ []) (now (t .entry)) (r .repeats) (faultNo (r .fault)) (r .head) (r .len) ⌝ }
     ensures within { λ r. ⌜ (r .len ≤ length (now (t .entry))) × (r .head ≤ length (now (t .entry))) ⌝ }
 {
     let x = component(t, d, a);
@@ -135,10 +135,102 @@ fn three(t: &[u8], d: Delims, a: Place, b: Place, c: Place) -> Read
     let u = scan::behind(t, head, d);
     let r = two(u, d, b, c);
     let g = r.fault;
-    Read {
+    Components {
         repeats: r.repeats,
         fault: first_of(f, g),
         head,
         len: t.len() - u.len() + r.len,
+    }
+}
+
+// The field at the start of t: its fault, the length of its first component where that is read, and its own.
+struct Read {
+    fault: Fault,
+    head: usize,
+    len: usize,
+}
+
+fn joined(c: Components) -> Read
+    ensures { λ r. ⌜ (faultNo (r .fault) ≡ (22 when (c .repeats) then faultNo (c .fault))) × (r .head ≡ c .head) × (r .len ≡ c .len) ⌝ }
+{
+    let f = c.fault;
+    Read {
+        fault: repeated(c.repeats, f),
+        head: c.head,
+        len: c.len,
+    }
+}
+
+fn judge_field(t: &[u8], d: Delims, form: Form) -> Read
+    requires { ⌜ Proper d × SmallForm form ⌝ }
+    ensures { λ r. ⌜ ReadOf d (formFault d form) (formHead d form) (now (t .entry)) (faultNo (r .fault)) (r .head) (r .len) ⌝ }
+    ensures within { λ r. ⌜ (r .len ≤ length (now (t .entry))) × (r .head ≤ length (now (t .entry))) ⌝ }
+{
+    match form {
+        Form::One(a) => joined(one(t, d, a)),
+        Form::Three(a, b, c) => joined(three(t, d, a, b, c)),
+    }
+}
+
+// ---- a segment, field by field
+
+// How far a segment is judged: the first fault, if any; the last field that was judged; where it starts, how long its first component is
+// where that is read, and where it ends.
+struct Walk {
+    fault: Fault,
+    field: usize,
+    start: usize,
+    head: usize,
+    at: usize,
+}
+
+// At the segment's name, which stands where field 0 would; in MSH, whose field 1 is the first separator, field 1.
+fn begin(field: usize) -> Walk
+    ensures { λ r. ⌜ Begins field r ⌝ }
+{
+    Walk {
+        fault: Fault::Nothing,
+        field,
+        start: 0,
+        head: 0,
+        at: 0,
+    }
+}
+
+// Where what follows the n-th separator after `at` starts.
+fn past(s: &[u8], at: usize, n: usize, sep: u8) -> usize
+    requires { ⌜ Printable sep × (at ≤ length (now s)) ⌝ }
+    ensures { λ r. ⌜ met (drop r (now (s .entry))) ≡ onward sep n (met (drop at (now (s .entry)))) ⌝ }
+    ensures within { λ r. ⌜ r ≤ length (now (s .entry)) ⌝ }
+{
+    let mut to = at;
+    let mut left = n;
+    while 0 < left {
+        to += scan::past(&s[to..], sep);
+        left -= 1;
+    }
+    to
+}
+
+// On to a field and through it, where no fault is found yet.
+fn field(s: &[u8], d: Delims, w: Walk, number: usize, form: Form) -> Walk
+    requires { ⌜ Proper d × SmallForm form × Ready (now s) number w ⌝ }
+    ensures { λ r. ⌜ Went d (now (s .entry)) number (formFault d form) (formHead d form) w r ⌝ }
+    ensures within { λ r. ⌜ Within (now (s .entry)) number r ⌝ }
+{
+    let fault = w.fault;
+    if !value::fine(fault) {
+        return w;
+    }
+    let at = w.at;
+    let start = past(s, at, number - w.field, d.field);
+    let r = judge_field(&s[start..], d, form);
+    let fault = r.fault;
+    Walk {
+        fault,
+        field: number,
+        start,
+        head: r.head,
+        at: start + r.len,
     }
 }
