@@ -14,7 +14,7 @@ use Rattle.rules.specs.Lists.{has}
 use Rattle.rules.specs.Shift.{met, byteOf}
 use Rattle.rules.specs.Judge.{judge, judgeAll}
 use Rattle.rules.specs.View.{seenIn, firstRepetition}
-use Rattle.rules.proofs.Logic.{never, not-true, not-false}
+use Rattle.rules.proofs.Logic.{cases, never, not-true, not-false, then-zero, done}
 use Rattle.rules.proofs.Lists.{rest-is, part-length}
 use Rattle.rules.proofs.Modes.{length-marks}
 use Rattle.scan.specs.Scan.{until, is, ends, after, next, onward, plainText, CutOf, TailOf, Proper}
@@ -45,24 +45,24 @@ fine-zero Value h = cc
 fine-zero Status h = cc
 fine-zero Differs h = cc
 
-pub fault-stays : (f : Fault) (k : ℕ) → fineOf f ≡ false → faultNo f ≡ (faultNo f then k)
+pub fault-some : (f : Fault) → fineOf f ≡ false → faultNo f ≡ suc (faultNo f - 1)
 unfolding fineOf faultNo
-fault-stays Nothing k h = cc
-fault-stays Missing k h = refl
-fault-stays Null k h = refl
-fault-stays Repeated k h = refl
-fault-stays Escape k h = refl
-fault-stays Long k h = refl
-fault-stays Value k h = refl
-fault-stays Status k h = refl
-fault-stays Differs k h = refl
+fault-some Nothing h = cc
+fault-some Missing h = refl
+fault-some Null h = refl
+fault-some Repeated h = refl
+fault-some Escape h = refl
+fault-some Long h = refl
+fault-some Value h = refl
+fault-some Status h = refl
+fault-some Differs h = refl
 
 module _ (f g : Fault) (q : Bool) (e : q ≡ fineOf f) where
   pub first-later : q ≡ true → faultNo g ≡ (faultNo f then faultNo g)
   first-later h = rw (fine-zero f (sym e ∙ h))
 
   pub first-stays : q ≡ false → faultNo f ≡ (faultNo f then faultNo g)
-  first-stays h = fault-stays f (faultNo g) (sym e ∙ h)
+  first-stays h = rw (fault-some f (sym e ∙ h))
 
 pub repeated-yes : (q : Bool) (f : Fault) → q ≡ true → faultNo Repeated ≡ (22 when q then faultNo f)
 unfolding faultNo
@@ -105,10 +105,6 @@ module _ (d : Delims) (t : List ℕ) (n : ℕ) (clean : Bool) (c : CutOf d t n c
   component-judged place f e = record { told = e ∙ ap (placeFault d place) head-met; long = c .long; raw = c .raw }
 
 -- ---- one field
-then-zero : (n : ℕ) → n ≡ (n then 0)
-then-zero zero = refl
-then-zero (suc n) = refl
-
 part-long : (t : List ℕ) (n : ℕ) → length (take (length t - n) (drop n t)) ≡ length t - n
 part-long t n = ap length (rest-is t n) ∙ length-drop n t
 
@@ -122,7 +118,7 @@ one-read d p place t f n k more j e =
     let b : k ≡ length (until (is (d .field)) (drop (length (until (ends d) m)) m)) = e .long ∙ ap (λ l. length (until (is (d .field)) l)) a in
     record {
       more = e .more ∙ ap (λ l. has (d .repetition) (until (is (d .field)) l)) a ∙ sym (rest-more d m);
-      told = j .told ∙ then-zero (placeFault d place (until (ends d) m));
+      told = j .told ∙ sym (then-zero (placeFault d place (until (ends d) m)));
       short = j .long;
       raw = j .raw;
       long = omega (arith, rest-long d m, j .long);

@@ -1,0 +1,91 @@
+-- A segment, field by field: what the table tells of it, from one read field to the next. Assumes nothing.
+use Prim.Native.Nat.{ℕ, zero, suc, _+_, _-_, _≤_, _<_}
+use native.Mathlib.Omega.{arith}
+use native.Mathlib.Numerals.{add-one}
+use mathlib.Core.Path.{_≡_, refl, sym, ap, subst, _∙_}
+use mathlib.Core.List.{List, [], _∷_, map}
+use mathlib.Core.Bool.{Bool, true, false}
+use lib.ListN.{drop}
+use Rattle.rules.specs.declared.Delims.{Delims}
+use Rattle.rules.specs.declared.Name.{Name}
+use Rattle.rules.specs.Told.{Told, gives, refused, _>>_, _then_}
+use Rattle.rules.specs.Shift.{met}
+use Rattle.rules.specs.Places.{Field, places}
+use Rattle.rules.specs.View.{pieceOf, fieldOf, partOf, Segment, segmentOf}
+use Rattle.rules.specs.Check.{numberOf, ownFault, laterFault, partFault, faultTold, partsTold}
+use Rattle.rules.proofs.Logic.{cases, then-zero, done}
+use Rattle.scan.specs.Scan.{until, is, after, onward}
+use Rattle.value.specs.Rules.{faultNo, fineOf}
+use Rattle.value.specs.declared.Fault.{Fault}
+use Rattle.places.specs.declared.Walk.{Walk}
+use Rattle.places.specs.Check.{Begins, Judged, Went, here, FoundIn}
+use Rattle.places.proofs.Pieces.{piece-at, onward-add}
+use Rattle.places.proofs.Laws.{fine-zero, fault-some}
+
+abbrev pub segment : Name → Delims → List ℕ → Segment
+segment n d s = segmentOf d (here n (met s))
+
+-- what is told of the segment s where w stands: the fault that was found, or what is told of the fields that are left
+pub record Walked (n : Name) (d : Delims) (order s : List ℕ) (left : List Field) (w : Walk) : Type 0 where
+  pub told : (i : ℕ) → partsTold d order i (segment n d s) (segment n d s .parts)
+      ≡ (faultTold i (w .field) (faultNo (w .fault)) >> partsTold d order i (segment n d s) (map (partOf d (here n (met s))) left))
+  pub lead : (f : ℕ) → w .field ≤ f → pieceOf n f ≡ pieceOf n (w .field) + (f - w .field)
+  pub rest : fineOf (w .fault) ≡ true → after (d .field) (met (drop (w .at) s)) ≡ onward (d .field) (suc (pieceOf n (w .field))) (met s)
+
+pub begins : {n : Name} {d : Delims} {order s : List ℕ} {k : ℕ} {w : Walk} → ((f : ℕ) → pieceOf n f ≡ f - k) → Begins k w → Walked n d order s (places n) w
+unfolding segmentOf faultTold onward
+begins {n} {d} {order} {s} {k} {w} e b = record {
+  told = λ i. rw (fine-zero (w .fault) (b .fine));
+  lead = λ f h. rw (e f, e (w .field), b .field) (let z : w .field ≡ k = b .field in omega arith);
+  rest = λ h. rw (b .at, e (w .field), b .field) (let z : k - k ≡ 0 = omega arith in rw z);
+}
+
+found : {n : Name} {d : Delims} {order s : List ℕ} {w : Walk} → Walked n d order s [] w → FoundIn n d order (met s) (w .field) (faultNo (w .fault))
+unfolding partsTold
+found {n} {d} {order} {s} {w} x = record { told = λ i. sym (x .told i ∙ done (faultTold i (w .field) (faultNo (w .fault)))) }
+
+-- a fault that is found is the answer, whatever follows
+stops : (f : Fault) (i k l : ℕ) (t u : Told (Unit {0})) → fineOf f ≡ false → (faultTold i k (faultNo f) >> t) ≡ (faultTold i k (faultNo f then l) >> u)
+unfolding faultTold
+stops f i k l t u h = rw (fault-some f h)
+
+onward-suc : (sep n : ℕ) (m : List ℕ) → after sep (onward sep n m) ≡ onward sep (suc n) m
+unfolding onward
+onward-suc sep n m = rw add-one at (onward-add sep n 1 m)
+
+-- ---- one field on
+module _ {n : Name} {d : Delims} {order s : List ℕ} {F : Field} {left : List Field} {w r : Walk} {f : ℕ} {own : List ℕ → ℕ} {first : List ℕ → List ℕ}
+    (x : Walked n d order s (F ∷ left) w) (g : Went d s f own first w r) (l : w .field < f) where
+  from : fineOf (w .fault) ≡ true → onward (d .field) (f - w .field) (met (drop (w .at) s)) ≡ onward (d .field) (pieceOf n f) (met s)
+  unfolding onward
+  from h =
+      let a : f - w .field ≡ suc (f - w .field - 1) = omega arith in
+      let b : suc (pieceOf n (w .field)) + (f - w .field - 1) ≡ pieceOf n f = omega (arith, x .lead f (omega arith)) in
+      ap (λ k. onward (d .field) k (met (drop (w .at) s))) a ∙ ap (onward (d .field) (f - w .field - 1)) (x .rest h)
+      ∙ onward-add (d .field) (suc (pieceOf n (w .field))) (f - w .field - 1) (met s) ∙ ap (λ k. onward (d .field) k (met s)) b
+
+  pub judged-at : fineOf (w .fault) ≡ true → Judged d s f own first (onward (d .field) (pieceOf n f) (met s)) r
+  judged-at h = subst (λ m. Judged d s f own first m r) (from h) (g .judged h)
+
+  module _ (e : numberOf (partOf d (here n (met s)) F) ≡ f) (o : ownFault d (segment n d s) (partOf d (here n (met s)) F) ≡ own (fieldOf d (here n (met s)) f)) where
+    step-told : (i : ℕ) → partsTold d order i (segment n d s) (segment n d s .parts)
+        ≡ (faultTold i (r .field) (faultNo (r .fault) then laterFault d order (segment n d s) f) >> partsTold d order i (segment n d s) (map (partOf d (here n (met s))) left))
+    unfolding partsTold partFault fieldOf faultTold
+    step-told i =
+        cases (fineOf (w .fault))
+        (λ h. let j = judged-at h in
+        let q : own (fieldOf d (here n (met s)) f) ≡ faultNo (r .fault) = ap own (piece-at (d .field) (pieceOf n f) (met s)) ∙ sym (j .told) in
+        x .told i ∙ rw (fine-zero (w .fault) h, e, j .numbered, o, q))
+        (λ h. x .told i ∙ rw (g .ended h) (stops (w .fault) i (w .field) (laterFault d order (segment n d s) f) _ _ h))
+
+    pub step : laterFault d order (segment n d s) f ≡ 0 → Walked n d order s left r
+    step z = record {
+      told = λ i. step-told i ∙ rw (z, then-zero (faultNo (r .fault)));
+      lead = cases (fineOf (w .fault))
+          (λ h k q. let j = judged-at h .numbered in
+          rw j (omega (arith, x .lead k (omega arith), x .lead f (omega arith))))
+          (λ h. rw (g .ended h) (x .lead));
+      rest = λ h. cases (fineOf (w .fault))
+          (λ v. let j = judged-at v in j .rest ∙ onward-suc (d .field) (pieceOf n f) (met s) ∙ rw (j .numbered))
+          (λ v. rw (g .ended v) (x .rest (rw (g .ended v) at h)));
+    }
