@@ -18,7 +18,9 @@ use Rattle.scan.specs.Scan.{until, is, after, onward}
 use Rattle.value.specs.Rules.{faultNo, fineOf}
 use Rattle.value.specs.declared.Fault.{Fault}
 use Rattle.places.specs.declared.Walk.{Walk}
-use Rattle.places.specs.Check.{Begins, Judged, Went, here, FoundIn}
+use Rattle.places.specs.declared.Form.{Form}
+use Rattle.places.specs.declared.Form.the-variants.{One, Three}
+use Rattle.places.specs.Check.{entryFor, entriesFault, formFault, Begins, Judged, Went, To, here, FoundIn}
 use Rattle.places.proofs.Pieces.{piece-at, onward-add}
 use Rattle.places.proofs.Laws.{fine-zero, fault-some}
 
@@ -40,7 +42,7 @@ begins {n} {d} {order} {s} {k} {w} e b = record {
   rest = λ h. rw (b .at, e (w .field), b .field) (let z : k - k ≡ 0 = omega arith in rw z);
 }
 
-found : {n : Name} {d : Delims} {order s : List ℕ} {w : Walk} → Walked n d order s [] w → FoundIn n d order (met s) (w .field) (faultNo (w .fault))
+pub found : {n : Name} {d : Delims} {order s : List ℕ} {w : Walk} → Walked n d order s [] w → FoundIn n d order (met s) (w .field) (faultNo (w .fault))
 unfolding partsTold
 found {n} {d} {order} {s} {w} x = record { told = λ i. sym (x .told i ∙ done (faultTold i (w .field) (faultNo (w .fault)))) }
 
@@ -89,3 +91,26 @@ module _ {n : Name} {d : Delims} {order s : List ℕ} {F : Field} {left : List F
           (λ v. let j = judged-at v in j .rest ∙ onward-suc (d .field) (pieceOf n f) (met s) ∙ rw (j .numbered))
           (λ v. rw (g .ended v) (x .rest (rw (g .ended v) at h)));
     }
+
+    -- a field after which 26 or 27 is judged is its segment's last
+    pub last-found : (k : Fault) → faultNo k ≡ (faultNo (r .fault) then laterFault d order (segment n d s) f) → left ≡ [] → FoundIn n d order (met s) (r .field) (faultNo k)
+    unfolding partsTold
+    last-found k z q = record {
+      told = λ i. sym (step-told i ∙ rw (q, ← z) (done (faultTold i (r .field) (faultNo k))));
+    }
+
+-- ---- a field by its form
+own-is : (n : Name) (d : Delims) (s : List ℕ) (f : ℕ) (form : Form)
+    → ownFault d (segment n d s) (partOf d (here n (met s)) (entryFor f form)) ≡ formFault d form (fieldOf d (here n (met s)) f)
+unfolding ownFault partOf entryFor formFault entriesFault
+own-is n d s f (One a) = refl
+own-is n d s f (Three a b c) = refl
+
+number-is : (n : Name) (d : Delims) (s : List ℕ) (f : ℕ) (form : Form) → numberOf (partOf d (here n (met s)) (entryFor f form)) ≡ f
+unfolding numberOf partOf entryFor
+number-is n d s f (One a) = refl
+number-is n d s f (Three a b c) = refl
+
+pub go : {n : Name} {d : Delims} {order s : List ℕ} {left : List Field} {w r : Walk} {f : ℕ} {form : Form} → Walked n d order s (entryFor f form ∷ left) w
+    → To d s f form w r → w .field < f → laterFault d order (segment n d s) f ≡ 0 → Walked n d order s left r
+go {n} {d} {order} {s} {left} {w} {r} {f} {form} x g l z = step x (g .went) l (number-is n d s f form) (own-is n d s f form) z

@@ -29,7 +29,7 @@ use Rattle.places.specs.declared.Place.the-variants.{Unread, Must, May}
 use Rattle.places.specs.declared.Form.{Form}
 use Rattle.places.specs.declared.Form.the-variants.{One, Three}
 use Rattle.places.specs.declared.Walk.{Walk}
-use Rattle.places.specs.Check.{placeFault, Smalls, JudgedOf, componentsFault, ComponentsOf, entriesFrom, entriesFault, formFault, formHead, SmallForm, ReadOf, Went}
+use Rattle.places.specs.Check.{placeFault, Smalls, JudgedOf, componentsFault, ComponentsOf, entriesFrom, entriesFault, formFault, formHead, SmallForm, ReadOf, Went, To}
 use Rattle.places.proofs.Pieces.{forward, component-is, next-more, next-long, next-low, rest-long, rest-more, after-field}
 
 -- ---- faults
@@ -226,12 +226,12 @@ field-far : (d : Delims) → Proper d → (b : ℕ) → is (d .field) (256 + b) 
 field-far d p b = ne-eqb (256 + b) (d .field) (omega (arith, p .field .high))
 
 module _ (d : Delims) (s : List ℕ) (n : ℕ) (own : List ℕ → ℕ) (first : List ℕ → List ℕ) (w : Walk) (q : Bool) (e : q ≡ fineOf (w .fault)) where
-  pub field-ended : not q ≡ true → Went d s n own first w w
-  field-ended h = record { ended = λ f. refl; judged = λ f. never (sym f ∙ sym e ∙ not-true q h) }
+  pub went-ended : not q ≡ true → Went d s n own first w w
+  went-ended h = record { ended = λ f. refl; judged = λ f. never (sym f ∙ sym e ∙ not-true q h) }
 
-  pub field-judged : (r : Walk) (u k : ℕ) → Proper d → not q ≡ false → met (drop u s) ≡ onward (d .field) (n - w .field) (met (drop (w .at) s))
+  pub went-judged : (r : Walk) (u k : ℕ) → Proper d → not q ≡ false → met (drop u s) ≡ onward (d .field) (n - w .field) (met (drop (w .at) s))
       → ReadOf d own first (take (length s - u) (drop u s)) (faultNo (r .fault)) (r .head) k → r .field ≡ n → r .start ≡ u → r .at ≡ u + k → Went d s n own first w r
-  field-judged r u k p h g c a b f = record {
+  went-judged r u k p h g c a b f = record {
     ended = λ z. never (sym (not-false q h) ∙ e ∙ z);
     judged = λ z. let t : List ℕ = drop u s in
         let x : ReadOf d own first t (faultNo (r .fault)) (r .head) k = rw (rest-is s u) at c in
@@ -243,6 +243,14 @@ module _ (d : Delims) (s : List ℕ) (n : ℕ) (own : List ℕ → ℕ) (first :
           rest = ap (λ l. after (d .field) (met l)) m ∙ ap (after (d .field)) (sym (from-met (is (d .field)) (field-far d p) t)) ∙ after-field (d .field) (met t) ∙ ap (after (d .field)) g;
         };
   }
+
+module _ (d : Delims) (s : List ℕ) (n : ℕ) (form : Form) (w : Walk) (q : Bool) (e : q ≡ fineOf (w .fault)) where
+  pub field-ended : not q ≡ true → To d s n form w w
+  field-ended h = record { went = went-ended d s n (formFault d form) (formHead d form) w q e h }
+
+  pub field-judged : (r : Walk) (u k : ℕ) → Proper d → not q ≡ false → met (drop u s) ≡ onward (d .field) (n - w .field) (met (drop (w .at) s))
+      → ReadOf d (formFault d form) (formHead d form) (take (length s - u) (drop u s)) (faultNo (r .fault)) (r .head) k → r .field ≡ n → r .start ≡ u → r .at ≡ u + k → To d s n form w r
+  field-judged r u k p h g c a b f = record { went = went-judged d s n (formFault d form) (formHead d form) w q e r u k p h g c a b f }
 
 pub part-within : (s : List ℕ) (u k : ℕ) → u ≤ length s → k ≤ length (take (length s - u) (drop u s)) → u + k ≤ length s
 part-within s u k h e = omega (arith, part-long s u)

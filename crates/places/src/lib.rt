@@ -13,7 +13,7 @@ ghost use Rattle.rules.specs.Shift.{met};
 ghost use Rattle.scan.specs.Scan.{Printable, Proper, onward};
 ghost use Rattle.value.specs.Rules.{faultNo};
 ghost use Rattle.judge.specs.Judge.{Raw};
-ghost use Rattle.places.specs.Check.{placeFault, formFault, formHead, Smalls, SmallForm, JudgedOf, ComponentsOf, ReadOf, Begins, Ready, Went, Within, FoundIn};
+ghost use Rattle.places.specs.Check.{placeFault, formFault, formHead, Smalls, SmallForm, JudgedOf, ComponentsOf, ReadOf, Begins, Ready, To, Within, FoundIn, OrderAt};
 
 // A component of a field, as the table has it.
 pub enum Place {
@@ -215,7 +215,7 @@ fn past(s: &[u8], at: usize, n: usize, sep: u8) -> usize
 // On to a field and through it, where no fault is found yet.
 fn field(s: &[u8], d: Delims, w: Walk, number: usize, form: Form) -> Walk
     requires { ⌜ Proper d × SmallForm form × Ready (now s) number w ⌝ }
-    ensures { λ r. ⌜ Went d (now (s .entry)) number (formFault d form) (formHead d form) w r ⌝ }
+    ensures { λ r. ⌜ To d (now (s .entry)) number form w r ⌝ }
     ensures within { λ r. ⌜ Within (now (s .entry)) number r ⌝ }
 {
     let fault = w.fault;
@@ -233,4 +233,55 @@ fn field(s: &[u8], d: Delims, w: Walk, number: usize, form: Form) -> Walk
         head: r.head,
         at: start + r.len,
     }
+}
+
+// ---- the segments
+
+// The first fault of a segment's read places, and its field; of an OBR also where its order number lies.
+pub struct Found {
+    pub fault: Fault,
+    pub field: usize,
+    pub at: usize,
+    pub len: usize,
+}
+
+fn ended(w: Walk) -> Found
+    ensures { λ r. ⌜ (r .fault ≡ w .fault) × (r .field ≡ w .field) ⌝ }
+{
+    let fault = w.fault;
+    Found {
+        fault,
+        field: w.field,
+        at: 0,
+        len: 0,
+    }
+}
+
+pub fn pv1(s: &[u8], d: Delims) -> Found
+    requires { ⌜ Proper d ⌝ }
+    ensures { λ r. ⌜ ((order : List ℕ) → FoundIn Pv1 d order (met (now (s .entry))) (r .field) (faultNo (r .fault))) ⌝ }
+{
+    let w = begin(0);
+    let w = field(s, d, w, 2, Form::One(Place::Must(Rule::OneOf(Words::Classes))));
+    ended(w)
+}
+
+pub fn spm(s: &[u8], d: Delims) -> Found
+    requires { ⌜ Proper d ⌝ }
+    ensures { λ r. ⌜ ((order : List ℕ) → FoundIn Spm d order (met (now (s .entry))) (r .field) (faultNo (r .fault))) ⌝ }
+{
+    let w = begin(0);
+    let w = field(
+        s,
+        d,
+        w,
+        4,
+        Form::Three(
+            Place::Must(Rule::Digits(3)),
+            Place::Unread,
+            Place::Must(Rule::OneOf(Words::Jc10)),
+        ),
+    );
+    let w = field(s, d, w, 17, Form::One(Place::Must(Rule::Time)));
+    ended(w)
 }
