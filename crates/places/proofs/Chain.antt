@@ -5,23 +5,28 @@ use native.Mathlib.Numerals.{add-one}
 use mathlib.Core.Path.{_≡_, refl, sym, ap, subst, _∙_}
 use mathlib.Core.List.{List, [], _∷_, map}
 use mathlib.Core.Bool.{Bool, true, false}
-use lib.ListN.{drop}
+use lib.ListN.{take, drop}
 use Rattle.rules.specs.declared.Delims.{Delims}
 use Rattle.rules.specs.declared.Name.{Name}
-use Rattle.rules.specs.Told.{Told, gives, refused, _>>_, _then_}
-use Rattle.rules.specs.Shift.{met}
+use Rattle.rules.specs.Told.{Told, gives, refused, _>>_, _then_, _when_}
+use Rattle.rules.specs.Lists.{has}
+use Rattle.rules.specs.Shift.{met, byteOf}
 use Rattle.rules.specs.Places.{Field, places}
-use Rattle.rules.specs.View.{pieceOf, fieldOf, partOf, Segment, segmentOf}
+use Rattle.rules.specs.View.{pieceOf, fieldOf, componentOf, firstRepetition, seenIn, partOf, Segment, segmentOf}
+use Rattle.rules.specs.Judge.{plainOf, judge, judgeAll}
 use Rattle.rules.specs.Check.{numberOf, ownFault, laterFault, partFault, faultTold, partsTold}
-use Rattle.rules.proofs.Logic.{cases, then-zero, done}
-use Rattle.scan.specs.Scan.{until, is, after, onward}
-use Rattle.value.specs.Rules.{faultNo, fineOf}
+use Rattle.rules.proofs.Logic.{cases, then-zero, then-none, done}
+use Rattle.scan.specs.Scan.{until, is, ends, after, onward, Proper}
+use Rattle.value.specs.Rules.{ruleOf, faultNo, fineOf}
 use Rattle.value.specs.declared.Fault.{Fault}
+use Rattle.value.specs.declared.Rule.{Rule}
+use Rattle.places.specs.declared.Place.the-variants.{Must}
 use Rattle.places.specs.declared.Walk.{Walk}
 use Rattle.places.specs.declared.Form.{Form}
 use Rattle.places.specs.declared.Form.the-variants.{One, Three}
-use Rattle.places.specs.Check.{entryFor, entriesFault, formFault, Begins, Judged, Went, To, here, FoundIn}
-use Rattle.places.proofs.Pieces.{piece-at, onward-add}
+use Rattle.places.specs.Check.{entryFor, entriesFrom, entriesFault, formFault, formHead, Begins, Judged, Went, To, here, FoundIn}
+use Rattle.places.proofs.Pieces.{piece-at, onward-add, forward, component-is}
+use Rattle.places.proofs.Plain.{lettersOnly, raw-value}
 use Rattle.places.proofs.Laws.{fine-zero, fault-some}
 
 abbrev pub segment : Name → Delims → List ℕ → Segment
@@ -92,13 +97,6 @@ module _ {n : Name} {d : Delims} {order s : List ℕ} {F : Field} {left : List F
           (λ v. rw (g .ended v) (x .rest (rw (g .ended v) at h)));
     }
 
-    -- a field after which 26 or 27 is judged is its segment's last
-    pub last-found : (k : Fault) → faultNo k ≡ (faultNo (r .fault) then laterFault d order (segment n d s) f) → left ≡ [] → FoundIn n d order (met s) (r .field) (faultNo k)
-    unfolding partsTold
-    last-found k z q = record {
-      told = λ i. sym (step-told i ∙ rw (q, ← z) (done (faultTold i (r .field) (faultNo k))));
-    }
-
 -- ---- a field by its form
 own-is : (n : Name) (d : Delims) (s : List ℕ) (f : ℕ) (form : Form)
     → ownFault d (segment n d s) (partOf d (here n (met s)) (entryFor f form)) ≡ formFault d form (fieldOf d (here n (met s)) f)
@@ -114,3 +112,40 @@ number-is n d s f (Three a b c) = refl
 pub go : {n : Name} {d : Delims} {order s : List ℕ} {left : List Field} {w r : Walk} {f : ℕ} {form : Form} → Walked n d order s (entryFor f form ∷ left) w
     → To d s f form w r → w .field < f → laterFault d order (segment n d s) f ≡ 0 → Walked n d order s left r
 go {n} {d} {order} {s} {left} {w} {r} {f} {form} x g l z = step x (g .went) l (number-is n d s f form) (own-is n d s f form) z
+
+-- a field after which 26 or 27 is judged is its segment's last
+pub last : {n : Name} {d : Delims} {order s : List ℕ} {w r : Walk} {f : ℕ} {form : Form} (k : Fault) → Walked n d order s (entryFor f form ∷ []) w
+    → To d s f form w r → w .field < f → faultNo k ≡ (faultNo (r .fault) then laterFault d order (segment n d s) f) → FoundIn n d order (met s) (r .field) (faultNo k)
+unfolding partsTold
+last {n} {d} {order} {s} {w} {r} {f} {form} k x g l z = record {
+  told = λ i. sym (step-told x (g .went) l (number-is n d s f form) (own-is n d s f form) i ∙ rw (← z) (done (faultTold i (r .field) (faultNo k))));
+}
+
+pub then-by : (n a b : ℕ) → (n ≡ 0 → a ≡ b) → (n then a) ≡ (n then b)
+then-by zero a b h = h refl
+then-by (suc n) a b h = refl
+
+-- ---- what was read
+zero-fine : (f : Fault) → faultNo f ≡ 0 → fineOf f ≡ true
+zero-fine f h = cases (fineOf f) (λ e. e) (λ e. absurd (omega (arith, fault-some f e)))
+
+-- where no fault is found, none was before
+pub earlier-fine : {d : Delims} {s : List ℕ} {f : ℕ} {form : Form} {w r : Walk} → To d s f form w r → faultNo (r .fault) ≡ 0 → faultNo (w .fault) ≡ 0
+earlier-fine {w = w} g h =
+    cases (fineOf (w .fault)) (λ e. fine-zero (w .fault) e) (λ e. rw (g .went .ended e) at h)
+
+-- a required value of letters and digits, by its place in the segment
+module _ {n : Name} {d : Delims} {order s : List ℕ} {left : List Field} {w r : Walk} {f : ℕ} {rule : Rule} (p : Proper d)
+    (x : Walked n d order s (entryFor f (One (Must rule)) ∷ left) w) (g : To d s f (One (Must rule)) w r) (l : w .field < f) where
+  pub value-read : lettersOnly (ruleOf rule) ≡ true → faultNo (r .fault) ≡ 0
+      → take (r .head) (drop (r .start) s) ≡ plainOf d (componentOf d (firstRepetition d (fieldOf d (here n (met s)) f)) 1)
+  unfolding formFault formHead entriesFault entriesFrom judgeAll seenIn fieldOf forward
+  value-read o h =
+      let m : List ℕ = onward (d .field) (pieceOf n f) (met s) in
+      let j = judged-at x (g .went) l (zero-fine (w .fault) (earlier-fine g h)) in
+      let c : List ℕ = componentOf d (firstRepetition d (until (is (d .field)) m)) 1 in
+      let e : c ≡ until (ends d) m = component-is d p 0 m in
+      let a : (22 when has (d .repetition) (until (is (d .field)) m) then (judge d true (ruleOf rule) c then 0)) ≡ 0 = sym (j .told) ∙ h in
+      let b : judge d true (ruleOf rule) c ≡ 0 = then-none (judge d true (ruleOf rule) c) 0 (then-none (22 when has (d .repetition) (until (is (d .field)) m)) (judge d true (ruleOf rule) c then 0) a .1) .0 in
+      sym (j .raw) ∙ ap (map byteOf) (sym e) ∙ sym (raw-value d p (ruleOf rule) c o b)
+      ∙ ap (λ t. plainOf d (componentOf d (firstRepetition d t) 1)) (sym (piece-at (d .field) (pieceOf n f) (met s)))

@@ -64,6 +64,13 @@ module _ (f g : Fault) (q : Bool) (e : q ≡ fineOf f) where
   pub first-stays : q ≡ false → faultNo f ≡ (faultNo f then faultNo g)
   first-stays h = rw (fault-some f (sym e ∙ h))
 
+pub unless-holds : (q : Bool) (f : Fault) → q ≡ true → faultNo Nothing ≡ (faultNo f when not q)
+unfolding faultNo
+unless-holds q f h = rw h
+
+pub unless-not : (q : Bool) (f : Fault) → q ≡ false → faultNo f ≡ (faultNo f when not q)
+unless-not q f h = rw h
+
 pub repeated-yes : (q : Bool) (f : Fault) → q ≡ true → faultNo Repeated ≡ (22 when q then faultNo f)
 unfolding faultNo
 repeated-yes q f h = rw h
@@ -256,6 +263,7 @@ pub part-within : (s : List ℕ) (u k : ℕ) → u ≤ length s → k ≤ length
 part-within s u k h e = omega (arith, part-long s u)
 
 pub ruleset first-of·laws = (first-later, first-stays)
+pub ruleset unless·laws = (unless-holds, unless-not)
 pub ruleset repeated·laws = (repeated-yes, repeated-no)
 pub ruleset judge-place·laws = (unread-is, must-is, may-is, must-small, may-small)
 pub ruleset component·laws = (head-raw, component-judged, part-length)

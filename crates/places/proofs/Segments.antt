@@ -1,23 +1,30 @@
 -- The segments: each the chain of its fields, as the table has them. Assumes nothing.
-use Prim.Native.Nat.{ℕ, _-_, _≤_, _<_}
+use Prim.Native.Nat.{ℕ, _+_, _-_, _≤_, _<_}
 use native.Mathlib.Omega.{arith}
 use mathlib.Core.Path.{_≡_, refl, sym, ap, _∙_}
+use mathlib.Core.Bool.{Bool, not}
 use mathlib.Core.List.{List, [], _∷_}
+use lib.ListN.{take, drop}
 use Rattle.rules.specs.declared.Delims.{Delims}
 use Rattle.rules.specs.declared.Name.the-variants.{Msh, Pid, Pv1, Spm, Obr, Orc, Obx}
+use Rattle.rules.specs.Told.{_then_, _when_}
+use Rattle.rules.specs.Lists.{same}
 use Rattle.rules.specs.Shift.{met}
 use Rattle.rules.specs.Places.{places}
-use Rattle.rules.specs.View.{pieceOf, segmentOf}
-use Rattle.rules.specs.Check.{laterFault}
+use Rattle.rules.specs.View.{pieceOf, partOf, seenIn, segmentOf, partAt, seenAt}
+use Rattle.rules.specs.Check.{valueAt, laterFault}
+use Rattle.scan.specs.Scan.{Proper}
 use Rattle.value.specs.declared.Fault.{Fault}
+use Rattle.value.specs.declared.Fault.the-variants.{Differs}
 use Rattle.value.specs.Rules.{ruleOf, textOf, faultNo}
 use Rattle.value.specs.declared.Words.the-variants.{Classes, Jc10, Group, Re}
 use Rattle.value.specs.declared.Rule.the-variants.{Time, Digits, Capitals, OneOf}
 use Rattle.places.specs.declared.Place.the-variants.{Unread, Must, May}
 use Rattle.places.specs.declared.Form.the-variants.{One, Three}
 use Rattle.places.specs.declared.Walk.{Walk}
-use Rattle.places.specs.Check.{entryFor, entriesFrom, Begins, Within, To, FoundIn}
-use Rattle.places.proofs.Chain.{Walked, begins, go, found}
+use Rattle.places.specs.Check.{entryFor, entriesFrom, Begins, Within, To, here, FoundIn, OrderAt}
+use Rattle.places.proofs.Plain.{lettersOnly}
+use Rattle.places.proofs.Chain.{Walked, begins, go, last, found, then-by, earlier-fine, value-read}
 
 whole-piece : (f : ℕ) → f ≡ f - 0
 whole-piece f = omega arith
@@ -34,5 +41,35 @@ module _ {d : Delims} {s : List ℕ} {r : Fault} {k : ℕ} where
   unfolding places entryFor entriesFrom ruleOf textOf pieceOf segmentOf laterFault
   spm-found e y x l v order = rw (e .0, e .1) (found (go (go (begins whole-piece v) x (omega (arith, v .field)) refl) y (omega (arith, l .numbered)) refl))
 
+module _ {d : Delims} {s : List ℕ} {a b c : Walk} where
+  pub obr-found : To d s 4 (Three (Must (Capitals 8)) Unread (Must (OneOf Group))) b c → To d s 2 (One (Must (Digits 15))) a b → Within s 2 b → Begins 0 a
+      → (order : List ℕ) → FoundIn Obr d order (met s) (c .field) (faultNo (c .fault))
+  unfolding places entryFor entriesFrom ruleOf textOf pieceOf segmentOf laterFault
+  obr-found y x l v order = found (go (go (begins whole-piece v) x (omega (arith, v .field)) refl) y (omega (arith, l .numbered)) refl)
+
+  pub obr-order : Proper d → To d s 4 (Three (Must (Capitals 8)) Unread (Must (OneOf Group))) b c → To d s 2 (One (Must (Digits 15))) a b → Within s 2 b → Begins 0 a
+      → OrderAt d s (faultNo (c .fault)) (b .start) (b .head)
+  unfolding places entryFor entriesFrom ruleOf textOf pieceOf segmentOf partOf partAt seenIn seenAt lettersOnly
+  obr-order p y x l v = record {
+    is = λ h. value-read {n = Obr} {order = []} p (begins whole-piece v) x (omega (arith, v .field)) refl (earlier-fine y h);
+    within = l .part;
+  }
+
+  pub orc-found : (order : List ℕ) (k u : Fault) (q : Bool) → Proper d → faultNo k ≡ (faultNo (c .fault) then faultNo u) → faultNo u ≡ (faultNo Differs when not q)
+      → q ≡ same (take (c .start + c .head - c .start) (drop (c .start) s)) order
+      → To d s 2 (One (Must (Digits 15))) b c → To d s 1 (One (Must (OneOf Re))) a b → Within s 1 b → Begins 0 a
+      → FoundIn Orc d order (met s) (c .field) (faultNo k)
+  unfolding places entryFor entriesFrom ruleOf textOf pieceOf segmentOf partOf partAt seenIn seenAt laterFault faultNo lettersOnly
+  orc-found order k u q p e f g y x l v =
+      let first : Walked Orc d order s (entryFor 2 (One (Must (Digits 15))) ∷ []) b = go (begins whole-piece v) x (omega (arith, v .field)) refl in
+      let value : List ℕ = valueAt d (segmentOf d (here Orc (met s))) 2 1 in
+      let z : c .start + c .head - c .start ≡ c .head = omega arith in
+      last k first y (omega (arith, l .numbered))
+      (e ∙ then-by (faultNo (c .fault)) (faultNo u) (27 when not (same value order))
+      (λ h. let w : take (c .head) (drop (c .start) s) ≡ value = value-read p first y (omega (arith, l .numbered)) refl h in
+      f ∙ ap (λ t. 27 when not t) g ∙ rw (z, w)))
+
 pub ruleset pv1·laws = pv1-found
 pub ruleset spm·laws = spm-found
+pub ruleset obr·laws = (obr-found, obr-order)
+pub ruleset orc·laws = orc-found

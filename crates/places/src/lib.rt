@@ -4,6 +4,7 @@ use value::Fault;
 use value::Rule;
 use value::Words;
 ghost use mathlib.Core.Path.{_≡_};
+ghost use mathlib.Core.Bool.{not};
 ghost use mathlib.Core.List.{List, [], _∷_};
 ghost use Prim.Native.Nat.{ℕ, _+_, _≤_, _<_};
 ghost use lib.ListN.{length, take, drop};
@@ -36,6 +37,16 @@ fn first_of(f: Fault, g: Fault) -> Fault
 {
     if value::fine(f) {
         return g;
+    }
+    f
+}
+
+// A fault where something doesn't hold.
+fn unless(holds: bool, f: Fault) -> Fault
+    ensures { λ r. ⌜ faultNo r ≡ (faultNo f when not holds) ⌝ }
+{
+    if holds {
+        return Fault::Nothing;
     }
     f
 }
@@ -284,4 +295,52 @@ pub fn spm(s: &[u8], d: Delims) -> Found
     );
     let w = field(s, d, w, 17, Form::One(Place::Must(Rule::Time)));
     ended(w)
+}
+
+pub fn obr(s: &[u8], d: Delims) -> Found
+    requires { ⌜ Proper d ⌝ }
+    ensures { λ r. ⌜ ((order : List ℕ) → FoundIn Obr d order (met (now (s .entry))) (r .field) (faultNo (r .fault))) ⌝ }
+    ensures order { λ r. ⌜ OrderAt d (now (s .entry)) (faultNo (r .fault)) (r .at) (r .len) ⌝ }
+{
+    let w = begin(0);
+    let order = field(s, d, w, 2, Form::One(Place::Must(Rule::Digits(15))));
+    let w = field(
+        s,
+        d,
+        order,
+        4,
+        Form::Three(
+            Place::Must(Rule::Capitals(8)),
+            Place::Unread,
+            Place::Must(Rule::OneOf(Words::Group)),
+        ),
+    );
+    let fault = w.fault;
+    Found {
+        fault,
+        field: w.field,
+        at: order.start,
+        len: order.head,
+    }
+}
+
+// ORC, after the OBR whose order number is `order`.
+pub fn orc(s: &[u8], d: Delims, order: &[u8]) -> Found
+    requires { ⌜ Proper d ⌝ }
+    ensures { λ r. ⌜ FoundIn Orc d (now (order .entry)) (met (now (s .entry))) (r .field) (faultNo (r .fault)) ⌝ }
+{
+    let w = begin(0);
+    let w = field(s, d, w, 1, Form::One(Place::Must(Rule::OneOf(Words::Re))));
+    let w = field(s, d, w, 2, Form::One(Place::Must(Rule::Digits(15))));
+    let f = w.fault;
+    let at = w.start;
+    let end = at + w.head;
+    let same = value::equal(&s[at..end], order);
+    let fault = first_of(f, unless(same, Fault::Differs));
+    Found {
+        fault,
+        field: w.field,
+        at: 0,
+        len: 0,
+    }
 }
