@@ -20,14 +20,16 @@ use Rattle.scan.specs.Scan.{until, is, ends, after, onward, Proper}
 use Rattle.value.specs.Rules.{ruleOf, faultNo, fineOf}
 use Rattle.value.specs.declared.Fault.{Fault}
 use Rattle.value.specs.declared.Rule.{Rule}
+use Rattle.closed.specs.Closed.{forward, charsetFault}
+use Rattle.closed.proofs.Pieces.{piece-at}
 use Rattle.places.specs.declared.Place.the-variants.{Must}
 use Rattle.places.specs.declared.Walk.{Walk}
 use Rattle.places.specs.declared.Form.{Form}
-use Rattle.places.specs.declared.Form.the-variants.{One, Three}
+use Rattle.places.specs.declared.Form.the-variants.{One, Three, Charset, Names}
 use Rattle.places.specs.Check.{entryFor, entriesFrom, entriesFault, formFault, formHead, Begins, Judged, Went, To, here, FoundIn}
-use Rattle.places.proofs.Pieces.{piece-at, onward-add, forward, component-is}
+use Rattle.places.proofs.Pieces.{onward-add}
 use Rattle.places.proofs.Plain.{lettersOnly, raw-value}
-use Rattle.places.proofs.Laws.{fine-zero, fault-some}
+use Rattle.places.proofs.Laws.{fine-zero, fault-some, component-is}
 
 abbrev pub segment : Name → Delims → List ℕ → Segment
 segment n d s = segmentOf d (here n (met s))
@@ -100,14 +102,18 @@ module _ {n : Name} {d : Delims} {order s : List ℕ} {F : Field} {left : List F
 -- ---- a field by its form
 own-is : (n : Name) (d : Delims) (s : List ℕ) (f : ℕ) (form : Form)
     → ownFault d (segment n d s) (partOf d (here n (met s)) (entryFor f form)) ≡ formFault d form (fieldOf d (here n (met s)) f)
-unfolding ownFault partOf entryFor formFault entriesFault
+unfolding ownFault partOf entryFor formFault entriesFault charsetFault
 own-is n d s f (One a) = refl
 own-is n d s f (Three a b c) = refl
+own-is n d s f Charset = refl
+own-is n d s f Names = refl
 
 number-is : (n : Name) (d : Delims) (s : List ℕ) (f : ℕ) (form : Form) → numberOf (partOf d (here n (met s)) (entryFor f form)) ≡ f
 unfolding numberOf partOf entryFor
 number-is n d s f (One a) = refl
 number-is n d s f (Three a b c) = refl
+number-is n d s f Charset = refl
+number-is n d s f Names = refl
 
 pub go : {n : Name} {d : Delims} {order s : List ℕ} {left : List Field} {w r : Walk} {f : ℕ} {form : Form} → Walked n d order s (entryFor f form ∷ left) w
     → To d s f form w r → w .field < f → laterFault d order (segment n d s) f ≡ 0 → Walked n d order s left r

@@ -12,8 +12,8 @@ use Rattle.rules.specs.declared.Delims.{Delims}
 use Rattle.rules.specs.Told.{_then_, _when_}
 use Rattle.rules.specs.Lists.{has}
 use Rattle.rules.specs.Shift.{met, byteOf}
-use Rattle.rules.specs.Judge.{judge, judgeAll}
-use Rattle.rules.specs.View.{seenIn, firstRepetition}
+use Rattle.rules.specs.Judge.{judge, judgeAll, namesFault}
+use Rattle.rules.specs.View.{componentOf, firstRepetition, seenIn}
 use Rattle.rules.proofs.Logic.{cases, never, not-true, not-false, then-zero, done}
 use Rattle.rules.proofs.Lists.{rest-is, part-length}
 use Rattle.rules.proofs.Modes.{length-marks}
@@ -24,13 +24,15 @@ use Rattle.value.specs.declared.Fault.{Fault}
 use Rattle.value.specs.declared.Fault.the-variants.{Nothing, Missing, Null, Repeated, Escape, Long, Value, Status, Differs}
 use Rattle.value.specs.declared.Rule.{Rule}
 use Rattle.judge.specs.Judge.{Raw, Small}
+use Rattle.closed.specs.Closed.{forward, charsetFault, ClosedOf}
+use Rattle.closed.proofs.Pieces.{first-piece, repetition-is, component-at, forward-repeats, forward-long, forward-short, rest-long, rest-more}
 use Rattle.places.specs.declared.Place.{Place}
 use Rattle.places.specs.declared.Place.the-variants.{Unread, Must, May}
 use Rattle.places.specs.declared.Form.{Form}
-use Rattle.places.specs.declared.Form.the-variants.{One, Three}
+use Rattle.places.specs.declared.Form.the-variants.{One, Three, Charset, Names}
 use Rattle.places.specs.declared.Walk.{Walk}
-use Rattle.places.specs.Check.{placeFault, Smalls, JudgedOf, componentsFault, ComponentsOf, entriesFrom, entriesFault, formFault, formHead, SmallForm, ReadOf, Went, To}
-use Rattle.places.proofs.Pieces.{forward, component-is, next-more, next-long, next-low, rest-long, rest-more, after-field}
+use Rattle.places.specs.Check.{placeFault, Smalls, JudgedOf, componentsFault, ComponentsOf, entriesFrom, entriesFault, formFault, formHead, SmallForm, ReadOf, Ready, Went, To}
+use Rattle.places.proofs.Pieces.{after-field}
 
 -- ---- faults
 pub fine-zero : (f : Fault) → fineOf f ≡ true → faultNo f ≡ 0
@@ -141,24 +143,32 @@ met-length t = length-marks 0x0D _ t
 -- a component before the others
 module _ (d : Delims) (p : Proper d) (t u : List ℕ) (e : met u ≡ next d (met t)) where
   pub rest-fits : length u ≤ length t
-  rest-fits = omega (arith, next-low d (met t), met-length t, met-length u, ap length e)
+  unfolding forward
+  rest-fits = omega (arith, forward-short d p 1 (met t), met-length t, met-length u, ap length e)
 
   pub led-read : (place : Place) (ps : List Place) (f g h n k l : ℕ) (more : Bool) → JudgedOf d place t f n → ComponentsOf d ps u more g k l
       → h ≡ (f then g) → ComponentsOf d (place ∷ ps) t more h n (length t - length u + l)
-  unfolding componentsFault
+  unfolding componentsFault forward
   led-read place ps f g h n k l more j r q = record {
-    more = r .more ∙ ap (λ m. has (d .repetition) (until (is (d .field)) m)) e ∙ next-more d p (met t);
+    more = r .more ∙ ap (λ m. has (d .repetition) (until (is (d .field)) m)) e ∙ forward-repeats d p 1 (met t);
     told = q ∙ cc (j .told, r .told);
     short = j .long;
     raw = j .raw;
     long = let a : l ≡ length (until (is (d .field)) (next d (met t))) = r .long ∙ ap (λ m. length (until (is (d .field)) m)) e in
-        omega (arith, next-long d p (met t), met-length t, met-length u, ap length e, rest-fits);
+        omega (arith, forward-long d p 1 (met t), met-length t, met-length u, ap length e, rest-fits);
   }
 
   pub led-within : (l : ℕ) → l ≤ length u → length t - length u + l ≤ length t
   led-within l h = omega (arith, rest-fits)
 
 -- ---- the components of a field as the table lists them
+pub component-is : (d : Delims) → Proper d → (n : ℕ) (m : List ℕ)
+    → componentOf d (firstRepetition d (until (is (d .field)) m)) (suc n) ≡ until (ends d) (forward d n m)
+unfolding componentOf firstRepetition
+component-is d p n m =
+    let z : suc n - 1 ≡ n = omega arith in
+    rw (z, first-piece (d .repetition) (until (is (d .field)) m), repetition-is d m) (component-at d p n m)
+
 forward-next : (d : Delims) (k : ℕ) (m : List ℕ) → forward d (suc k) m ≡ next d (forward d k m)
 unfolding forward
 forward-next d zero m = refl
@@ -195,6 +205,15 @@ module _ (d : Delims) (p : Proper d) (form : Form) (t : List ℕ) (more : Bool) 
   pub read-three : (x y z : Place) → form ≡ Three x y z → ComponentsOf d (x ∷ y ∷ z ∷ []) t more f h l → ReadOf d (formFault d form) (formHead d form) t g k j
   unfolding formFault formHead
   read-three x y z q c = rw (q, e .1, e .2) (joined-read d p (x ∷ y ∷ z ∷ []) t more f g h l c (e .0))
+
+module _ (d : Delims) (form : Form) (t : List ℕ) (f g : Fault) (h k l : ℕ) (e : (g ≡ f) × (h ≡ 0) × (k ≡ l)) where
+  pub read-charset : form ≡ Charset → ClosedOf (charsetFault d) (until (is (d .field)) (met t)) (faultNo f) l → ReadOf d (formFault d form) (formHead d form) t (faultNo g) h k
+  unfolding formFault formHead
+  read-charset q c = rw (q, e .0, e .1, e .2) (record { told = c .told; raw = refl; long = c .long })
+
+  pub read-names : form ≡ Names → ClosedOf (namesFault d) (until (is (d .field)) (met t)) (faultNo f) l → ReadOf d (formFault d form) (formHead d form) t (faultNo g) h k
+  unfolding formFault formHead
+  read-names q c = rw (q, e .0, e .1, e .2) (record { told = c .told; raw = refl; long = c .long })
 
 pub small-one : (form : Form) (a : Place) → form ≡ One a → SmallForm form → Smalls a
 unfolding SmallForm
@@ -251,13 +270,25 @@ module _ (d : Delims) (s : List ℕ) (n : ℕ) (own : List ℕ → ℕ) (first :
         };
   }
 
-module _ (d : Delims) (s : List ℕ) (n : ℕ) (form : Form) (w : Walk) (q : Bool) (e : q ≡ fineOf (w .fault)) where
+module _ (d : Delims) (s : List ℕ) (n : ℕ) (form : Form) (w : Walk) (b : Ready s n w) (q : Bool) (e : q ≡ fineOf (w .fault)) where
   pub field-ended : not q ≡ true → To d s n form w w
-  field-ended h = record { went = went-ended d s n (formFault d form) (formHead d form) w q e h }
+  field-ended h = record {
+    went = went-ended d s n (formFault d form) (formHead d form) w q e h;
+    upto = let z = b .earlier in omega arith;
+    part = b .part;
+    low = b .low;
+  }
 
-  pub field-judged : (r : Walk) (u k : ℕ) → Proper d → not q ≡ false → met (drop u s) ≡ onward (d .field) (n - w .field) (met (drop (w .at) s))
-      → ReadOf d (formFault d form) (formHead d form) (take (length s - u) (drop u s)) (faultNo (r .fault)) (r .head) k → r .field ≡ n → r .start ≡ u → r .at ≡ u + k → To d s n form w r
-  field-judged r u k p h g c a b f = record { went = went-judged d s n (formFault d form) (formHead d form) w q e r u k p h g c a b f }
+  pub field-judged : (r : Walk) (u k : ℕ) → Proper d → not q ≡ false → met (drop u s) ≡ onward (d .field) (n - w .field) (met (drop (w .at) s)) → u ≤ length s
+      → ReadOf d (formFault d form) (formHead d form) (take (length s - u) (drop u s)) (faultNo (r .fault)) (r .head) k
+      → (k ≤ length (take (length s - u) (drop u s))) × (r .head ≤ length (take (length s - u) (drop u s)))
+      → r .field ≡ n → r .start ≡ u → r .at ≡ u + k → To d s n form w r
+  field-judged r u k p h g v c z x y f = record {
+    went = went-judged d s n (formFault d form) (formHead d form) w q e r u k p h g c x y f;
+    upto = omega arith;
+    part = omega (arith, part-long s u, z .1);
+    low = omega (arith, part-long s u, z .0);
+  }
 
 pub part-within : (s : List ℕ) (u k : ℕ) → u ≤ length s → k ≤ length (take (length s - u) (drop u s)) → u + k ≤ length s
 part-within s u k h e = omega (arith, part-long s u)
@@ -270,6 +301,6 @@ pub ruleset component·laws = (head-raw, component-judged, part-length)
 pub ruleset one·laws = (one-read, one-within)
 pub ruleset two·laws = (led-read, rest-fits, led-within)
 pub ruleset three·laws = (led-read, rest-fits, led-within)
-pub ruleset judge-field·laws = (read-one, read-three, small-one, small-first, small-second, small-third)
+pub ruleset judge-field·laws = (read-one, read-three, read-charset, read-names, small-one, small-first, small-second, small-third)
 pub ruleset past·laws = (past-on, past-end, one-within)
 pub ruleset field·laws = (field-ended, field-judged, part-within)

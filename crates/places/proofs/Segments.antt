@@ -17,12 +17,12 @@ use Rattle.scan.specs.Scan.{Proper}
 use Rattle.value.specs.declared.Fault.{Fault}
 use Rattle.value.specs.declared.Fault.the-variants.{Differs}
 use Rattle.value.specs.Rules.{ruleOf, textOf, faultNo}
-use Rattle.value.specs.declared.Words.the-variants.{Classes, Jc10, Group, Re}
-use Rattle.value.specs.declared.Rule.the-variants.{Time, Digits, Capitals, OneOf}
+use Rattle.value.specs.declared.Words.the-variants.{Oul, R22, OulR22, Modes, Version, Sexes, Classes, Jc10, Group, Re}
+use Rattle.value.specs.declared.Rule.the-variants.{Time, Date, Text, Digits, Capitals, OneOf}
 use Rattle.places.specs.declared.Place.the-variants.{Unread, Must, May}
-use Rattle.places.specs.declared.Form.the-variants.{One, Three}
+use Rattle.places.specs.declared.Form.the-variants.{One, Three, Charset, Names}
 use Rattle.places.specs.declared.Walk.{Walk}
-use Rattle.places.specs.Check.{entryFor, entriesFrom, Begins, Within, To, here, FoundIn, OrderAt}
+use Rattle.places.specs.Check.{entryFor, entriesFrom, Begins, To, here, FoundIn, OrderAt}
 use Rattle.places.proofs.Plain.{lettersOnly}
 use Rattle.places.proofs.Chain.{Walked, begins, go, last, found, then-by, earlier-fine, value-read}
 
@@ -30,45 +30,67 @@ whole-piece : (f : ℕ) → f ≡ f - 0
 whole-piece f = omega arith
 
 module _ {d : Delims} {s : List ℕ} {r : Fault} {k : ℕ} where
+  pub msh-found : {w₀ w₁ w₂ w₃ w₄ w₅ w : Walk} → (r ≡ w .fault) × (k ≡ w .field) → To d s 18 Charset w₅ w → To d s 12 (One (Must (OneOf Version))) w₄ w₅
+      → To d s 11 (One (Must (OneOf Modes))) w₃ w₄ → To d s 10 (One (Must (Text 20))) w₂ w₃
+      → To d s 9 (Three (Must (OneOf Oul)) (Must (OneOf R22)) (Must (OneOf OulR22))) w₁ w₂ → To d s 7 (One (Must Time)) w₀ w₁ → Begins 1 w₀
+      → (order : List ℕ) → FoundIn Msh d order (met s) k (faultNo r)
+  unfolding places entryFor entriesFrom ruleOf textOf pieceOf segmentOf laterFault
+  msh-found e t₆ t₅ t₄ t₃ t₂ t₁ b order =
+      let x₁ = go (begins (λ f. refl) b) t₁ (omega (arith, b .field)) refl in
+      let x₂ = go x₁ t₂ (omega (arith, t₁ .upto)) refl in
+      let x₃ = go x₂ t₃ (omega (arith, t₂ .upto)) refl in
+      let x₄ = go x₃ t₄ (omega (arith, t₃ .upto)) refl in
+      let x₅ = go x₄ t₅ (omega (arith, t₄ .upto)) refl in
+      rw (e .0, e .1) (found (go x₅ t₆ (omega (arith, t₅ .upto)) refl))
+
+  pub pid-found : {w₀ w₁ w₂ w₃ w : Walk} → (r ≡ w .fault) × (k ≡ w .field) → To d s 8 (One (Must (OneOf Sexes))) w₃ w → To d s 7 (One (May Date)) w₂ w₃ → To d s 5 Names w₁ w₂
+      → To d s 3 (One (Must (Text 20))) w₀ w₁ → Begins 0 w₀ → (order : List ℕ) → FoundIn Pid d order (met s) k (faultNo r)
+  unfolding places entryFor entriesFrom ruleOf textOf pieceOf segmentOf laterFault
+  pid-found e t₄ t₃ t₂ t₁ b order =
+      rw (e .0, e .1)
+      (found (go (go (go (go (begins whole-piece b) t₁ (omega (arith, b .field)) refl) t₂ (omega (arith, t₁ .upto)) refl) t₃ (omega (arith, t₂ .upto)) refl) t₄ (omega (arith, t₃ .upto)) refl))
+
   pub pv1-found : {a b : Walk} → (r ≡ b .fault) × (k ≡ b .field) → To d s 2 (One (Must (OneOf Classes))) a b → Begins 0 a
       → (order : List ℕ) → FoundIn Pv1 d order (met s) k (faultNo r)
   unfolding places entryFor entriesFrom ruleOf textOf pieceOf segmentOf laterFault
   pv1-found e x v order = rw (e .0, e .1) (found (go (begins whole-piece v) x (omega (arith, v .field)) refl))
 
   pub spm-found : {a b c : Walk} → (r ≡ c .fault) × (k ≡ c .field) → To d s 17 (One (Must Time)) b c
-      → To d s 4 (Three (Must (Digits 3)) Unread (Must (OneOf Jc10))) a b → Within s 4 b → Begins 0 a
+      → To d s 4 (Three (Must (Digits 3)) Unread (Must (OneOf Jc10))) a b → Begins 0 a
       → (order : List ℕ) → FoundIn Spm d order (met s) k (faultNo r)
   unfolding places entryFor entriesFrom ruleOf textOf pieceOf segmentOf laterFault
-  spm-found e y x l v order = rw (e .0, e .1) (found (go (go (begins whole-piece v) x (omega (arith, v .field)) refl) y (omega (arith, l .numbered)) refl))
+  spm-found e y x v order = rw (e .0, e .1) (found (go (go (begins whole-piece v) x (omega (arith, v .field)) refl) y (omega (arith, x .upto)) refl))
 
 module _ {d : Delims} {s : List ℕ} {a b c : Walk} where
-  pub obr-found : To d s 4 (Three (Must (Capitals 8)) Unread (Must (OneOf Group))) b c → To d s 2 (One (Must (Digits 15))) a b → Within s 2 b → Begins 0 a
+  pub obr-found : To d s 4 (Three (Must (Capitals 8)) Unread (Must (OneOf Group))) b c → To d s 2 (One (Must (Digits 15))) a b → Begins 0 a
       → (order : List ℕ) → FoundIn Obr d order (met s) (c .field) (faultNo (c .fault))
   unfolding places entryFor entriesFrom ruleOf textOf pieceOf segmentOf laterFault
-  obr-found y x l v order = found (go (go (begins whole-piece v) x (omega (arith, v .field)) refl) y (omega (arith, l .numbered)) refl)
+  obr-found y x v order = found (go (go (begins whole-piece v) x (omega (arith, v .field)) refl) y (omega (arith, x .upto)) refl)
 
-  pub obr-order : Proper d → To d s 4 (Three (Must (Capitals 8)) Unread (Must (OneOf Group))) b c → To d s 2 (One (Must (Digits 15))) a b → Within s 2 b → Begins 0 a
+  pub obr-order : Proper d → To d s 4 (Three (Must (Capitals 8)) Unread (Must (OneOf Group))) b c → To d s 2 (One (Must (Digits 15))) a b → Begins 0 a
       → OrderAt d s (faultNo (c .fault)) (b .start) (b .head)
   unfolding places entryFor entriesFrom ruleOf textOf pieceOf segmentOf partOf partAt seenIn seenAt lettersOnly
-  obr-order p y x l v = record {
+  obr-order p y x v = record {
     is = λ h. value-read {n = Obr} {order = []} p (begins whole-piece v) x (omega (arith, v .field)) refl (earlier-fine y h);
-    within = l .part;
+    within = x .part;
   }
 
   pub orc-found : (order : List ℕ) (k u : Fault) (q : Bool) → Proper d → faultNo k ≡ (faultNo (c .fault) then faultNo u) → faultNo u ≡ (faultNo Differs when not q)
       → q ≡ same (take (c .start + c .head - c .start) (drop (c .start) s)) order
-      → To d s 2 (One (Must (Digits 15))) b c → To d s 1 (One (Must (OneOf Re))) a b → Within s 1 b → Begins 0 a
+      → To d s 2 (One (Must (Digits 15))) b c → To d s 1 (One (Must (OneOf Re))) a b → Begins 0 a
       → FoundIn Orc d order (met s) (c .field) (faultNo k)
   unfolding places entryFor entriesFrom ruleOf textOf pieceOf segmentOf partOf partAt seenIn seenAt laterFault faultNo lettersOnly
-  orc-found order k u q p e f g y x l v =
+  orc-found order k u q p e f g y x v =
       let first : Walked Orc d order s (entryFor 2 (One (Must (Digits 15))) ∷ []) b = go (begins whole-piece v) x (omega (arith, v .field)) refl in
       let value : List ℕ = valueAt d (segmentOf d (here Orc (met s))) 2 1 in
       let z : c .start + c .head - c .start ≡ c .head = omega arith in
-      last k first y (omega (arith, l .numbered))
+      last k first y (omega (arith, x .upto))
       (e ∙ then-by (faultNo (c .fault)) (faultNo u) (27 when not (same value order))
-      (λ h. let w : take (c .head) (drop (c .start) s) ≡ value = value-read p first y (omega (arith, l .numbered)) refl h in
+      (λ h. let w : take (c .head) (drop (c .start) s) ≡ value = value-read p first y (omega (arith, x .upto)) refl h in
       f ∙ ap (λ t. 27 when not t) g ∙ rw (z, w)))
 
+pub ruleset msh·laws = msh-found
+pub ruleset pid·laws = pid-found
 pub ruleset pv1·laws = pv1-found
 pub ruleset spm·laws = spm-found
 pub ruleset obr·laws = (obr-found, obr-order)

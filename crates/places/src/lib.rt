@@ -1,4 +1,5 @@
 // The read places of each segment, field by field, as the table of document 01 lists them.
+use closed::ClosedRead;
 use rules::Delims;
 use value::Fault;
 use value::Rule;
@@ -8,13 +9,13 @@ ghost use mathlib.Core.Bool.{not};
 ghost use mathlib.Core.List.{List, [], _∷_};
 ghost use Prim.Native.Nat.{ℕ, _+_, _≤_, _<_};
 ghost use lib.ListN.{length, take, drop};
-ghost use Rattle.rules.specs.declared.Name.the-variants.{Pv1, Spm, Obr, Orc};
+ghost use Rattle.rules.specs.declared.Name.the-variants.{Msh, Pid, Pv1, Spm, Obr, Orc};
 ghost use Rattle.rules.specs.Told.{_then_, _when_};
 ghost use Rattle.rules.specs.Shift.{met};
 ghost use Rattle.scan.specs.Scan.{Printable, Proper, onward};
 ghost use Rattle.value.specs.Rules.{faultNo};
 ghost use Rattle.judge.specs.Judge.{Raw};
-ghost use Rattle.places.specs.Check.{placeFault, formFault, formHead, Smalls, SmallForm, JudgedOf, ComponentsOf, ReadOf, Begins, Ready, To, Within, FoundIn, OrderAt};
+ghost use Rattle.places.specs.Check.{placeFault, formFault, formHead, Smalls, SmallForm, JudgedOf, ComponentsOf, ReadOf, Begins, Ready, To, FoundIn, OrderAt};
 
 // A component of a field, as the table has it.
 pub enum Place {
@@ -23,10 +24,12 @@ pub enum Place {
     May(Rule),
 }
 
-// What is read of a field: its component 1, or some of its first three.
+// What is read of a field: its component 1; some of its first three; the whole of MSH-18 or of PID-5.
 pub enum Form {
     One(Place),
     Three(Place, Place, Place),
+    Charset,
+    Names,
 }
 
 // ---- faults
@@ -172,6 +175,17 @@ fn joined(c: Components) -> Read
     }
 }
 
+fn undivided(c: ClosedRead) -> Read
+    ensures { λ r. ⌜ (r .fault ≡ c .fault) × (r .head ≡ 0) × (r .len ≡ c .len) ⌝ }
+{
+    let fault = c.fault;
+    Read {
+        fault,
+        head: 0,
+        len: c.len,
+    }
+}
+
 fn judge_field(t: &[u8], d: Delims, form: Form) -> Read
     requires { ⌜ Proper d × SmallForm form ⌝ }
     ensures { λ r. ⌜ ReadOf d (formFault d form) (formHead d form) (now (t .entry)) (faultNo (r .fault)) (r .head) (r .len) ⌝ }
@@ -180,6 +194,8 @@ fn judge_field(t: &[u8], d: Delims, form: Form) -> Read
     match form {
         Form::One(a) => joined(one(t, d, a)),
         Form::Three(a, b, c) => joined(three(t, d, a, b, c)),
+        Form::Charset => undivided(closed::charset(t, d)),
+        Form::Names => undivided(closed::names(t, d)),
     }
 }
 
@@ -227,7 +243,6 @@ fn past(s: &[u8], at: usize, n: usize, sep: u8) -> usize
 fn field(s: &[u8], d: Delims, w: Walk, number: usize, form: Form) -> Walk
     requires { ⌜ Proper d × SmallForm form × Ready (now s) number w ⌝ }
     ensures { λ r. ⌜ To d (now (s .entry)) number form w r ⌝ }
-    ensures within { λ r. ⌜ Within (now (s .entry)) number r ⌝ }
 {
     let fault = w.fault;
     if !value::fine(fault) {
@@ -266,6 +281,42 @@ fn ended(w: Walk) -> Found
         at: 0,
         len: 0,
     }
+}
+
+pub fn msh(s: &[u8], d: Delims) -> Found
+    requires { ⌜ Proper d ⌝ }
+    ensures { λ r. ⌜ ((order : List ℕ) → FoundIn Msh d order (met (now (s .entry))) (r .field) (faultNo (r .fault))) ⌝ }
+{
+    let w = begin(1);
+    let w = field(s, d, w, 7, Form::One(Place::Must(Rule::Time)));
+    let w = field(
+        s,
+        d,
+        w,
+        9,
+        Form::Three(
+            Place::Must(Rule::OneOf(Words::Oul)),
+            Place::Must(Rule::OneOf(Words::R22)),
+            Place::Must(Rule::OneOf(Words::OulR22)),
+        ),
+    );
+    let w = field(s, d, w, 10, Form::One(Place::Must(Rule::Text(20))));
+    let w = field(s, d, w, 11, Form::One(Place::Must(Rule::OneOf(Words::Modes))));
+    let w = field(s, d, w, 12, Form::One(Place::Must(Rule::OneOf(Words::Version))));
+    let w = field(s, d, w, 18, Form::Charset);
+    ended(w)
+}
+
+pub fn pid(s: &[u8], d: Delims) -> Found
+    requires { ⌜ Proper d ⌝ }
+    ensures { λ r. ⌜ ((order : List ℕ) → FoundIn Pid d order (met (now (s .entry))) (r .field) (faultNo (r .fault))) ⌝ }
+{
+    let w = begin(0);
+    let w = field(s, d, w, 3, Form::One(Place::Must(Rule::Text(20))));
+    let w = field(s, d, w, 5, Form::Names);
+    let w = field(s, d, w, 7, Form::One(Place::May(Rule::Date)));
+    let w = field(s, d, w, 8, Form::One(Place::Must(Rule::OneOf(Words::Sexes))));
+    ended(w)
 }
 
 pub fn pv1(s: &[u8], d: Delims) -> Found
