@@ -12,7 +12,7 @@ use Rattle.rules.specs.Told.{Told, gives, refused, _>>_, _then_, _when_}
 use Rattle.rules.specs.Lists.{has}
 use Rattle.rules.specs.Shift.{met, byteOf}
 use Rattle.rules.specs.Places.{Field, places}
-use Rattle.rules.specs.View.{pieceOf, fieldOf, componentOf, firstRepetition, seenIn, partOf, Segment, segmentOf}
+use Rattle.rules.specs.View.{pieceOf, fieldOf, componentOf, firstRepetition, seenIn, partOf, segmentOf}
 use Rattle.rules.specs.Judge.{plainOf, judge, judgeAll}
 use Rattle.rules.specs.Check.{numberOf, ownFault, laterFault, partFault, faultTold, partsTold}
 use Rattle.rules.proofs.Logic.{cases, then-zero, then-none, done}
@@ -26,20 +26,10 @@ use Rattle.places.specs.declared.Place.the-variants.{Must}
 use Rattle.places.specs.declared.Walk.{Walk}
 use Rattle.places.specs.declared.Form.{Form}
 use Rattle.places.specs.declared.Form.the-variants.{One, Three, Charset, Names}
-use Rattle.places.specs.Check.{entryFor, entriesFrom, entriesFault, formFault, formHead, Begins, Judged, Went, To, here, FoundIn}
+use Rattle.places.specs.Check.{entryFor, entriesFrom, entriesFault, formFault, formHead, Begins, Judged, Went, To, here, segment, Walked, FoundIn}
 use Rattle.places.proofs.Pieces.{onward-add}
 use Rattle.places.proofs.Plain.{lettersOnly, raw-value}
 use Rattle.places.proofs.Laws.{fine-zero, fault-some, component-is}
-
-abbrev pub segment : Name → Delims → List ℕ → Segment
-segment n d s = segmentOf d (here n (met s))
-
--- what is told of the segment s where w stands: the fault that was found, or what is told of the fields that are left
-pub record Walked (n : Name) (d : Delims) (order s : List ℕ) (left : List Field) (w : Walk) : Type 0 where
-  pub told : (i : ℕ) → partsTold d order i (segment n d s) (segment n d s .parts)
-      ≡ (faultTold i (w .field) (faultNo (w .fault)) >> partsTold d order i (segment n d s) (map (partOf d (here n (met s))) left))
-  pub lead : (f : ℕ) → w .field ≤ f → pieceOf n f ≡ pieceOf n (w .field) + (f - w .field)
-  pub rest : fineOf (w .fault) ≡ true → after (d .field) (met (drop (w .at) s)) ≡ onward (d .field) (suc (pieceOf n (w .field))) (met s)
 
 pub begins : {n : Name} {d : Delims} {order s : List ℕ} {k : ℕ} {w : Walk} → ((f : ℕ) → pieceOf n f ≡ f - k) → Begins k w → Walked n d order s (places n) w
 unfolding segmentOf faultTold onward
@@ -73,10 +63,14 @@ module _ {n : Name} {d : Delims} {order s : List ℕ} {F : Field} {left : List F
       ap (λ k. onward (d .field) k (met (drop (w .at) s))) a ∙ ap (onward (d .field) (f - w .field - 1)) (x .rest h)
       ∙ onward-add (d .field) (suc (pieceOf n (w .field))) (f - w .field - 1) (met s) ∙ ap (λ k. onward (d .field) k (met s)) b
 
+  pub field-from : fineOf (w .fault) ≡ true → until (is (d .field)) (onward (d .field) (f - w .field) (met (drop (w .at) s))) ≡ fieldOf d (here n (met s)) f
+  unfolding fieldOf
+  field-from h = ap (until (is (d .field))) (from h) ∙ sym (piece-at (d .field) (pieceOf n f) (met s))
+
   pub judged-at : fineOf (w .fault) ≡ true → Judged d s f own first (onward (d .field) (pieceOf n f) (met s)) r
   judged-at h = subst (λ m. Judged d s f own first m r) (from h) (g .judged h)
 
-  module _ (e : numberOf (partOf d (here n (met s)) F) ≡ f) (o : ownFault d (segment n d s) (partOf d (here n (met s)) F) ≡ own (fieldOf d (here n (met s)) f)) where
+  module _ (e : numberOf (partOf d (here n (met s)) F) ≡ f) (o : fineOf (w .fault) ≡ true → ownFault d (segment n d s) (partOf d (here n (met s)) F) ≡ own (fieldOf d (here n (met s)) f)) where
     step-told : (i : ℕ) → partsTold d order i (segment n d s) (segment n d s .parts)
         ≡ (faultTold i (r .field) (faultNo (r .fault) then laterFault d order (segment n d s) f) >> partsTold d order i (segment n d s) (map (partOf d (here n (met s))) left))
     unfolding partsTold partFault fieldOf faultTold
@@ -84,7 +78,7 @@ module _ {n : Name} {d : Delims} {order s : List ℕ} {F : Field} {left : List F
         cases (fineOf (w .fault))
         (λ h. let j = judged-at h in
         let q : own (fieldOf d (here n (met s)) f) ≡ faultNo (r .fault) = ap own (piece-at (d .field) (pieceOf n f) (met s)) ∙ sym (j .told) in
-        x .told i ∙ rw (fine-zero (w .fault) h, e, j .numbered, o, q))
+        x .told i ∙ rw (fine-zero (w .fault) h, e, j .numbered, o h, q))
         (λ h. x .told i ∙ rw (g .ended h) (stops (w .fault) i (w .field) (laterFault d order (segment n d s) f) _ _ h))
 
     pub step : laterFault d order (segment n d s) f ≡ 0 → Walked n d order s left r
@@ -117,14 +111,14 @@ number-is n d s f Names = refl
 
 pub go : {n : Name} {d : Delims} {order s : List ℕ} {left : List Field} {w r : Walk} {f : ℕ} {form : Form} → Walked n d order s (entryFor f form ∷ left) w
     → To d s f form w r → w .field < f → laterFault d order (segment n d s) f ≡ 0 → Walked n d order s left r
-go {n} {d} {order} {s} {left} {w} {r} {f} {form} x g l z = step x (g .went) l (number-is n d s f form) (own-is n d s f form) z
+go {n} {d} {order} {s} {left} {w} {r} {f} {form} x g l z = step x (g .went) l (number-is n d s f form) (λ h. own-is n d s f form) z
 
 -- a field after which 26 or 27 is judged is its segment's last
 pub last : {n : Name} {d : Delims} {order s : List ℕ} {w r : Walk} {f : ℕ} {form : Form} (k : Fault) → Walked n d order s (entryFor f form ∷ []) w
     → To d s f form w r → w .field < f → faultNo k ≡ (faultNo (r .fault) then laterFault d order (segment n d s) f) → FoundIn n d order (met s) (r .field) (faultNo k)
 unfolding partsTold
 last {n} {d} {order} {s} {w} {r} {f} {form} k x g l z = record {
-  told = λ i. sym (step-told x (g .went) l (number-is n d s f form) (own-is n d s f form) i ∙ rw (← z) (done (faultTold i (r .field) (faultNo k))));
+  told = λ i. sym (step-told x (g .went) l (number-is n d s f form) (λ h. own-is n d s f form) i ∙ rw (← z) (done (faultTold i (r .field) (faultNo k))));
 }
 
 pub then-by : (n a b : ℕ) → (n ≡ 0 → a ≡ b) → (n then a) ≡ (n then b)
@@ -136,9 +130,13 @@ zero-fine : (f : Fault) → faultNo f ≡ 0 → fineOf f ≡ true
 zero-fine f h = cases (fineOf f) (λ e. e) (λ e. absurd (omega (arith, fault-some f e)))
 
 -- where no fault is found, none was before
-pub earlier-fine : {d : Delims} {s : List ℕ} {f : ℕ} {form : Form} {w r : Walk} → To d s f form w r → faultNo (r .fault) ≡ 0 → faultNo (w .fault) ≡ 0
+pub earlier-fine : {d : Delims} {s : List ℕ} {f : ℕ} {own : List ℕ → ℕ} {first : List ℕ → List ℕ} {w r : Walk} → Went d s f own first w r
+    → faultNo (r .fault) ≡ 0 → fineOf (w .fault) ≡ true
 earlier-fine {w = w} g h =
-    cases (fineOf (w .fault)) (λ e. fine-zero (w .fault) e) (λ e. rw (g .went .ended e) at h)
+    cases (fineOf (w .fault)) (λ e. e) (λ e. let z : faultNo (w .fault) ≡ 0 = rw (g .ended e) at h in zero-fine (w .fault) z)
+
+pub earlier-zero : {d : Delims} {s : List ℕ} {f : ℕ} {form : Form} {w r : Walk} → To d s f form w r → faultNo (r .fault) ≡ 0 → faultNo (w .fault) ≡ 0
+earlier-zero {w = w} g h = fine-zero (w .fault) (earlier-fine (g .went) h)
 
 -- a required value of letters and digits, by its place in the segment
 module _ {n : Name} {d : Delims} {order s : List ℕ} {left : List Field} {w r : Walk} {f : ℕ} {rule : Rule} (p : Proper d)
@@ -148,7 +146,7 @@ module _ {n : Name} {d : Delims} {order s : List ℕ} {left : List Field} {w r :
   unfolding formFault formHead entriesFault entriesFrom judgeAll seenIn fieldOf forward
   value-read o h =
       let m : List ℕ = onward (d .field) (pieceOf n f) (met s) in
-      let j = judged-at x (g .went) l (zero-fine (w .fault) (earlier-fine g h)) in
+      let j = judged-at x (g .went) l (earlier-fine (g .went) h) in
       let c : List ℕ = componentOf d (firstRepetition d (until (is (d .field)) m)) 1 in
       let e : c ≡ until (ends d) m = component-is d p 0 m in
       let a : (22 when has (d .repetition) (until (is (d .field)) m) then (judge d true (ruleOf rule) c then 0)) ≡ 0 = sym (j .told) ∙ h in

@@ -11,8 +11,10 @@ use lib.Seq.{drop-drop}
 use Rattle.rules.specs.declared.Delims.{Delims}
 use Rattle.rules.specs.Told.{_then_, _when_}
 use Rattle.rules.specs.Lists.{has}
+use Rattle.rules.specs.Lists as L
 use Rattle.rules.specs.Shift.{met, byteOf}
-use Rattle.rules.specs.Judge.{judge, judgeAll, namesFault}
+use Rattle.rules.specs.Judge.{judge, judgeAll, namesFault, rawFour, valueFault}
+use Rattle.rules.specs.Judge as J
 use Rattle.rules.specs.View.{componentOf, firstRepetition, seenIn}
 use Rattle.rules.proofs.Logic.{cases, never, not-true, not-false, then-zero, done}
 use Rattle.rules.proofs.Lists.{rest-is, part-length}
@@ -24,14 +26,14 @@ use Rattle.value.specs.declared.Fault.{Fault}
 use Rattle.value.specs.declared.Fault.the-variants.{Nothing, Missing, Null, Repeated, Escape, Long, Value, Status, Differs}
 use Rattle.value.specs.declared.Rule.{Rule}
 use Rattle.judge.specs.Judge.{Raw, Small}
-use Rattle.closed.specs.Closed.{forward, charsetFault, ClosedOf}
+use Rattle.closed.specs.Closed.{forward, charsetFault, ClosedOf, ValueOf}
 use Rattle.closed.proofs.Pieces.{first-piece, repetition-is, component-at, forward-repeats, forward-long, forward-short, rest-long, rest-more}
 use Rattle.places.specs.declared.Place.{Place}
 use Rattle.places.specs.declared.Place.the-variants.{Unread, Must, May}
 use Rattle.places.specs.declared.Form.{Form}
 use Rattle.places.specs.declared.Form.the-variants.{One, Three, Charset, Names}
 use Rattle.places.specs.declared.Walk.{Walk}
-use Rattle.places.specs.Check.{placeFault, Smalls, JudgedOf, componentsFault, ComponentsOf, entriesFrom, entriesFault, formFault, formHead, SmallForm, ReadOf, Ready, Went, To}
+use Rattle.places.specs.Check.{placeFault, Smalls, JudgedOf, componentsFault, ComponentsOf, entriesFrom, entriesFault, formFault, formHead, SmallForm, ReadOf, Ready, Went, To, ValueTo}
 use Rattle.places.proofs.Pieces.{after-field}
 
 -- ---- faults
@@ -290,6 +292,31 @@ module _ (d : Delims) (s : List ℕ) (n : ℕ) (form : Form) (w : Walk) (b : Rea
     low = omega (arith, part-long s u, z .0);
   }
 
+module _ (d : Delims) (s type : List ℕ) (w : Walk) (b : Ready s 5 w) (q : Bool) (e : q ≡ fineOf (w .fault)) where
+  pub value-ended : (y z : Bool) → not q ≡ true → ValueTo d s type w w y z
+  value-ended y z h = record {
+    went = went-ended d s 5 (valueFault d type) (λ m. []) w q e h;
+    filled = λ f. never (sym f ∙ sym e ∙ not-true q h);
+    beside = λ f. never (sym f ∙ sym e ∙ not-true q h);
+    upto = let z = b .earlier in omega arith;
+    part = b .part;
+    low = b .low;
+  }
+
+  pub value-judged : (r : Walk) (u k : ℕ) (y z : Bool) → Proper d → not q ≡ false → met (drop u s) ≡ onward (d .field) (5 - w .field) (met (drop (w .at) s)) → u ≤ length s
+      → ValueOf d type (until (is (d .field)) (met (take (length s - u) (drop u s)))) (faultNo (r .fault)) k y z → k ≤ length (take (length s - u) (drop u s))
+      → r .field ≡ 5 → r .start ≡ u → r .head ≡ 0 → r .at ≡ u + k → ValueTo d s type w r y z
+  value-judged r u k y z p h g v c l a x i f =
+      let m : met (take (length s - u) (drop u s)) ≡ onward (d .field) (5 - w .field) (met (drop (w .at) s)) = ap met (rest-is s u) ∙ g in
+      record {
+        went = went-judged d s 5 (valueFault d type) (λ m. []) w q e r u k p h g (record { told = c .told; raw = rw i; long = c .long }) a x f;
+        filled = λ o n. c .filled n ∙ ap (λ t. L.filled (rawFour d type (until (is (d .field)) t) .value)) m;
+        beside = λ o n. c .beside n ∙ ap (λ t. J.beside (rawFour d type (until (is (d .field)) t))) m;
+        upto = omega arith;
+        part = omega arith;
+        low = omega (arith, part-long s u);
+      }
+
 pub part-within : (s : List ℕ) (u k : ℕ) → u ≤ length s → k ≤ length (take (length s - u) (drop u s)) → u + k ≤ length s
 part-within s u k h e = omega (arith, part-long s u)
 
@@ -304,3 +331,4 @@ pub ruleset three·laws = (led-read, rest-fits, led-within)
 pub ruleset judge-field·laws = (read-one, read-three, read-charset, read-names, small-one, small-first, small-second, small-third)
 pub ruleset past·laws = (past-on, past-end, one-within)
 pub ruleset field·laws = (field-ended, field-judged, part-within)
+pub ruleset value-field·laws = (value-ended, value-judged, part-within)

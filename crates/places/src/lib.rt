@@ -9,13 +9,13 @@ ghost use mathlib.Core.Bool.{not};
 ghost use mathlib.Core.List.{List, [], _∷_};
 ghost use Prim.Native.Nat.{ℕ, _+_, _≤_, _<_};
 ghost use lib.ListN.{length, take, drop};
-ghost use Rattle.rules.specs.declared.Name.the-variants.{Msh, Pid, Pv1, Spm, Obr, Orc};
+ghost use Rattle.rules.specs.declared.Name.the-variants.{Msh, Pid, Pv1, Spm, Obr, Orc, Obx};
 ghost use Rattle.rules.specs.Told.{_then_, _when_};
 ghost use Rattle.rules.specs.Shift.{met};
 ghost use Rattle.scan.specs.Scan.{Printable, Proper, onward};
 ghost use Rattle.value.specs.Rules.{faultNo};
 ghost use Rattle.judge.specs.Judge.{Raw};
-ghost use Rattle.places.specs.Check.{placeFault, formFault, formHead, Smalls, SmallForm, JudgedOf, ComponentsOf, ReadOf, Begins, Ready, To, FoundIn, OrderAt};
+ghost use Rattle.places.specs.Check.{placeFault, formFault, formHead, Smalls, SmallForm, JudgedOf, ComponentsOf, ReadOf, Begins, Ready, To, ValueTo, ResultAt, FoundIn, OrderAt};
 
 // A component of a field, as the table has it.
 pub enum Place {
@@ -261,6 +261,43 @@ fn field(s: &[u8], d: Delims, w: Walk, number: usize, form: Form) -> Walk
     }
 }
 
+// The same for OBX-5, given OBX-2's word; and whether its value is filled, and whether a part beside it is.
+struct Valued {
+    walk: Walk,
+    filled: bool,
+    beside: bool,
+}
+
+fn value_field(s: &[u8], d: Delims, w: Walk, kind: &[u8]) -> Valued
+    requires { ⌜ Proper d × Ready (now s) 5 w ⌝ }
+    ensures { λ r. ⌜ ValueTo d (now (s .entry)) (now (kind .entry)) w (r .walk) (r .filled) (r .beside) ⌝ }
+{
+    let fault = w.fault;
+    if !value::fine(fault) {
+        return Valued {
+            walk: w,
+            filled: false,
+            beside: false,
+        };
+    }
+    let at = w.at;
+    let start = past(s, at, 5 - w.field, d.field);
+    let r = closed::value(&s[start..], d, kind);
+    let fault = r.fault;
+    let walk = Walk {
+        fault,
+        field: 5,
+        start,
+        head: 0,
+        at: start + r.len,
+    };
+    Valued {
+        walk,
+        filled: r.filled,
+        beside: r.beside,
+    }
+}
+
 // ---- the segments
 
 // The first fault of a segment's read places, and its field; of an OBR also where its order number lies.
@@ -388,6 +425,52 @@ pub fn orc(s: &[u8], d: Delims, order: &[u8]) -> Found
     let end = at + w.head;
     let same = value::equal(&s[at..end], order);
     let fault = first_of(f, unless(same, Fault::Differs));
+    Found {
+        fault,
+        field: w.field,
+        at: 0,
+        len: 0,
+    }
+}
+
+// OBX up to its value.
+fn obx_value(s: &[u8], d: Delims) -> Valued
+    requires { ⌜ Proper d ⌝ }
+    ensures { λ r. ⌜ ResultAt d (now (s .entry)) (r .walk) (r .filled) (r .beside) ⌝ }
+{
+    let w = begin(0);
+    let w = field(s, d, w, 2, Form::One(Place::Must(Rule::OneOf(Words::Types))));
+    let at = w.start;
+    let end = at + w.head;
+    let kind = &s[at..end];
+    let w = field(
+        s,
+        d,
+        w,
+        3,
+        Form::Three(
+            Place::Must(Rule::Capitals(17)),
+            Place::May(Rule::Text(48)),
+            Place::Must(Rule::OneOf(Words::Jc10)),
+        ),
+    );
+    value_field(s, d, w, kind)
+}
+
+pub fn obx(s: &[u8], d: Delims) -> Found
+    requires { ⌜ Proper d ⌝ }
+    ensures { λ r. ⌜ ((order : List ℕ) → FoundIn Obx d order (met (now (s .entry))) (r .field) (faultNo (r .fault))) ⌝ }
+{
+    let v = obx_value(s, d);
+    let w = v.walk;
+    let w = field(s, d, w, 6, Form::One(Place::May(Rule::Text(20))));
+    let w = field(s, d, w, 8, Form::One(Place::May(Rule::OneOf(Words::Flags))));
+    let w = field(s, d, w, 11, Form::One(Place::Must(Rule::OneOf(Words::Statuses))));
+    let f = w.fault;
+    let at = w.start;
+    let end = at + w.head;
+    let agrees = closed::agrees(&s[at..end], v.filled, v.beside);
+    let fault = first_of(f, unless(agrees, Fault::Status));
     Found {
         fault,
         field: w.field,
