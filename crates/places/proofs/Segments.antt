@@ -2,23 +2,25 @@
 use Prim.Native.Nat.{ℕ, _+_, _-_, _≤_, _<_}
 use native.Mathlib.Omega.{arith}
 use mathlib.Core.Path.{_≡_, refl, sym, ap, _∙_}
-use mathlib.Core.Bool.{Bool, true, not}
+use mathlib.Core.Bool.{Bool, true, false, not}
 use mathlib.Core.List.{List, [], _∷_}
 use lib.ListN.{take, drop}
 use Rattle.rules.specs.declared.Delims.{Delims}
-use Rattle.rules.specs.declared.Name.the-variants.{Msh, Pid, Pv1, Spm, Obr, Orc, Obx}
+use Rattle.rules.specs.declared.Name.{Name}
+use Rattle.rules.specs.declared.Name.the-variants.{Msh, Pid, Pv1, Spm, Obr, Orc, Obx, Other}
 use Rattle.rules.specs.Told.{_then_, _when_}
 use Rattle.rules.specs.Lists.{bytes, same, all, onto, split}
 use Rattle.rules.specs.Lists as L
 use Rattle.rules.specs.Shift.{met}
+use Rattle.rules.specs.Frame as Frame
 use Rattle.rules.specs.Places.{Four, places}
 use Rattle.rules.specs.View.{pieceOf, fieldOf, partOf, seenIn, segmentOf, partAt, seenAt}
-use Rattle.rules.specs.Check.{valueAt, rawFourOf, numberOf, ownFault, laterFault}
+use Rattle.rules.specs.Check.{valueAt, rawFourOf, numberOf, ownFault, laterFault, faultTold, partsTold}
 use Rattle.rules.specs.Judge.{rawFour, beside, valueFault, agrees}
-use Rattle.rules.proofs.Logic.{then-zero}
+use Rattle.rules.proofs.Logic.{never, then-zero}
 use Rattle.scan.specs.Scan.{until, is, onward, Proper}
 use Rattle.value.specs.declared.Fault.{Fault}
-use Rattle.value.specs.declared.Fault.the-variants.{Status, Differs}
+use Rattle.value.specs.declared.Fault.the-variants.{Nothing, Status, Differs}
 use Rattle.value.specs.Rules.{ruleOf, textOf, faultNo, fineOf}
 use Rattle.value.specs.declared.Words.the-variants.{Oul, R22, OulR22, Modes, Version, Sexes, Classes, Jc10, Group, Re, Types, Flags, Statuses}
 use Rattle.value.specs.declared.Rule.the-variants.{Time, Date, Text, Digits, Capitals, OneOf}
@@ -150,6 +152,21 @@ module _ {d : Delims} {s : List ℕ} {w₃ w₄ w₅ w : Walk} {number parts : B
       let g : q ≡ agrees status four = a four (v .filled z) (v .beside z) ∙ ap (λ t. agrees t four) r in
       f ∙ ap (λ t. 26 when not t) g ∙ sym (then-zero (26 when not (agrees status four)))))
 
+-- ---- a segment by its name
+module _ {name n : Name} {d : Delims} {order body : List ℕ} {field fault : ℕ} (e : name ≡ n) where
+  pub named-found : FoundIn n d order body field fault → FoundIn name d order body field fault
+  named-found x = rw e x
+
+  pub named-any : ((o : List ℕ) → FoundIn n d o body field fault) → FoundIn name d order body field fault
+  named-any x = rw e (x order)
+
+pub other-found : {name : Name} {d : Delims} {order body : List ℕ} → name ≡ Other → FoundIn name d order body 0 (faultNo Nothing)
+unfolding places segmentOf partsTold faultTold faultNo
+other-found e = rw e (record { told = λ i. refl })
+
+pub no-order : {name n : Name} {d : Delims} {s : List ℕ} {fault at len : ℕ} → name ≡ n → Frame.is n Obr ≡ false → Frame.is name Obr ≡ true → OrderAt d s fault at len
+no-order e h g = never (sym g ∙ ap (λ n. Frame.is n Obr) e ∙ h)
+
 pub ruleset msh·laws = msh-found
 pub ruleset pid·laws = pid-found
 pub ruleset pv1·laws = pv1-found
@@ -158,3 +175,4 @@ pub ruleset obr·laws = (obr-found, obr-order)
 pub ruleset orc·laws = orc-found
 pub ruleset obx-value·laws = obx-valued
 pub ruleset obx·laws = obx-found
+pub ruleset segment·laws = (named-found, named-any, other-found, no-order)

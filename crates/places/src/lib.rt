@@ -1,17 +1,19 @@
 // The read places of each segment, field by field, as the table of document 01 lists them.
 use closed::ClosedRead;
 use rules::Delims;
+use rules::Name;
 use value::Fault;
 use value::Rule;
 use value::Words;
 ghost use mathlib.Core.Path.{_≡_};
-ghost use mathlib.Core.Bool.{not};
+ghost use mathlib.Core.Bool.{true, not};
 ghost use mathlib.Core.List.{List, [], _∷_};
 ghost use Prim.Native.Nat.{ℕ, _+_, _≤_, _<_};
 ghost use lib.ListN.{length, take, drop};
 ghost use Rattle.rules.specs.declared.Name.the-variants.{Msh, Pid, Pv1, Spm, Obr, Orc, Obx};
 ghost use Rattle.rules.specs.Told.{_then_, _when_};
 ghost use Rattle.rules.specs.Shift.{met};
+ghost use Rattle.rules.specs.Frame.{is};
 ghost use Rattle.scan.specs.Scan.{Printable, Proper, onward};
 ghost use Rattle.value.specs.Rules.{faultNo};
 ghost use Rattle.judge.specs.Judge.{Raw};
@@ -476,5 +478,28 @@ pub fn obx(s: &[u8], d: Delims) -> Found
         field: w.field,
         at: 0,
         len: 0,
+    }
+}
+
+// A segment by its name, after the OBR whose order number is `order`. Other names have no read places.
+pub fn segment(name: Name, s: &[u8], d: Delims, order: &[u8]) -> Found
+    requires { ⌜ Proper d ⌝ }
+    ensures { λ r. ⌜ FoundIn name d (now (order .entry)) (met (now (s .entry))) (r .field) (faultNo (r .fault)) ⌝ }
+    ensures order { λ r. ⌜ (is name Obr ≡ true → OrderAt d (now (s .entry)) (faultNo (r .fault)) (r .at) (r .len)) ⌝ }
+{
+    match name {
+        Name::Msh => msh(s, d),
+        Name::Pid => pid(s, d),
+        Name::Pv1 => pv1(s, d),
+        Name::Spm => spm(s, d),
+        Name::Obr => obr(s, d),
+        Name::Orc => orc(s, d, order),
+        Name::Obx => obx(s, d),
+        Name::Other => Found {
+            fault: Fault::Nothing,
+            field: 0,
+            at: 0,
+            len: 0,
+        },
     }
 }
