@@ -1,12 +1,12 @@
 -- The specification's pieces, as the walk finds them. Assumes nothing.
-use Prim.Native.Nat.{ℕ, zero, suc, _+_, _-_, _≤_, _<_}
+use Prim.Native.Nat.{ℕ, zero, suc, _+_, _≤_, _<_}
 use native.Mathlib.Omega.{arith}
 use mathlib.Core.Path.{_≡_, refl, sym, ap, _∙_}
 use mathlib.Core.List.{List, [], _∷_}
-use mathlib.Core.Bool.{Bool, true, false, not, _&&_, _||_}
+use mathlib.Core.Bool.{Bool, true, false, _||_}
 use borrow.Author.Tests.{eqb-true, lt-ltb, le-ltb}
 use lib.Dec.{eqb, ltb, leb·suc-suc}
-use lib.ListN.{length, getD, drop}
+use lib.ListN.{length, drop}
 use Rattle.rules.specs.declared.Delims.{Delims}
 use Rattle.rules.specs.Lists.{split, onto, has, nth}
 use Rattle.rules.proofs.Logic.{cases, never, neither, or-false}
@@ -27,7 +27,7 @@ unfolding onto
 onto-tail x n [] = refl
 onto-tail x n (p ∷ ps) = refl
 
-pub first-piece : (sep : ℕ) (s : List ℕ) → nth (split sep s) 0 ≡ until (is sep) s
+first-piece : (sep : ℕ) (s : List ℕ) → nth (split sep s) 0 ≡ until (is sep) s
 unfolding split until
 first-piece sep [] = refl
 first-piece sep (x ∷ s) = cases (eqb x sep) (λ e. cc) (λ e. cc (onto-head x (split sep s), first-piece sep s))
@@ -79,7 +79,7 @@ after-some : (sep : ℕ) (s : List ℕ) → has sep s ≡ true → length (split
 after-some sep s h = ap length (split-after sep s h)
 
 -- more than n + 1 pieces: a separator after the n-th
-pub pieces-over : (sep n : ℕ) (s : List ℕ) → ltb (suc n) (length (split sep s)) ≡ has sep (onward sep n s)
+pieces-over : (sep n : ℕ) (s : List ℕ) → ltb (suc n) (length (split sep s)) ≡ has sep (onward sep n s)
 unfolding onward
 pieces-over sep zero s =
     cases (has sep s)
@@ -93,7 +93,7 @@ pieces-over sep (suc n) s =
     ∙ ap (λ (l : List (List ℕ)). ltb (suc n) (length l)) (sym (split-nil sep)) ∙ pieces-over sep n [] ∙ ap (λ (l : List ℕ). has sep (onward sep n l)) (sym (after-none sep s e)))
 
 -- ---- a stretch up to a byte, and up to another
-pub until-both : (p q r : ℕ → Bool) → ((b : ℕ) → r b ≡ (p b || q b)) → (s : List ℕ) → until q (until p s) ≡ until r s
+until-both : (p q r : ℕ → Bool) → ((b : ℕ) → r b ≡ (p b || q b)) → (s : List ℕ) → until q (until p s) ≡ until r s
 unfolding until
 until-both p q r w [] = refl
 until-both p q r w (x ∷ s) =

@@ -1,6 +1,6 @@
 -- What the routines of the closed fields tell, each of the field at the start of what is left of its segment.
 use mathlib.Core.Path.{_≡_}
-use mathlib.Core.Bool.{Bool, not, _||_}
+use mathlib.Core.Bool.{Bool, false, not, _&&_, _||_}
 use mathlib.Core.List.{List, [], _∷_}
 use Prim.Native.Nat.{ℕ, zero, suc}
 use lib.Dec.{eqb, ltb}
@@ -10,8 +10,9 @@ use Rattle.rules.specs.Told.{_then_, _when_}
 use Rattle.rules.specs.Lists.{bytes, empty, same, has, split}
 use Rattle.rules.specs.Lists as L
 use Rattle.rules.specs.Shift.{met}
+use Rattle.rules.specs.Value.{Rule}
 use Rattle.rules.specs.Places.{Four, valueRules}
-use Rattle.rules.specs.Judge.{firstMarked, partsFault, rawFour, valueFault}
+use Rattle.rules.specs.Judge.{judge, firstMarked, partsFault, rawFour, valueFault}
 use Rattle.rules.specs.Judge as J
 use Rattle.scan.specs.Scan.{until, is, ends, next}
 
@@ -34,7 +35,7 @@ unfoldable pub forward : Delims → ℕ → List ℕ → List ℕ
 forward d zero m = m
 forward d (suc n) m = forward d n (next d m)
 
--- a closed field: the number of its first fault, and its length
+-- a closed field f: the number of its first fault, and its length
 pub record ClosedOf (faultOf : List ℕ → ℕ) (f : List ℕ) (fault len : ℕ) : Type 0 where
   pub told : fault ≡ faultOf f
   pub long : len ≡ length f
@@ -52,7 +53,20 @@ pub record MarkedOf (d : Delims) (mark : ℕ) (f r : List ℕ) : Type 0 where
 unfoldable pub shapeFault : Delims → ℕ → List ℕ → ℕ
 shapeFault d n f = 22 when has (d .repetition) f then 23 when ltb (suc n) (length (split (d .component) f))
 
--- SN: the components at the starts of four parts
+-- SN: the comparator and the number; the joiner and the second number, which needs one
+abbrev rulesSN : Four Rule
+rulesSN = valueRules (bytes "SN")
+
+unfoldable pub comparedFault : Delims → Bool → List ℕ → List ℕ → ℕ
+comparedFault d required compare value = judge d false (rulesSN .compare) compare then judge d required (rulesSN .value) value
+
+unfoldable pub unjoinedFault : List ℕ → List ℕ → ℕ
+unjoinedFault join second = 25 when (L.filled second && empty join)
+
+unfoldable pub joinedFault : Delims → List ℕ → List ℕ → ℕ
+joinedFault d join second = judge d false (rulesSN .join) join then judge d false (rulesSN .second) second then unjoinedFault join second
+
+-- SN: the four components at the starts of four parts
 abbrev pub fourAt : Delims → List ℕ → List ℕ → List ℕ → List ℕ → Four (List ℕ)
 fourAt d t number joiner second =
     record { compare = componentAt d t; value = componentAt d number; join = componentAt d joiner; second = componentAt d second }

@@ -4,58 +4,25 @@ use value::Fault;
 use value::Rule;
 use value::Words;
 ghost use mathlib.Core.Path.{_≡_};
-ghost use mathlib.Core.Bool.{false, _&&_};
+ghost use mathlib.Core.Bool.{false};
 ghost use mathlib.Core.List.{List, [], _∷_};
-ghost use Prim.Native.Nat.{ℕ, suc, _≤_};
+ghost use Prim.Native.Nat.{ℕ, _≤_};
 ghost use lib.ListN.{length};
-ghost use Rattle.rules.specs.Told.{_then_, _when_};
+ghost use Rattle.rules.specs.Told.{_then_};
 ghost use Rattle.rules.specs.Lists.{bytes, empty, filled, same, has};
 ghost use Rattle.rules.specs.Shift.{met};
 ghost use Rattle.rules.specs.Places.{Four, valueRules};
 ghost use Rattle.rules.specs.View.{componentOf};
-ghost use Rattle.rules.specs.Judge.{judge, nameFault, namesFault, isSN};
 ghost use Rattle.rules.specs.Judge as J;
-ghost use Rattle.scan.specs.Scan.{until, ends, Proper};
+ghost use Rattle.scan.specs.Scan.{Proper};
 ghost use Rattle.value.specs.Rules.{ruleOf, faultNo};
 ghost use Rattle.judge.specs.Judge.{Small};
-ghost use Rattle.closed.specs.Closed.{fieldAt, repetitionAt, componentAt, forward, ClosedOf, charsetFault, MarkedOf, fourAt, shapeFault, FourOf, ValueOf};
+ghost use Rattle.closed.specs.Closed.{fieldAt, repetitionAt, componentAt, forward, ClosedOf, charsetFault, MarkedOf, shapeFault, comparedFault, unjoinedFault, joinedFault, fourAt, FourOf, ValueOf};
 
 // A closed field: its first fault, and its length.
 pub struct ClosedRead {
     pub fault: Fault,
     pub len: usize,
-}
-
-// ---- MSH-18
-
-// Whether s is the byte b and then the word.
-fn led(s: &[u8], b: u8, word: &[u8]) -> bool
-    ensures { λ r. ⌜ r ≡ same (now (s .entry)) (b ∷ now (word .entry)) ⌝ }
-{
-    if s.len() == 0 {
-        return false;
-    }
-    (s[0] == b) & value::equal(&s[1..], word)
-}
-
-// MSH-18.
-pub fn charset(t: &[u8], d: Delims) -> ClosedRead
-    requires { ⌜ Proper d ⌝ }
-    ensures { λ r. ⌜ ClosedOf (charsetFault d) (fieldAt d (now (t .entry))) (faultNo (r .fault)) (r .len) ⌝ }
-    ensures within { λ r. ⌜ r .len ≤ length (now (t .entry)) ⌝ }
-{
-    let e = scan::finish(t, d);
-    let n = e.len;
-    if led(&t[..n], d.repetition, b"ISO IR87") {
-        return ClosedRead {
-            fault: Fault::Nothing,
-            len: n,
-        };
-    }
-    ClosedRead {
-        fault: Fault::Value,
-        len: n,
-    }
 }
 
 // ---- components of the repetition at the start
@@ -91,7 +58,7 @@ fn blank(t: &[u8], d: Delims) -> bool
 // The component at the start of t, judged.
 fn part(t: &[u8], d: Delims, required: bool, rule: Rule) -> Fault
     requires { ⌜ Proper d × Small rule ⌝ }
-    ensures { λ r. ⌜ faultNo r ≡ judge d required (ruleOf rule) (componentAt d (now (t .entry))) ⌝ }
+    ensures { λ r. ⌜ faultNo r ≡ J.judge d required (ruleOf rule) (componentAt d (now (t .entry))) ⌝ }
 {
     let c = scan::first(t, d);
     let n = c.len;
@@ -108,9 +75,106 @@ fn earlier(a: Fault, b: Fault) -> Fault
     a
 }
 
+// Whether s is the byte b and then the word.
+fn led(s: &[u8], b: u8, word: &[u8]) -> bool
+    ensures { λ r. ⌜ r ≡ same (now (s .entry)) (b ∷ now (word .entry)) ⌝ }
+{
+    if s.len() == 0 {
+        return false;
+    }
+    (s[0] == b) & value::equal(&s[1..], word)
+}
+
+// ---- MSH-18
+
+// Exactly the repetition separator and `ISO IR87`.
+pub fn charset(t: &[u8], d: Delims) -> ClosedRead
+    requires { ⌜ Proper d ⌝ }
+    ensures { λ r. ⌜ ClosedOf (charsetFault d) (fieldAt d (now (t .entry))) (faultNo (r .fault)) (r .len) ⌝ }
+    ensures within { λ r. ⌜ r .len ≤ length (now (t .entry)) ⌝ }
+{
+    let e = scan::finish(t, d);
+    let len = e.len;
+    if led(&t[..len], d.repetition, b"ISO IR87") {
+        return ClosedRead {
+            fault: Fault::Nothing,
+            len,
+        };
+    }
+    ClosedRead {
+        fault: Fault::Value,
+        len,
+    }
+}
+
+// ---- PID-5
+
+// Whether the repetition at the start of t bears the mark in component 8.
+fn marked(t: &[u8], d: Delims, mark: u8) -> bool
+    requires { ⌜ Proper d ⌝ }
+    ensures { λ r. ⌜ r ≡ same (componentOf d (repetitionAt d (now (t .entry))) 8) (mark ∷ []) ⌝ }
+{
+    let eighth = component(t, d, 7);
+    let c = scan::first(eighth, d);
+    let n = c.len;
+    led(&eighth[..n], mark, b"")
+}
+
+// The rest of the field f from its first repetition on that bears the mark; nothing where none does.
+fn repetition(f: &[u8], d: Delims, mark: u8) -> &[u8]
+    requires { ⌜ Proper d × (has (d .field) (met (now f)) ≡ false) ⌝ }
+    ensures { λ r. ⌜ MarkedOf d mark (met (now (f .entry))) (now r) ⌝ }
+{
+    let mut at = 0;
+    while at < f.len() {
+        let r = &f[at..];
+        if marked(r, d, mark) {
+            return r;
+        }
+        at += scan::past(r, d.repetition);
+    }
+    &f[at..]
+}
+
+// The name at the start of t: components 1 and 2.
+fn name(t: &[u8], d: Delims) -> Fault
+    requires { ⌜ Proper d ⌝ }
+    ensures { λ r. ⌜ faultNo r ≡ J.nameFault d (repetitionAt d (now (t .entry))) ⌝ }
+{
+    let given = component(t, d, 1);
+    earlier(
+        part(t, d, true, Rule::Text(48)),
+        part(given, d, false, Rule::Text(48)),
+    )
+}
+
+// The kanji name of the field f, then its kana name.
+fn both(f: &[u8], d: Delims) -> Fault
+    requires { ⌜ Proper d × (has (d .field) (met (now f)) ≡ false) ⌝ }
+    ensures { λ r. ⌜ faultNo r ≡ J.namesFault d (met (now (f .entry))) ⌝ }
+{
+    let kanji = name(repetition(f, d, b'I'), d);
+    let kana = repetition(f, d, b'P');
+    if kana.len() == 0 {
+        return kanji;
+    }
+    earlier(kanji, name(kana, d))
+}
+
+pub fn names(t: &[u8], d: Delims) -> ClosedRead
+    requires { ⌜ Proper d ⌝ }
+    ensures { λ r. ⌜ ClosedOf (J.namesFault d) (fieldAt d (now (t .entry))) (faultNo (r .fault)) (r .len) ⌝ }
+    ensures within { λ r. ⌜ r .len ≤ length (now (t .entry)) ⌝ }
+{
+    let e = scan::finish(t, d);
+    let len = e.len;
+    let fault = both(&t[..len], d);
+    ClosedRead { fault, len }
+}
+
 // ---- OBX-5
 
-// 22 for a repetition, 23 for more than n + 1 components.
+// 22 for a repetition, then 23 for more than n + 1 components.
 fn shape(t: &[u8], d: Delims, n: usize) -> ClosedRead
     requires { ⌜ Proper d ⌝ }
     ensures { λ r. ⌜ ClosedOf (shapeFault d n) (fieldAt d (now (t .entry))) (faultNo (r .fault)) (r .len) ⌝ }
@@ -139,7 +203,7 @@ fn shape(t: &[u8], d: Delims, n: usize) -> ClosedRead
     }
 }
 
-// A value: its first fault, its length, whether it is filled and whether a part beside it is.
+// OBX-5: its first fault, its length, whether the value is filled and whether a part beside it is.
 pub struct ValueRead {
     pub fault: Fault,
     pub len: usize,
@@ -150,8 +214,7 @@ pub struct ValueRead {
 // NM and ST: one component.
 fn single(t: &[u8], d: Delims, rule: Rule) -> ValueRead
     requires { ⌜ Proper d × Small rule ⌝ }
-    ensures { λ r. ⌜ ((type : List ℕ) → isSN type ≡ false → valueRules type .value ≡ ruleOf rule
-        → ValueOf d type (fieldAt d (now (t .entry))) (faultNo (r .fault)) (r .len) (r .filled) (r .beside)) ⌝ }
+    ensures { λ r. ⌜ ((type : List ℕ) → J.isSN type ≡ false → valueRules type .value ≡ ruleOf rule → ValueOf d type (fieldAt d (now (t .entry))) (faultNo (r .fault)) (r .len) (r .filled) (r .beside)) ⌝ }
     ensures within { λ r. ⌜ r .len ≤ length (now (t .entry)) ⌝ }
 {
     let e = shape(t, d, 0);
@@ -166,10 +229,10 @@ fn single(t: &[u8], d: Delims, rule: Rule) -> ValueRead
     }
 }
 
-// SN's comparator and its number, which must be filled beside a filled part.
+// SN's comparator, at the start of t, and its number.
 fn compared(t: &[u8], number: &[u8], d: Delims, beside: bool) -> Fault
     requires { ⌜ Proper d ⌝ }
-    ensures { λ r. ⌜ faultNo r ≡ (judge d false (valueRules (bytes "SN") .compare) (componentAt d (now (t .entry))) then judge d beside (valueRules (bytes "SN") .value) (componentAt d (now (number .entry)))) ⌝ }
+    ensures { λ r. ⌜ faultNo r ≡ comparedFault d beside (componentAt d (now (t .entry))) (componentAt d (now (number .entry))) ⌝ }
 {
     earlier(
         part(t, d, false, Rule::OneOf(Words::Comparators)),
@@ -179,9 +242,9 @@ fn compared(t: &[u8], number: &[u8], d: Delims, beside: bool) -> Fault
 
 // "a second number needs a joiner"
 fn unjoined(joiner: &[u8], second: &[u8], d: Delims) -> Fault
-    ensures { λ r. ⌜ faultNo r ≡ 25 when (filled (componentAt d (now (second .entry))) && empty (componentAt d (now (joiner .entry)))) ⌝ }
+    ensures { λ r. ⌜ faultNo r ≡ unjoinedFault (componentAt d (now (joiner .entry))) (componentAt d (now (second .entry))) ⌝ }
 {
-    if !blank(second, d) & blank(joiner, d) {
+    if blank(joiner, d) & !blank(second, d) {
         return Fault::Value;
     }
     Fault::Nothing
@@ -190,17 +253,22 @@ fn unjoined(joiner: &[u8], second: &[u8], d: Delims) -> Fault
 // SN's joiner and its second number.
 fn joined(joiner: &[u8], second: &[u8], d: Delims) -> Fault
     requires { ⌜ Proper d ⌝ }
-    ensures { λ r. ⌜ faultNo r ≡ (judge d false (valueRules (bytes "SN") .join) (componentAt d (now (joiner .entry))) then judge d false (valueRules (bytes "SN") .second) (componentAt d (now (second .entry))) then 25 when (filled (componentAt d (now (second .entry))) && empty (componentAt d (now (joiner .entry))))) ⌝ }
+    ensures { λ r. ⌜ faultNo r ≡ joinedFault d (componentAt d (now (joiner .entry))) (componentAt d (now (second .entry))) ⌝ }
 {
-    let last = earlier(part(second, d, false, Rule::Number), unjoined(joiner, second, d));
-    earlier(part(joiner, d, false, Rule::OneOf(Words::Joiners)), last)
+    earlier(
+        part(joiner, d, false, Rule::OneOf(Words::Joiners)),
+        earlier(
+            part(second, d, false, Rule::Number),
+            unjoined(joiner, second, d),
+        ),
+    )
 }
 
-// SN's four parts.
+// SN's four components, at the starts of four parts.
 struct FourRead {
-    pub fault: Fault,
-    pub filled: bool,
-    pub beside: bool,
+    fault: Fault,
+    filled: bool,
+    beside: bool,
 }
 
 fn four(t: &[u8], number: &[u8], joiner: &[u8], second: &[u8], d: Delims) -> FourRead
@@ -239,22 +307,22 @@ fn numbers(t: &[u8], d: Delims) -> ValueRead
     }
 }
 
-// OBX-5, given OBX-2's word.
-pub fn value(t: &[u8], d: Delims, kind: &[u8]) -> ValueRead
+// The value, by OBX-2's word.
+pub fn value(t: &[u8], d: Delims, word: &[u8]) -> ValueRead
     requires { ⌜ Proper d ⌝ }
-    ensures { λ r. ⌜ ValueOf d (now (kind .entry)) (fieldAt d (now (t .entry))) (faultNo (r .fault)) (r .len) (r .filled) (r .beside) ⌝ }
+    ensures { λ r. ⌜ ValueOf d (now (word .entry)) (fieldAt d (now (t .entry))) (faultNo (r .fault)) (r .len) (r .filled) (r .beside) ⌝ }
     ensures within { λ r. ⌜ r .len ≤ length (now (t .entry)) ⌝ }
 {
-    if value::equal(kind, b"SN") {
+    if value::equal(word, b"SN") {
         return numbers(t, d);
     }
-    if value::equal(kind, b"NM") {
+    if value::equal(word, b"NM") {
         return single(t, d, Rule::Number);
     }
     single(t, d, Rule::Text(200))
 }
 
-// 26: value against status, OBX-11.
+// Whether the status of OBX-11 agrees with what OBX-5 fills: a value, a part beside it.
 pub fn agrees(status: &[u8], number: bool, parts: bool) -> bool
     ensures { λ r. ⌜ ((c : Four (List ℕ)) → number ≡ filled (c .value) → parts ≡ J.beside c → r ≡ J.agrees (now (status .entry)) c) ⌝ }
 {
@@ -262,67 +330,4 @@ pub fn agrees(status: &[u8], number: bool, parts: bool) -> bool
         return number;
     }
     !number & !parts
-}
-
-// ---- PID-5
-
-// Whether the repetition at the start of t bears the mark in component 8.
-fn marked(t: &[u8], d: Delims, mark: u8) -> bool
-    requires { ⌜ Proper d ⌝ }
-    ensures { λ r. ⌜ r ≡ same (componentOf d (repetitionAt d (now (t .entry))) 8) (mark ∷ []) ⌝ }
-{
-    let u = component(t, d, 7);
-    let c = scan::first(u, d);
-    let n = c.len;
-    led(&u[..n], mark, b"")
-}
-
-// The rest of the field f from its first repetition on that bears the mark; nothing where there is none.
-fn repetition(f: &[u8], d: Delims, mark: u8) -> &[u8]
-    requires { ⌜ Proper d × (has (d .field) (met (now f)) ≡ false) ⌝ }
-    ensures { λ r. ⌜ MarkedOf d mark (met (now (f .entry))) (now r) ⌝ }
-{
-    let mut at = 0;
-    while at < f.len() {
-        let r = &f[at..];
-        if marked(r, d, mark) {
-            return r;
-        }
-        at += scan::past(r, d.repetition);
-    }
-    &f[at..]
-}
-
-// The name at the start of t: components 1 and 2.
-fn name(t: &[u8], d: Delims) -> Fault
-    requires { ⌜ Proper d ⌝ }
-    ensures { λ r. ⌜ faultNo r ≡ nameFault d (repetitionAt d (now (t .entry))) ⌝ }
-{
-    let given = component(t, d, 1);
-    earlier(part(t, d, true, Rule::Text(48)), part(given, d, false, Rule::Text(48)))
-}
-
-// The kanji name of the field f, then the kana name.
-fn both(f: &[u8], d: Delims) -> Fault
-    requires { ⌜ Proper d × (has (d .field) (met (now f)) ≡ false) ⌝ }
-    ensures { λ r. ⌜ faultNo r ≡ namesFault d (met (now (f .entry))) ⌝ }
-{
-    let kanji = name(repetition(f, d, b'I'), d);
-    let kana = repetition(f, d, b'P');
-    if kana.len() == 0 {
-        return kanji;
-    }
-    earlier(kanji, name(kana, d))
-}
-
-// PID-5.
-pub fn names(t: &[u8], d: Delims) -> ClosedRead
-    requires { ⌜ Proper d ⌝ }
-    ensures { λ r. ⌜ ClosedOf (namesFault d) (fieldAt d (now (t .entry))) (faultNo (r .fault)) (r .len) ⌝ }
-    ensures within { λ r. ⌜ r .len ≤ length (now (t .entry)) ⌝ }
-{
-    let e = scan::finish(t, d);
-    let n = e.len;
-    let fault = both(&t[..n], d);
-    ClosedRead { fault, len: n }
 }

@@ -135,7 +135,7 @@ pub fn unescape_into(raw: &[u8], d: Delims, buf: &mut [u8]) -> Unescaped
         let t = turn(at, mode, b, d);
         k = keep(buf, k, given(at, b), t);
         at = t;
-        mode = scan::step(mode, b);
+        mode = scan::step(mode, b, 0x0D);
         i += 1;
     }
     answer(at, k, buf.len())
@@ -148,10 +148,10 @@ fn judge_escaped(raw: &[u8], d: Delims, required: bool, rule: Rule) -> Fault
 {
     let mut buf = [0u8; 256];
     match unescape_into(raw, d, &mut buf) {
-        Unescaped::Got(n) => value::wrong(required, rule, &buf[..n]),
+        Unescaped::Got(n) => value::fault_of(required, rule, &buf[..n]),
         Unescaped::Faulty => Fault::Escape,
         Unescaped::Over(n) => {
-            if value::long(rule, n) {
+            if value::too_long(rule, n) {
                 return Fault::Long;
             }
             Fault::Value
@@ -168,7 +168,7 @@ pub fn judge(raw: &[u8], clean: bool, d: Delims, required: bool, rule: Rule) -> 
         return Fault::Null;
     }
     if clean {
-        return value::wrong(required, rule, raw);
+        return value::fault_of(required, rule, raw);
     }
     judge_escaped(raw, d, required, rule)
 }

@@ -4,7 +4,7 @@ use native.Mathlib.Omega.{arith}
 use mathlib.Core.Path.{_≡_, refl, sym, ap, subst, _∙_}
 use mathlib.Core.List.{List, [], _∷_, _++_, map}
 use mathlib.Core.Bool.{Bool, true, false, cond, not, _&&_, _||_}
-use borrow.Author.Tests.{ne-eqb}
+use borrow.Author.Tests.{eqb-true, eqb-false}
 use lib.Dec.{eqb}
 use lib.ListN.{length, take, drop, length-drop}
 use lib.Seq.{drop-drop}
@@ -20,14 +20,14 @@ use Rattle.rules.proofs.Logic.{cases, never, not-true, not-false, then-zero, do
 use Rattle.rules.proofs.Lists.{rest-is, part-length}
 use Rattle.rules.proofs.Modes.{length-marks}
 use Rattle.scan.specs.Scan.{until, is, ends, after, next, onward, plainText, CutOf, TailOf, Proper}
-use Rattle.scan.proofs.Laws.{from-met, piece-met, ends-far}
+use Rattle.scan.proofs.Laws.{from-met, piece-met, ends-far, far-is}
 use Rattle.value.specs.Rules.{ruleOf, faultNo, fineOf}
 use Rattle.value.specs.declared.Fault.{Fault}
 use Rattle.value.specs.declared.Fault.the-variants.{Nothing, Missing, Null, Repeated, Escape, Long, Value, Status, Differs}
 use Rattle.value.specs.declared.Rule.{Rule}
 use Rattle.judge.specs.Judge.{Raw, Small}
 use Rattle.closed.specs.Closed.{forward, charsetFault, ClosedOf, ValueOf}
-use Rattle.closed.proofs.Pieces.{first-piece, repetition-is, component-at, forward-repeats, forward-long, forward-short, rest-long, rest-more}
+use Rattle.closed.proofs.Pieces.{piece-at, repetition-is, component-at, forward-repeats, forward-long, forward-short, rest-long, rest-more}
 use Rattle.places.specs.declared.Place.{Place}
 use Rattle.places.specs.declared.Place.the-variants.{Unread, Must, May}
 use Rattle.places.specs.declared.Form.{Form}
@@ -38,28 +38,12 @@ use Rattle.places.proofs.Pieces.{after-field}
 
 -- ---- faults
 pub fine-zero : (f : Fault) → fineOf f ≡ true → faultNo f ≡ 0
-unfolding fineOf faultNo
-fine-zero Nothing h = refl
-fine-zero Missing h = cc
-fine-zero Null h = cc
-fine-zero Repeated h = cc
-fine-zero Escape h = cc
-fine-zero Long h = cc
-fine-zero Value h = cc
-fine-zero Status h = cc
-fine-zero Differs h = cc
+unfolding fineOf
+fine-zero f h = eqb-true (faultNo f) 0 h
 
 pub fault-some : (f : Fault) → fineOf f ≡ false → faultNo f ≡ suc (faultNo f - 1)
-unfolding fineOf faultNo
-fault-some Nothing h = cc
-fault-some Missing h = refl
-fault-some Null h = refl
-fault-some Repeated h = refl
-fault-some Escape h = refl
-fault-some Long h = refl
-fault-some Value h = refl
-fault-some Status h = refl
-fault-some Differs h = refl
+unfolding fineOf
+fault-some f h = let z : faultNo f ≡ 0 → ⊥ = eqb-false (faultNo f) 0 h in omega arith
 
 module _ (f g : Fault) (q : Bool) (e : q ≡ fineOf f) where
   pub first-later : q ≡ true → faultNo g ≡ (faultNo f then faultNo g)
@@ -166,10 +150,10 @@ module _ (d : Delims) (p : Proper d) (t u : List ℕ) (e : met u ≡ next d (met
 -- ---- the components of a field as the table lists them
 pub component-is : (d : Delims) → Proper d → (n : ℕ) (m : List ℕ)
     → componentOf d (firstRepetition d (until (is (d .field)) m)) (suc n) ≡ until (ends d) (forward d n m)
-unfolding componentOf firstRepetition
+unfolding componentOf firstRepetition onward
 component-is d p n m =
     let z : suc n - 1 ≡ n = omega arith in
-    rw (z, first-piece (d .repetition) (until (is (d .field)) m), repetition-is d m) (component-at d p n m)
+    rw (z, piece-at (d .repetition) 0 (until (is (d .field)) m), repetition-is d m) (component-at d p n m)
 
 forward-next : (d : Delims) (k : ℕ) (m : List ℕ) → forward d (suc k) m ≡ next d (forward d k m)
 unfolding forward
@@ -250,9 +234,6 @@ unfolding onward
 past-end s x sep zero to inv h = sym inv
 past-end s x sep (suc k) to inv h = absurd (omega arith)
 
-field-far : (d : Delims) → Proper d → (b : ℕ) → is (d .field) (256 + b) ≡ false
-field-far d p b = ne-eqb (256 + b) (d .field) (omega (arith, p .field .high))
-
 module _ (d : Delims) (s : List ℕ) (n : ℕ) (own : List ℕ → ℕ) (first : List ℕ → List ℕ) (w : Walk) (q : Bool) (e : q ≡ fineOf (w .fault)) where
   pub went-ended : not q ≡ true → Went d s n own first w w
   went-ended h = record { ended = λ f. refl; judged = λ f. never (sym f ∙ sym e ∙ not-true q h) }
@@ -268,7 +249,7 @@ module _ (d : Delims) (s : List ℕ) (n : ℕ) (own : List ℕ → ℕ) (first :
           told = x .told ∙ ap (λ l. own (until (is (d .field)) l)) g;
           numbered = a;
           raw = sym (ap (λ l. map byteOf (first l)) g) ∙ x .raw ∙ ap (λ i. take (r .head) (drop i s)) (sym b);
-          rest = ap (λ l. after (d .field) (met l)) m ∙ ap (after (d .field)) (sym (from-met (is (d .field)) (field-far d p) t)) ∙ after-field (d .field) (met t) ∙ ap (after (d .field)) g;
+          rest = ap (λ l. after (d .field) (met l)) m ∙ ap (after (d .field)) (sym (from-met (is (d .field)) (far-is (d .field) (omega (arith, p .field .high))) t)) ∙ after-field (d .field) (met t) ∙ ap (after (d .field)) g;
         };
   }
 

@@ -80,3 +80,7 @@ length-unique (Wrote n) (Wrote k) h = cc
 length-unique (Wrote n) (NotWritten r) h = cc
 length-unique (NotWritten r) (Wrote n) h = cc
 length-unique (NotWritten r) (NotWritten s) h = ap NotWritten (refusal-unique _ r s h)
+
+-- the number of a kind that is known
+pub number-is : (kind k : Kind) (n : ℕ) → kind ≡ k → number k ≡ n → n ≡ number kind
+number-is kind k n e g = cc

@@ -18,7 +18,7 @@ delimsOf m =
 abbrev pub fiveOf : Delims → List ℕ
 fiveOf d = d .field ∷ d .component ∷ d .repetition ∷ d .escape ∷ d .sub ∷ []
 
--- "five different delimiters": "Each is one of `! # % & * ; ? @ \\ ^ | ~`."
+-- "five different delimiters": "Each is one of `! # % & * ; ? @ \ ^ | ~`."
 unfoldable pub delimsOk : Delims → Bool
 delimsOk d = all (λ (b : ℕ). has b (bytes "!#%&*;?@\\^|~")) (fiveOf d) && distinct (fiveOf d)
 

@@ -1,72 +1,48 @@
--- Laws of the value rules. Assumes nothing.
-use Prim.Native.Nat.{ℕ, zero, suc, _+_, _-_, _*_, _≤_, _<_}
+-- Laws of the value rules, and for each function the set of those that its proof searches. Assumes nothing.
+use Prim.Native.Nat.{ℕ, suc, _+_, _-_, _*_, _≤_, _<_}
+use native.Mathlib.Nat.{zero-add}
+use native.Mathlib.Numerals.{add-one}
 use native.Mathlib.Omega.{arith}
 use mathlib.Core.Path.{_≡_, refl, sym, ap, _∙_}
-use mathlib.Core.List.{List, [], _∷_}
+use mathlib.Core.List.{List, [], _∷_, foldl}
 use mathlib.Core.Bool.{Bool, true, false, cond, not, _&&_, _||_}
-use borrow.Author.Tests.{ltb-true, ltb-false, eqb-true, eqb-false, ne-eqb, eq-eqb, le-leb, lt-leb, lt-ltb, le-ltb, not-true, not-false}
+use borrow.Author.Tests.{ltb-true, ltb-false, eqb-true, ne-eqb, eq-eqb, le-leb, lt-leb, not-true, not-false}
 use lib.Dec.{eqb, leb, ltb}
 use lib.ListN.{length, getD, take, drop, length-drop}
-use lib.Seq.{take-all, drop-drop, length-take-le}
-use Rattle.scan.proofs.Laws.{cases, here, over, rest-is, until-yes, until-no, until-nil}
-use Rattle.scan.specs.Scan.{until, is}
-use Rattle.rules.specs.Lists.{bytes, all, any, count, same, split, onto, isOneOf, empty}
+use lib.Seq.{take-all}
+use Rattle.rules.specs.Lists.{bytes, all, any, count, same, split, onto, isOneOf}
 use Rattle.rules.specs.Shift.{within}
 use Rattle.rules.specs.Frame.{digit, capitalOrDigit}
-use Rattle.value.specs.Rules.{oneOf, wordOf, textOf, ruleOf, capitals, dateOk, timeOk, oneIf, longer, faultNo}
+use Rattle.rules.specs.Value as Val
+use Rattle.rules.proofs.Logic.{cases, both, and-false, or-assoc, and-true, or-false}
+use Rattle.rules.proofs.Lists.{here, over, rest-is, part-length, empty-zero, filled-some, all-cons, any-cons, any-nil}
+use Rattle.scan.specs.Scan.{until, is}
+use Rattle.value.specs.Rules.{oneOf, textOf, ruleOf, faultNo, fineOf}
+use Rattle.value.specs.Number.{readByte, unread}
 use Rattle.value.specs.declared.Words.{Words}
 use Rattle.value.specs.declared.Rule.{Rule}
-use Rattle.value.specs.declared.Rule.the-variants.{Time, Date, Number, Text, Digits, Capitals, OneOf}
-use Rattle.value.specs.declared.Fault.the-variants.{Nothing, Missing, Null, Repeated, Escape, Long, Value, Status, Differs}
-use Rattle.rules.specs.Value as Val
+use Rattle.value.specs.declared.Fault.{Fault}
+use Rattle.value.specs.declared.Fault.the-variants.{Nothing, Missing, Long, Value}
+use Rattle.value.specs.declared.Spelling.{Spelling}
 
--- ---- every byte
+-- ---- general: a walk by an index, over the bytes that are left
+-- every byte passes
 module _ (p : ℕ → Bool) (s : List ℕ) (i : ℕ) (inv : all p s ≡ all p (drop i s)) where
-  all-stops : (r : Bool) → i < length s → r ≡ p (getD s i 0) → not r ≡ true → false ≡ all p s
+  pub all-stops : (r : Bool) → i < length s → r ≡ p (getD s i 0) → not r ≡ true → false ≡ all p s
   unfolding all
-  all-stops r h e t = cc (here s i h, not-true r t)
+  all-stops r h e t = cc (here 0 s i h, not-true r t)
 
-  all-goes : (r : Bool) → i < length s → r ≡ p (getD s i 0) → not r ≡ false → all p s ≡ all p (drop (i + 1) s)
+  pub all-goes : (r : Bool) → i < length s → r ≡ p (getD s i 0) → not r ≡ false → all p s ≡ all p (drop (i + 1) s)
   unfolding all
-  all-goes r h e t = cc (here s i h, not-false r t)
+  all-goes r h e t = cc (here 0 s i h, not-false r t)
 
-  all-ends : length s ≤ i → true ≡ all p s
+  pub all-ends : length s ≤ i → true ≡ all p s
   unfolding all
   all-ends h = cc (over s i h)
 
-module _ (s : List ℕ) (i : ℕ) (inv : all digit s ≡ all digit (drop i s)) where
-  pub digits-stops : (r : Bool) → i < length s → r ≡ digit (getD s i 0) → not r ≡ true → false ≡ all digit s
-  digits-stops r h e t = all-stops digit s i inv r h e t
+pub ruleset all·laws = (all-stops, all-goes, all-ends)
 
-  pub digits-goes : (r : Bool) → i < length s → r ≡ digit (getD s i 0) → not r ≡ false → all digit s ≡ all digit (drop (i + 1) s)
-  digits-goes r h e t = all-goes digit s i inv r h e t
-
-  pub digits-ends : length s ≤ i → true ≡ all digit s
-  digits-ends h = all-ends digit s i inv h
-
-module _ (s : List ℕ) (i : ℕ) (inv : all capitalOrDigit s ≡ all capitalOrDigit (drop i s)) where
-  pub signs-stops : (r : Bool) → i < length s → r ≡ capitalOrDigit (getD s i 0) → not r ≡ true → false ≡ all capitalOrDigit s
-  signs-stops r h e t = all-stops capitalOrDigit s i inv r h e t
-
-  pub signs-goes : (r : Bool) → i < length s → r ≡ capitalOrDigit (getD s i 0) → not r ≡ false → all capitalOrDigit s ≡ all capitalOrDigit (drop (i + 1) s)
-  signs-goes r h e t = all-goes capitalOrDigit s i inv r h e t
-
-  pub signs-ends : length s ≤ i → true ≡ all capitalOrDigit s
-  signs-ends h = all-ends capitalOrDigit s i inv h
-
-pub digits-long : (v : List ℕ) (n : ℕ) → (length v ≡ n → ⊥) → false ≡ Val.digitsOk n v
-digits-long v n h = cc (ne-eqb (length v) n h)
-
-pub digits-all : (v : List ℕ) (n : ℕ) (r : Bool) → length v ≡ n → r ≡ all digit v → r ≡ Val.digitsOk n v
-digits-all v n r h e = cc (eq-eqb (length v) n h)
-
-pub signs-long : (v : List ℕ) (n : ℕ) → n < length v → false ≡ capitals n v
-signs-long v n h = cc (lt-leb (length v) n h)
-
-pub signs-all : (v : List ℕ) (n : ℕ) (r : Bool) → length v ≤ n → r ≡ all capitalOrDigit v → r ≡ capitals n v
-signs-all v n r h e = cc (le-leb (length v) n h)
-
--- ---- equal
+-- two texts are the same
 pub same-long : (a b : List ℕ) → (length a ≡ length b → ⊥) → false ≡ same a b
 unfolding same
 same-long [] [] h = absurd (h refl)
@@ -74,52 +50,63 @@ same-long [] (y ∷ b) h = refl
 same-long (x ∷ a) [] h = refl
 same-long (x ∷ a) (y ∷ b) h = cases (eqb x y) (λ e. cc (same-long a b (λ g. h (ap suc g)))) (λ e. cc)
 
-module _ (a b : List ℕ) (i : ℕ) (inv : same a b ≡ same (drop i a) (drop i b)) where
-  pub same-stops : i < length a → length a ≡ length b → (getD a i 0 ≡ getD b i 0 → ⊥) → false ≡ same a b
+module _ (a b : List ℕ) (i : ℕ) (inv : same a b ≡ same (drop i a) (drop i b)) (long : length a ≡ length b) where
+  pub same-stops : i < length a → (getD a i 0 ≡ getD b i 0 → ⊥) → false ≡ same a b
   unfolding same
-  same-stops h g e = cc (here a i h, here b i (omega arith), ne-eqb (getD a i 0) (getD b i 0) e)
+  same-stops h e = cc (here 0 a i h, here 0 b i (omega arith), ne-eqb (getD a i 0) (getD b i 0) e)
 
-  pub same-goes : i < length a → length a ≡ length b → getD a i 0 ≡ getD b i 0 → same a b ≡ same (drop (i + 1) a) (drop (i + 1) b)
+  pub same-goes : i < length a → getD a i 0 ≡ getD b i 0 → same a b ≡ same (drop (i + 1) a) (drop (i + 1) b)
   unfolding same
-  same-goes h g e = cc (here a i h, here b i (omega arith), eq-eqb (getD a i 0) (getD b i 0) e)
+  same-goes h e = cc (here 0 a i h, here 0 b i (omega arith), eq-eqb (getD a i 0) (getD b i 0) e)
 
-  pub same-ends : length a ≤ i → length a ≡ length b → true ≡ same a b
+  pub same-ends : length a ≤ i → true ≡ same a b
   unfolding same
-  same-ends h g = cc (over a i h, over b i (omega arith))
+  same-ends h = cc (over a i h, over b i (omega arith))
 
--- ---- before
+pub ruleset equal·laws = (same-long, same-stops, same-goes, same-ends)
+
+-- a run of steps
+module _ {A : Type 0} (f : A → ℕ → A) (t₀ t : A) (s : List ℕ) (i : ℕ) (inv : foldl f t₀ s ≡ foldl f t (drop i s)) where
+  pub fold-goes : (r : A) → i < length s → r ≡ f t (getD s i 0) → foldl f t₀ s ≡ foldl f r (drop (i + 1) s)
+  fold-goes r h e = inv ∙ ap (foldl f t) (here 0 s i h) ∙ ap (λ (x : A). foldl f x (drop (i + 1) s)) (sym e)
+
+  pub fold-ends : length s ≤ i → t ≡ foldl f t₀ s
+  fold-ends h = sym (inv ∙ ap (foldl f t) (over s i h))
+
+pub ruleset fold·laws = (fold-goes, fold-ends)
+
+-- a part from a on is no longer
+pub rest-shorter : (s : List ℕ) (a k : ℕ) → length s ≤ k → length (take (length s - a) (drop a s)) ≤ k
+rest-shorter s a k h = rw rest-is (omega (arith, length-drop a s))
+
+-- ---- general: what stands before the first separator
+until-length : (sep x : ℕ) (s : List ℕ) → length (until (is sep) (x ∷ s)) ≡ cond (eqb x sep) 0 (suc (length (until (is sep) s)))
+unfolding until
+until-length sep x s = cases (eqb x sep) (λ e. cc) (λ e. cc)
+
 module _ (s : List ℕ) (sep i : ℕ) (inv : length (until (is sep) s) ≡ i + length (until (is sep) (drop i s))) where
+  before-at : i < length s → length (until (is sep) s) ≡ i + cond (eqb (getD s i 0) sep) 0 (suc (length (until (is sep) (drop (i + 1) s))))
+  before-at h = inv ∙ ap (λ (l : List ℕ). i + length (until (is sep) l)) (here 0 s i h) ∙ ap (λ (n : ℕ). i + n) (until-length sep (getD s i 0) (drop (i + 1) s))
+
   pub before-found : i < length s → getD s i 0 ≡ sep → i ≡ length (until (is sep) s)
-  before-found h e =
-      let u : until (is sep) (drop i s) ≡ [] = ap (until (is sep)) (here s i h) ∙ until-yes (is sep) (getD s i 0) (drop (i + 1) s) (eq-eqb (getD s i 0) sep e) in
-      let q : length (until (is sep) s) ≡ i + 0 = inv ∙ ap (λ l. i + length l) u in
-      omega arith
+  before-found h e = omega (arith, rw (eq-eqb (getD s i 0) sep e) at (before-at h))
 
-  pub before-on : i < length s → (getD s i 0 ≡ sep → ⊥) → length (until (is sep) s) ≡ i + 1 + length (until (is sep) (drop (i + 1) s))
-  before-on h e =
-      let u : until (is sep) (drop i s) ≡ getD s i 0 ∷ until (is sep) (drop (i + 1) s) = ap (until (is sep)) (here s i h) ∙ until-no (is sep) (getD s i 0) (drop (i + 1) s) (ne-eqb (getD s i 0) sep e) in
-      let q : length (until (is sep) s) ≡ i + suc (length (until (is sep) (drop (i + 1) s))) = inv ∙ ap (λ l. i + length l) u in
-      omega arith
+  pub before-goes : i < length s → (getD s i 0 ≡ sep → ⊥) → length (until (is sep) s) ≡ i + 1 + length (until (is sep) (drop (i + 1) s))
+  before-goes h e = omega (arith, rw (ne-eqb (getD s i 0) sep e) at (before-at h))
 
-  pub before-none : length s ≤ i → i ≡ length (until (is sep) s)
-  before-none h =
-      let u : until (is sep) (drop i s) ≡ [] = ap (until (is sep)) (over s i h) ∙ until-nil (is sep) in
-      let q : length (until (is sep) s) ≡ i + 0 = inv ∙ ap (λ l. i + length l) u in
-      omega arith
+  pub before-ends : length s ≤ i → i ≡ length (until (is sep) s)
+  unfolding until
+  before-ends h = let e : length (until (is sep) (drop i s)) ≡ 0 = cc (over s i h) in omega arith
 
--- ---- the pieces, one after another
-onto-cons : (x : ℕ) (p : List ℕ) (ps : List (List ℕ)) → onto x (p ∷ ps) ≡ (x ∷ p) ∷ ps
-unfolding onto
-onto-cons x p ps = refl
+pub ruleset before·laws = (before-found, before-goes, before-ends)
 
 pub split-last : (sep : ℕ) (s : List ℕ) → length (until (is sep) s) ≡ length s → split sep s ≡ s ∷ []
 unfolding split until onto
 split-last sep [] h = refl
 split-last sep (x ∷ s) h =
     cases (eqb x sep)
-    (λ e. absurd (let z : length (until (is sep) (x ∷ s)) ≡ 0 = cc in omega arith))
-    (λ e. let z : length (until (is sep) (x ∷ s)) ≡ suc (length (until (is sep) s)) = cc in
-    cc (split-last sep s (omega arith)))
+    (λ e. absurd (omega (arith, rw e at (until-length sep x s))))
+    (λ e. cc (split-last sep s (omega (arith, rw e at (until-length sep x s)))))
 
 pub split-more : (sep : ℕ) (s : List ℕ) → length (until (is sep) s) < length s
     → split sep s ≡ take (length (until (is sep) s)) s ∷ split sep (drop (suc (length (until (is sep) s))) s)
@@ -131,79 +118,110 @@ split-more sep (x ∷ s) h =
     (λ e. let z : length (until (is sep) (x ∷ s)) ≡ suc (length (until (is sep) s)) = cc in
     cc (split-more sep s (omega arith)))
 
--- ---- long
-pub long-number : (r : Rule) (n : ℕ) → r ≡ Number → ltb 16 n ≡ longer (ruleOf r) n
-unfolding longer ruleOf
-long-number r n e = cc
+-- ---- no fault
+pub fine-is : (f x : Fault) (r : Bool) → f ≡ x → r ≡ fineOf x → r ≡ fineOf f
+fine-is f x r e h = cc
 
-pub long-text : (r : Rule) (k n : ℕ) → r ≡ Text k → ltb k n ≡ longer (ruleOf r) n
-unfolding longer ruleOf
-long-text r k n e = cc
+-- ---- n digits, at most n capitals or digits
+pub digits-other : (v : List ℕ) (n : ℕ) → (length v ≡ n → ⊥) → false ≡ Val.digitsOk n v
+digits-other v n h = cc (ne-eqb (length v) n h)
 
--- ---- dates
-or-four : (a b c d : Bool) → (a || (b || (c || d))) ≡ (((a || b) || c) || d)
-or-four true b c d = refl
-or-four false true c d = refl
-or-four false false c d = refl
+pub digits-all : (v : List ℕ) (n : ℕ) (r : Bool) → length v ≡ n → r ≡ all digit v → r ≡ Val.digitsOk n v
+digits-all v n r h e = cc (eq-eqb (length v) n h)
 
-module _ (leap : Bool) (m : ℕ) where
-  pub days-29 : m ≡ 2 → leap ≡ true → 29 ≡ Val.daysIn leap m
-  unfolding Val.daysIn
-  days-29 e h = cc (eq-eqb m 2 e)
+pub ruleset digits·laws = (digits-other, digits-all)
 
-  pub days-28 : m ≡ 2 → leap ≡ false → 28 ≡ Val.daysIn leap m
-  unfolding Val.daysIn
-  days-28 e h = cc (eq-eqb m 2 e)
+pub capitals-more : (v : List ℕ) (n : ℕ) → n < length v → false ≡ Val.holds (Val.capitals n) v
+unfolding Val.holds
+capitals-more v n h = cc (lt-leb (length v) n h)
 
-  pub days-30 : (m ≡ 2 → ⊥) → (((eqb m 4 || eqb m 6) || eqb m 9) || eqb m 11) ≡ true → 30 ≡ Val.daysIn leap m
-  unfolding Val.daysIn
-  days-30 n h = cc (ne-eqb m 2 n, or-four (eqb m 4) (eqb m 6) (eqb m 9) (eqb m 11))
+pub capitals-all : (v : List ℕ) (n : ℕ) (r : Bool) → length v ≤ n → r ≡ all capitalOrDigit v → r ≡ Val.holds (Val.capitals n) v
+unfolding Val.holds
+capitals-all v n r h e = cc (le-leb (length v) n h)
 
-  pub days-31 : (m ≡ 2 → ⊥) → (((eqb m 4 || eqb m 6) || eqb m 9) || eqb m 11) ≡ false → 31 ≡ Val.daysIn leap m
-  unfolding Val.daysIn
-  days-31 n h = cc (ne-eqb m 2 n, or-four (eqb m 4) (eqb m 6) (eqb m 9) (eqb m 11))
+pub ruleset capitals·laws = (capitals-more, capitals-all)
 
-pub pair-is : (v : List ℕ) (k a b : ℕ) → a ≡ getD v k 0 - 48 → b ≡ getD v (k + 1) 0 - 48 → 10 * a + b ≡ Val.two v k
-unfolding Val.two
-pair-is v k a b ea eb = cc
+-- ---- one of some words: the rest of them, whose first has n bytes
+module _ (words v rest : List ℕ) (n : ℕ) (r : Bool) (inv : oneOf words v ≡ oneOf rest v) (en : n ≡ length (until (is 0x20) rest)) (er : r ≡ same v (take n rest)) where
+  last-word : n ≡ length rest → oneOf words v ≡ r
+  unfolding oneOf
+  last-word h =
+      inv ∙ ap (any (same v)) (split-last 0x20 rest (sym en ∙ h)) ∙ any-cons (same v) rest []
+      ∙ cc (any-nil (same v), take-all n rest (omega arith), or-false (same v rest))
 
-pub day-is : (v : List ℕ) (a b m d n : ℕ) (l p q r : Bool) → a ≡ Val.two v 0 → b ≡ Val.two v 2 → m ≡ Val.two v 4 → d ≡ Val.two v 6
-    → p ≡ within 1900 2099 (100 * a + b) → q ≡ within 1 12 m → l ≡ Val.leap (100 * a + b) → n ≡ Val.daysIn l m → r ≡ within 1 n d
-    → ((p && q) && r) ≡ Val.dayOk v
-unfolding Val.dayOk
-day-is v a b m d n l p q r ea eb em ed ep eq el en er = and-assoc p q r ∙ rw (ep, eq, er, en, el, ea, eb, em, ed)
-  where
-    and-assoc : (a b c : Bool) → ((a && b) && c) ≡ (a && b && c)
-    and-assoc true b c = refl
-    and-assoc false b c = refl
+  next-word : n < length rest → oneOf words v ≡ (r || oneOf (drop (n + 1) rest) v)
+  unfolding oneOf
+  next-word h =
+      let e : split 0x20 rest ≡ take n rest ∷ split 0x20 (drop (suc n) rest) = rw (← en) at (split-more 0x20 rest (rw en at h)) in
+      inv ∙ ap (any (same v)) e ∙ any-cons (same v) (take n rest) (split 0x20 (drop (suc n) rest)) ∙ rw (add-one, er)
 
-pub clock-is : (v : List ℕ) (a b c : ℕ) → a ≡ Val.two v 8 → b ≡ Val.two v 10 → c ≡ Val.two v 12 → ((leb a 23 && leb b 59) && leb c 59) ≡ Val.clockOk v
-unfolding Val.clockOk
-clock-is v a b c ea eb ec = and-assoc (leb a 23) (leb b 59) (leb c 59) ∙ rw (ea, eb, ec)
-  where
-    and-assoc : (a b c : Bool) → ((a && b) && c) ≡ (a && b && c)
-    and-assoc true b c = refl
-    and-assoc false b c = refl
+  pub word-found : n ≤ length rest → r ≡ true → true ≡ oneOf words v
+  word-found h y =
+      cases (ltb n (length rest)) (λ t. cc (next-word (ltb-true n (length rest) t)))
+      (λ t. let z : length rest ≤ n = ltb-false n (length rest) t in cc (last-word (omega arith)))
 
-pub date-no : (v : List ℕ) (t : Bool) → t ≡ Val.digitsOk 8 v → not t ≡ true → false ≡ dateOk v
-date-no v t e h = cc (not-true t h)
+  pub word-none : r ≡ false → n ≡ length rest → false ≡ oneOf words v
+  word-none y h = cc (last-word h)
 
-pub date-is : (v : List ℕ) (t r : Bool) → t ≡ Val.digitsOk 8 v → not t ≡ false → r ≡ Val.dayOk v → r ≡ dateOk v
-date-is v t r e h g = cc (not-false t h)
+  pub word-goes : n ≤ length rest → r ≡ false → (n ≡ length rest → ⊥) → oneOf words v ≡ oneOf (take (length rest - (n + 1)) (drop (n + 1) rest)) v
+  word-goes k y h = let z : n < length rest = omega (arith, h) in cc (next-word z, rest-is rest (n + 1))
 
-pub date-not : (v : List ℕ) (t : Bool) → t ≡ Val.digitsOk 8 v → not t ≡ false → (length v ≡ 8 → ⊥) → false ≡ dateOk v
-date-not v t e h n = cc (ne-eqb (length v) 8 n)
+pub ruleset one_of·laws = (word-found, word-none, word-goes, rest-shorter, part-length)
 
-pub time-no : (v : List ℕ) (t : Bool) → t ≡ Val.digitsOk 14 v → not t ≡ true → false ≡ timeOk v
-time-no v t e h = cc (not-true t h)
+-- ---- NM
+pub read-is : (t : Spelling) (b : ℕ) (d : Bool) → d ≡ digit b
+    → record { good = t .good && (d || eqb b 46) && not (eqb b 46 && t .point); point = t .point || eqb b 46; digit = t .digit || d } ≡ readByte t b
+unfolding readByte
+read-is t b d e = rw e
 
-pub time-is : (v : List ℕ) (t r q : Bool) → t ≡ Val.digitsOk 14 v → not t ≡ false → r ≡ Val.dayOk v → q ≡ Val.clockOk v → (r && q) ≡ timeOk v
-time-is v t r q e h g k = cc (not-false t h)
+abbrev oneIf : Bool → ℕ
+oneIf t = cond t 1 0
 
-pub time-not : (v : List ℕ) (t : Bool) → t ≡ Val.digitsOk 14 v → not t ≡ false → (length v ≡ 14 → ⊥) → false ≡ timeOk v
-time-not v t e h n = cc (ne-eqb (length v) 14 n)
+abbrev numeral : ℕ → Bool
+numeral b = digit b || Val.point b
 
--- ---- numbers
+-- "at most one point": whether one was met, whether the next byte is one, and how many are left
+points-few : (a : Bool) → leb (oneIf a + 0) 1 ≡ true
+points-few true = refl
+points-few false = refl
+
+points-on : (a b : Bool) (n : ℕ) → leb (oneIf a + (oneIf b + n)) 1 ≡ (not (b && a) && leb (oneIf (a || b) + n) 1)
+points-on true true n = lt-leb (1 + (1 + n)) 1 (omega arith)
+points-on true false n = simp zero-add
+points-on false true n = simp zero-add
+points-on false false n = simp zero-add
+
+regroup : (g k q a l : Bool) → (g && (k && a) && (q && l)) ≡ (g && k && q && a && l)
+regroup false k q a l = refl
+regroup true false q a l = refl
+regroup true true true a l = refl
+regroup true true false a l = and-false a
+
+-- from any spelling on: what it has shown, and what is left
+spelled-from : (t : Spelling) (v : List ℕ)
+    → (foldl readByte t v .good && foldl readByte t v .digit)
+    ≡ (t .good && all numeral v && leb (oneIf (t .point) + count Val.point v) 1 && (t .digit || any digit v))
+unfolding all any count readByte
+spelled-from t [] = cc (and-true (t .good), points-few (t .point), or-false (t .digit))
+spelled-from t (b ∷ v) =
+    spelled-from (readByte t b) v
+    ∙ cc (
+      all-cons numeral b v,
+      any-cons digit b v,
+      points-on (t .point) (Val.point b) (count Val.point v),
+      or-assoc (t .digit) (digit b) (any digit v),
+      regroup (t .good) (numeral b) (not (Val.point b && t .point)) (all numeral v) (leb (oneIf (t .point || Val.point b) + count Val.point v) 1),
+    )
+
+-- the fold accepts the spellings of the definitions
+pub spelled-is : (v : List ℕ) → (foldl readByte unread v .good && foldl readByte unread v .digit) ≡ Val.spelled v
+unfolding Val.spelled
+spelled-is v = spelled-from unread v ∙ rw zero-add
+
+pub number-is : (v s : List ℕ) (t : Spelling) → s ≡ Val.unsigned v → t ≡ foldl readByte unread s → (t .good && t .digit) ≡ Val.holds Val.number v
+unfolding Val.holds
+number-is v s t es et = cc (spelled-is s)
+
 pub sign-none : (v : List ℕ) → length v ≡ 0 → v ≡ Val.unsigned v
 unfolding Val.unsigned
 sign-none [] h = refl
@@ -212,198 +230,113 @@ sign-none (b ∷ s) h = absurd (omega arith)
 pub sign-yes : (v : List ℕ) → (length v ≡ 0 → ⊥) → (eqb (getD v 0 0) 43 || eqb (getD v 0 0) 45) ≡ true → take (length v - 1) (drop 1 v) ≡ Val.unsigned v
 unfolding Val.unsigned
 sign-yes [] h e = absurd (h refl)
-sign-yes (b ∷ s) h e = cc (take-all (length (b ∷ s) - 1) s (omega arith))
+sign-yes (b ∷ s) h e = cc (rest-is (b ∷ s) 1)
 
 pub sign-no : (v : List ℕ) → (length v ≡ 0 → ⊥) → (eqb (getD v 0 0) 43 || eqb (getD v 0 0) 45) ≡ false → v ≡ Val.unsigned v
 unfolding Val.unsigned
 sign-no [] h e = absurd (h refl)
 sign-no (b ∷ s) h e = cc
 
-abbrev pub numeral : ℕ → Bool
-numeral b = digit b || Val.point b
+pub ruleset past_sign·laws = (sign-none, sign-yes, sign-no)
 
-abbrev pub Spelling : List ℕ → ℕ → Bool → ℕ → Bool → Type 0
-Spelling v i good points some =
-    (all numeral v ≡ (good && all numeral (drop i v))) × (count Val.point v ≡ points + count Val.point (drop i v))
-    × (any digit v ≡ (some || any digit (drop i v)))
+-- ---- dates and times
+module _ (leap : Bool) (m : ℕ) where
+  pub february-leap : m ≡ 2 → leap ≡ true → 29 ≡ Val.daysIn leap m
+  unfolding Val.daysIn
+  february-leap e h = cc
 
-pub spell-starts : (v : List ℕ) → Spelling v 0 true 0 false
-spell-starts v = (refl, omega arith, refl)
+  pub february : m ≡ 2 → leap ≡ false → 28 ≡ Val.daysIn leap m
+  unfolding Val.daysIn
+  february e h = cc
 
-pub spell-goes : (v : List ℕ) (i : ℕ) (good : Bool) (points : ℕ) (some : Bool) (g : Bool) (k : ℕ) → Spelling v i good points some → i < length v
-    → g ≡ digit (getD v i 0) → k ≡ oneIf (eqb (getD v i 0) 46) → Spelling v (i + 1) (good && (g || eqb (getD v i 0) 46)) (points + k) (some || g)
-unfolding all any count
-spell-goes v i good points some g k inv h eg ek =
-    let x : ℕ = getD v i 0 in
-    let r : List ℕ = drop (i + 1) v in
-    let a : all numeral (drop i v) ≡ (numeral x && all numeral r) = ap (all numeral) (here v i h) ∙ cases (numeral x) (λ e. cc) (λ e. cc) in
-    let b : count Val.point (drop i v) ≡ oneIf (eqb x 46) + count Val.point r = ap (count Val.point) (here v i h) in
-    let c : any digit (drop i v) ≡ (digit x || any digit r) = ap (any digit) (here v i h) ∙ cases (digit x) (λ e. cc) (λ e. cc) in (
-      inv .0 ∙ ap (λ t. good && t) a ∙ and-in good (numeral x) (all numeral r) ∙ ap (λ t. (good && (t || eqb x 46)) && all numeral r) (sym eg),
-      (let q = inv .1 in omega (arith, b)),
-      inv .2 ∙ ap (λ t. some || t) c ∙ or-in some (digit x) (any digit r) ∙ ap (λ t. (some || t) || any digit r) (sym eg),
-    )
-  where
-    and-in : (a b c : Bool) → (a && (b && c)) ≡ ((a && b) && c)
-    and-in true b c = refl
-    and-in false b c = refl
+  module _ (n : m ≡ 2 → ⊥) where
+    pub thirty : (eqb m 4 || eqb m 6 || eqb m 9 || eqb m 11) ≡ true → 30 ≡ Val.daysIn leap m
+    unfolding Val.daysIn
+    thirty h = cc (ne-eqb m 2 n)
 
-    or-in : (a b c : Bool) → (a || (b || c)) ≡ ((a || b) || c)
-    or-in true b c = refl
-    or-in false b c = refl
+    pub thirty-one : (eqb m 4 || eqb m 6 || eqb m 9 || eqb m 11) ≡ false → 31 ≡ Val.daysIn leap m
+    unfolding Val.daysIn
+    thirty-one h = cc (ne-eqb m 2 n)
 
-pub spell-ends : (v : List ℕ) (i : ℕ) (good : Bool) (points : ℕ) (some : Bool) → Spelling v i good points some → length v ≤ i
-    → ((good && leb points 1) && some) ≡ Val.spelled v
-unfolding all any count Val.spelled
-spell-ends v i good points some inv h =
-    let a : all numeral v ≡ good = inv .0 ∙ ap (λ l. good && all numeral l) (over v i h) ∙ and-true good in
-    let b : count Val.point v ≡ points = (let q = inv .1 in let w : count Val.point (drop i v) ≡ 0 = ap (count Val.point) (over v i h) in omega arith) in
-    let c : any digit v ≡ some = inv .2 ∙ ap (λ l. some || any digit l) (over v i h) ∙ or-false some in
-    and-assoc good (leb points 1) some ∙ rw (← a, ← b, ← c)
-  where
-    and-true : (a : Bool) → (a && true) ≡ a
-    and-true true = refl
-    and-true false = refl
+pub ruleset days_in·laws = (february-leap, february, thirty, thirty-one)
 
-    or-false : (a : Bool) → (a || false) ≡ a
-    or-false true = refl
-    or-false false = refl
+pub two-is : (v : List ℕ) (k a b : ℕ) → a ≡ getD v k 0 - 48 → b ≡ getD v (k + 1) 0 - 48 → 10 * a + b ≡ Val.two v k
+unfolding Val.two
+two-is v k a b ea eb = cc
 
-    and-assoc : (a b c : Bool) → ((a && b) && c) ≡ (a && b && c)
-    and-assoc true b c = refl
-    and-assoc false b c = refl
+pub day-is : (v : List ℕ) (a b m d n : ℕ) (l p q r : Bool) → a ≡ Val.two v 0 → b ≡ Val.two v 2 → m ≡ Val.two v 4 → d ≡ Val.two v 6
+    → l ≡ Val.leap (100 * a + b) → n ≡ Val.daysIn l m → p ≡ within 1900 2099 (100 * a + b) → q ≡ within 1 12 m → r ≡ within 1 n d
+    → (p && q && r) ≡ Val.dayOk v
+unfolding Val.dayOk
+day-is v a b m d n l p q r ea eb em ed el en ep eq er = rw (ep, eq, er, en, el, ea, eb, em, ed)
 
--- ---- words
-any-cons : {A : Type 0} (p : A → Bool) (x : A) (xs : List A) → any p (x ∷ xs) ≡ (p x || any p xs)
-unfolding any
-any-cons p x xs = cases (p x) (λ e. cc) (λ e. cc)
+pub clock-is : (v : List ℕ) (a b c : ℕ) → a ≡ Val.two v 8 → b ≡ Val.two v 10 → c ≡ Val.two v 12 → (leb a 23 && leb b 59 && leb c 59) ≡ Val.clockOk v
+unfolding Val.clockOk
+clock-is v a b c ea eb ec = rw (ea, eb, ec)
 
-any-nil : {A : Type 0} (p : A → Bool) → any p [] ≡ false
-unfolding any
-any-nil p = refl
+module _ (v : List ℕ) (n : ℕ) (t : Bool) (e : t ≡ Val.digitsOk n v) (h : not t ≡ false) where
+  pub digits-length : (k : ℕ) → k ≤ n → k ≤ length v
+  digits-length k l = omega (arith, eqb-true (length v) n (both (eqb (length v) n) (all digit v) (sym e ∙ not-false t h) .0))
 
-module _ (words v : List ℕ) (at n : ℕ) (inv : oneOf words v ≡ any (same v) (split 0x20 (drop at words)))
-    (en : n ≡ length (until (is 0x20) (take (length words - at) (drop at words)))) where
-  len-is : n ≡ length (until (is 0x20) (drop at words))
-  len-is = en ∙ ap (λ l. length (until (is 0x20) l)) (rest-is words at)
+pub date-no : (v : List ℕ) (t : Bool) → t ≡ Val.digitsOk 8 v → not t ≡ true → false ≡ Val.holds Val.date v
+unfolding Val.holds
+date-no v t e h = cc (not-true t h)
 
-  last-is : n ≡ length (drop at words) → split 0x20 (drop at words) ≡ take n (drop at words) ∷ []
-  last-is h = split-last 0x20 (drop at words) (sym len-is ∙ h) ∙ ap (λ l. l ∷ []) (sym (take-all n (drop at words) (omega arith)))
+pub date-is : (v : List ℕ) (t r : Bool) → t ≡ Val.digitsOk 8 v → not t ≡ false → r ≡ Val.dayOk v → r ≡ Val.holds Val.date v
+unfolding Val.holds
+date-is v t r e h g = cc (not-false t h)
 
-  more-is : n < length (drop at words) → split 0x20 (drop at words) ≡ take n (drop at words) ∷ split 0x20 (drop (at + (n + 1)) words)
-  more-is h =
-      let e : n ≡ length (until (is 0x20) (drop at words)) = len-is in
-      let q : length (until (is 0x20) (drop at words)) < length (drop at words) = omega arith in
-      rw (← e) at (split-more 0x20 (drop at words) q)
-      ∙ ap (λ l. take n (drop at words) ∷ split 0x20 l) (drop-drop (suc n) at words ∙ ap (λ k. drop k words) (let w : at + suc n ≡ at + (n + 1) = omega arith in w))
+pub time-no : (v : List ℕ) (t : Bool) → t ≡ Val.digitsOk 14 v → not t ≡ true → false ≡ Val.holds Val.time v
+unfolding Val.holds
+time-no v t e h = cc (not-true t h)
 
-  pub words-found : (r : Bool) → n ≤ length (take (length words - at) (drop at words)) → r ≡ same v (take n (take (length words - at) (drop at words))) → r ≡ true → true ≡ oneOf words v
-  words-found r k e y =
-      let g : same v (take n (drop at words)) ≡ true = rw (rest-is words at) at (sym e ∙ y) in
-      let k2 : n ≤ length (drop at words) = rw (rest-is words at) at k in
-      cases (ltb n (length (drop at words)))
-      (λ t. sym (inv ∙ ap (any (same v)) (more-is (ltb-true n (length (drop at words)) t)) ∙ any-cons (same v) (take n (drop at words)) (split 0x20 (drop (at + (n + 1)) words)) ∙ ap (λ b. b || any (same v) (split 0x20 (drop (at + (n + 1)) words))) g))
-      (λ t. sym (inv ∙ ap (any (same v)) (last-is (let z : length (drop at words) ≤ n = ltb-false n (length (drop at words)) t in omega arith)) ∙ any-cons (same v) (take n (drop at words)) [] ∙ ap (λ b. b || any (same v) []) g))
+pub time-is : (v : List ℕ) (t r q : Bool) → t ≡ Val.digitsOk 14 v → not t ≡ false → r ≡ Val.dayOk v → q ≡ Val.clockOk v → (r && q) ≡ Val.holds Val.time v
+unfolding Val.holds
+time-is v t r q e h g k = cc (not-false t h)
 
-  pub words-none : (r : Bool) → r ≡ same v (take n (take (length words - at) (drop at words))) → r ≡ false → n ≡ length (take (length words - at) (drop at words)) → false ≡ oneOf words v
-  words-none r e y k =
-      let g : same v (take n (drop at words)) ≡ false = rw (rest-is words at) at (sym e ∙ y) in
-      let k2 : n ≡ length (drop at words) = rw (rest-is words at) at k in
-      sym (inv ∙ ap (any (same v)) (last-is k2) ∙ any-cons (same v) (take n (drop at words)) [] ∙ ap (λ b. b || any (same v) []) g ∙ any-nil (same v))
+pub ruleset is_date·laws = (date-no, date-is, digits-length)
 
-  pub words-on : (r : Bool) → n ≤ length (take (length words - at) (drop at words)) → r ≡ same v (take n (take (length words - at) (drop at words))) → r ≡ false → (n ≡ length (take (length words - at) (drop at words)) → ⊥)
-      → oneOf words v ≡ any (same v) (split 0x20 (drop (at + (n + 1)) words))
-  words-on r l e y k =
-      let g : same v (take n (drop at words)) ≡ false = rw (rest-is words at) at (sym e ∙ y) in
-      let j : length (take (length words - at) (drop at words)) ≡ length (drop at words) = ap length (rest-is words at) in
-      let q : n < length (drop at words) = omega (arith, k) in
-      inv ∙ ap (any (same v)) (more-is q) ∙ any-cons (same v) (take n (drop at words)) (split 0x20 (drop (at + (n + 1)) words)) ∙ ap (λ b. b || any (same v) (split 0x20 (drop (at + (n + 1)) words))) g
+pub ruleset is_time·laws = (time-no, time-is, digits-length)
 
-pub part-count : (n : ℕ) (s : List ℕ) → n ≤ length s → n ≡ length (take n s)
-part-count n s h = sym (length-take-le n s h)
-
-pub words-start : (words v : List ℕ) → oneOf words v ≡ any (same v) (split 0x20 words)
-unfolding oneOf
-words-start words v = refl
-
-pub words-within : (words : List ℕ) (at n : ℕ) → at ≤ length words → n ≤ length (take (length words - at) (drop at words)) → (n ≡ length (take (length words - at) (drop at words)) → ⊥) → at + (n + 1) ≤ length words
-words-within words at n h l k =
-    let q : length (take (length words - at) (drop at words)) ≡ length words - at = ap length (rest-is words at) ∙ length-drop at words in
-    omega (arith, k)
-
-pub word-is : (w x : Words) (v l : List ℕ) (r : Bool) → w ≡ x → wordOf x ≡ l → r ≡ oneOf l v → r ≡ oneOf (wordOf w) v
+-- ---- words and rules by their names
+pub word-is : (w x : Words) (v l : List ℕ) (r : Bool) → w ≡ x → bytes (textOf x) ≡ l → r ≡ oneOf l v → r ≡ isOneOf (textOf w) v
+unfolding oneOf isOneOf
 word-is w x v l r e g h = cc
 
--- ---- a rule by name
-module _ (rule : Rule) (v : List ℕ) (r : Bool) where
-  pub kept-time : rule ≡ Time → r ≡ timeOk v → r ≡ Val.holds (ruleOf rule) v
-  unfolding ruleOf Val.holds
-  kept-time e h = cc
+pub holds-is : (rule x : Rule) (v : List ℕ) (r : Bool) → rule ≡ x → r ≡ Val.holds (ruleOf x) v → r ≡ Val.holds (ruleOf rule) v
+holds-is rule x v r e h = cc
 
-  pub kept-date : rule ≡ Date → r ≡ dateOk v → r ≡ Val.holds (ruleOf rule) v
-  unfolding ruleOf Val.holds
-  kept-date e h = cc
+pub long-never : (rule x : Rule) (n : ℕ) → rule ≡ x → ((v : List ℕ) → Val.tooLong (ruleOf x) v ≡ false)
+    → (v : List ℕ) → length v ≡ n → false ≡ Val.tooLong (ruleOf rule) v
+long-never rule x n e h v l = cc (h v)
 
-  pub kept-number : (s : List ℕ) → rule ≡ Number → s ≡ Val.unsigned v → r ≡ Val.spelled s → r ≡ Val.holds (ruleOf rule) v
-  unfolding ruleOf Val.holds
-  kept-number s e g h = cc
+pub long-above : (rule x : Rule) (most n : ℕ) → rule ≡ x → ((v : List ℕ) → Val.tooLong (ruleOf x) v ≡ ltb most (length v))
+    → (v : List ℕ) → length v ≡ n → ltb most n ≡ Val.tooLong (ruleOf rule) v
+long-above rule x most n e h v l = cc (h v)
 
-  pub kept-digits : (n : ℕ) → rule ≡ Digits n → r ≡ Val.digitsOk n v → r ≡ Val.holds (ruleOf rule) v
-  unfolding ruleOf Val.holds
-  kept-digits n e h = cc
-
-  pub kept-capitals : (n : ℕ) → rule ≡ Capitals n → r ≡ capitals n v → r ≡ Val.holds (ruleOf rule) v
-  unfolding ruleOf Val.holds
-  kept-capitals n e h = cc
-
-  pub kept-words : (w : Words) → rule ≡ OneOf w → r ≡ oneOf (wordOf w) v → r ≡ Val.holds (ruleOf rule) v
-  unfolding ruleOf Val.holds isOneOf wordOf oneOf
-  kept-words w e h = cc
-
-pub kept-text : (rule : Rule) (v : List ℕ) (n : ℕ) → rule ≡ Text n → true ≡ Val.holds (ruleOf rule) v
-unfolding ruleOf Val.holds
-kept-text rule v n e = cc
+pub ruleset too_long·laws = (long-never, long-above)
 
 -- ---- 20, 24, 25
-empty-is : (v : List ℕ) → length v ≡ 0 → empty v ≡ true
-unfolding empty
-empty-is [] h = refl
-empty-is (b ∷ v) h = absurd (omega arith)
-
-filled-is : (v : List ℕ) → (length v ≡ 0 → ⊥) → empty v ≡ false
-unfolding empty
-filled-is [] h = absurd (h refl)
-filled-is (b ∷ v) h = refl
-
-pub longer-is : (r : Val.Rule) (v : List ℕ) → Val.tooLong r v ≡ longer r (length v)
-unfolding Val.tooLong longer
-longer-is Val.time v = refl
-longer-is Val.date v = refl
-longer-is Val.number v = refl
-longer-is (Val.text n) v = refl
-longer-is (Val.digits n) v = refl
-longer-is (Val.capitals n) v = refl
-longer-is (Val.words ws) v = refl
-
 module _ (required : Bool) (rule : Rule) (v : List ℕ) where
-  pub wrong-missing : length v ≡ 0 → required ≡ true → faultNo Missing ≡ Val.fault required (ruleOf rule) v
+  pub fault-missing : length v ≡ 0 → required ≡ true → faultNo Missing ≡ Val.fault required (ruleOf rule) v
   unfolding faultNo Val.fault
-  wrong-missing h e = cc (empty-is v h)
+  fault-missing h e = cc (empty-zero v h)
 
-  pub wrong-blank : length v ≡ 0 → required ≡ false → faultNo Nothing ≡ Val.fault required (ruleOf rule) v
+  pub fault-blank : length v ≡ 0 → required ≡ false → faultNo Nothing ≡ Val.fault required (ruleOf rule) v
   unfolding faultNo Val.fault
-  wrong-blank h e = cc (empty-is v h)
+  fault-blank h e = cc (empty-zero v h)
 
-  pub wrong-long : (t : Bool) → (length v ≡ 0 → ⊥) → t ≡ longer (ruleOf rule) (length v) → t ≡ true → faultNo Long ≡ Val.fault required (ruleOf rule) v
-  unfolding faultNo Val.fault
-  wrong-long t h e y = cc (filled-is v h, longer-is (ruleOf rule) v)
+  module _ (h : length v ≡ 0 → ⊥) (t : Bool) (e : (u : List ℕ) → length u ≡ length v → t ≡ Val.tooLong (ruleOf rule) u) where
+    pub fault-long : t ≡ true → faultNo Long ≡ Val.fault required (ruleOf rule) v
+    unfolding faultNo Val.fault
+    fault-long y = cc (filled-some v h, e v refl)
 
-  pub wrong-nothing : (t q : Bool) → (length v ≡ 0 → ⊥) → t ≡ longer (ruleOf rule) (length v) → t ≡ false → q ≡ Val.holds (ruleOf rule) v → q ≡ true
-      → faultNo Nothing ≡ Val.fault required (ruleOf rule) v
-  unfolding faultNo Val.fault
-  wrong-nothing t q h e y g z = cc (filled-is v h, longer-is (ruleOf rule) v)
+    pub fault-none : (q : Bool) → t ≡ false → q ≡ Val.holds (ruleOf rule) v → q ≡ true → faultNo Nothing ≡ Val.fault required (ruleOf rule) v
+    unfolding faultNo Val.fault
+    fault-none q y g z = cc (filled-some v h, e v refl)
 
-  pub wrong-value : (t q : Bool) → (length v ≡ 0 → ⊥) → t ≡ longer (ruleOf rule) (length v) → t ≡ false → q ≡ Val.holds (ruleOf rule) v → q ≡ false
-      → faultNo Value ≡ Val.fault required (ruleOf rule) v
-  unfolding faultNo Val.fault
-  wrong-value t q h e y g z = cc (filled-is v h, longer-is (ruleOf rule) v)
+    pub fault-value : (q : Bool) → t ≡ false → q ≡ Val.holds (ruleOf rule) v → q ≡ false → faultNo Value ≡ Val.fault required (ruleOf rule) v
+    unfolding faultNo Val.fault
+    fault-value q y g z = cc (filled-some v h, e v refl)
+
+pub ruleset fault_of·laws = (fault-missing, fault-blank, fault-long, fault-none, fault-value)

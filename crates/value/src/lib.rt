@@ -1,31 +1,63 @@
-// The value rules, over plain bytes: of a component that is unescaped, and of a sheet's value.
+// The value rules of the read places, over plain bytes: a component that is unescaped, or a value of a sheet.
 ghost use mathlib.Core.Path.{_≡_};
-ghost use mathlib.Core.Bool.{not};
-ghost use Prim.Native.Nat.{_+_, _-_, _<_, _≤_};
+ghost use mathlib.Core.List.{List, foldl};
+ghost use Prim.Native.Nat.{ℕ, _+_, _-_, _<_, _≤_};
 ghost use lib.ListN.{length};
-ghost use Rattle.rules.specs.Lists.{all, any, same, split};
+ghost use Rattle.rules.specs.Lists.{all, same, isOneOf};
 ghost use Rattle.rules.specs.Shift.{within};
 ghost use Rattle.rules.specs.Frame.{digit, capitalOrDigit};
-ghost use Rattle.rules.specs.Value.{two, leap, daysIn, dayOk, clockOk, unsigned, spelled, holds, tooLong, fault, point, digitsOk};
+ghost use Rattle.rules.specs.Value as Val;
 ghost use Rattle.scan.specs.Scan.{until, is};
-ghost use Rattle.value.specs.Rules.{ruleOf, wordOf, oneOf, faultNo, capitals, oneIf};
+ghost use Rattle.value.specs.Rules.{faultNo, fineOf, textOf, ruleOf, oneOf};
+ghost use Rattle.value.specs.Number.{readByte, unread};
 
-// What a read place breaks; the paper's numbers are in specs/.
+// What a read place breaks, with its number in document 01.
 pub enum Fault {
     Nothing,
-    Missing,
-    Null,
-    Repeated,
-    Escape,
-    Long,
-    Value,
-    Status,
-    Differs,
+    Missing, // 20
+    Null, // 21
+    Repeated, // 22
+    Escape, // 23
+    Long, // 24
+    Value, // 25
+    Status, // 26
+    Differs, // 27
+}
+
+// The words that a place may hold.
+pub enum Words {
+    Oul, // MSH-9.1
+    R22, // MSH-9.2
+    OulR22, // MSH-9.3
+    Modes, // MSH-11
+    Version, // MSH-12
+    Sexes, // PID-8
+    Classes, // PV1-2
+    Jc10, // SPM-4.3, OBX-3.3
+    Group, // OBR-4.3
+    Re, // ORC-1
+    Types, // OBX-2
+    Flags, // OBX-8
+    Statuses, // OBX-11
+    Blank, // what NM and ST have no use for
+    Comparators, // SN, component 1
+    Joiners, // SN, component 3
+}
+
+// The rule of a read place.
+pub enum Rule {
+    Time, // YYYYMMDDHHMMSS
+    Date, // YYYYMMDD
+    Number, // NM
+    Text(usize), // at most so many bytes
+    Digits(usize), // exactly so many digits
+    Capitals(usize), // at most so many capitals or digits
+    OneOf(Words),
 }
 
 // Whether there is no fault.
 pub fn fine(f: Fault) -> bool
-    ensures { λ r. ⌜ r ≡ Rattle.value.specs.Rules.fineOf f ⌝ }
+    ensures { λ r. ⌜ r ≡ fineOf f ⌝ }
 {
     match f {
         Fault::Nothing => true,
@@ -40,42 +72,12 @@ pub fn fine(f: Fault) -> bool
     }
 }
 
-// The words that a place may hold.
-pub enum Words {
-    Oul,
-    R22,
-    OulR22,
-    Modes,
-    Version,
-    Sexes,
-    Classes,
-    Jc10,
-    Group,
-    Re,
-    Types,
-    Flags,
-    Statuses,
-    Blank,
-    Comparators,
-    Joiners,
-}
+// ---- digits, and capitals or digits
 
-pub enum Rule {
-    Time,
-    Date,
-    Number,
-    Text(usize),
-    Digits(usize),
-    Capitals(usize),
-    OneOf(Words),
-}
-
-// ---- bytes
-
-fn range(lo: u32, hi: u32, b: u32) -> bool
-    ensures { λ r. ⌜ r ≡ within lo hi b ⌝ }
+fn in_range(low: u32, high: u32, n: u32) -> bool
+    ensures { λ r. ⌜ r ≡ within low high n ⌝ }
 {
-    (lo <= b) & (b <= hi)
+    (low <= n) & (n <= high)
 }
 
 fn is_digit(b: u8) -> bool
@@ -84,7 +86,7 @@ fn is_digit(b: u8) -> bool
     (48 <= b) & (b <= 57)
 }
 
-fn is_sign(b: u8) -> bool
+fn is_capital_or_digit(b: u8) -> bool
     ensures { λ r. ⌜ r ≡ capitalOrDigit b ⌝ }
 {
     ((65 <= b) & (b <= 90)) | ((48 <= b) & (b <= 57))
@@ -103,12 +105,12 @@ fn all_digits(v: &[u8]) -> bool
     true
 }
 
-fn all_signs(v: &[u8]) -> bool
+fn all_capitals_or_digits(v: &[u8]) -> bool
     ensures { λ r. ⌜ r ≡ all capitalOrDigit (now (v .entry)) ⌝ }
 {
     let mut i = 0;
     while i < v.len() {
-        if !is_sign(v[i]) {
+        if !is_capital_or_digit(v[i]) {
             return false;
         }
         i += 1;
@@ -116,8 +118,9 @@ fn all_signs(v: &[u8]) -> bool
     true
 }
 
+// Exactly n digits.
 pub fn digits(v: &[u8], n: usize) -> bool
-    ensures { λ r. ⌜ r ≡ digitsOk n (now (v .entry)) ⌝ }
+    ensures { λ r. ⌜ r ≡ Val.digitsOk n (now (v .entry)) ⌝ }
 {
     if v.len() != n {
         return false;
@@ -125,17 +128,19 @@ pub fn digits(v: &[u8], n: usize) -> bool
     all_digits(v)
 }
 
-pub fn signs(v: &[u8], n: usize) -> bool
-    ensures { λ r. ⌜ r ≡ capitals n (now (v .entry)) ⌝ }
+// At most n capitals or digits.
+fn capitals(v: &[u8], n: usize) -> bool
+    ensures { λ r. ⌜ r ≡ Val.holds (Val.capitals n) (now (v .entry)) ⌝ }
 {
     if n < v.len() {
         return false;
     }
-    all_signs(v)
+    all_capitals_or_digits(v)
 }
 
 // ---- words
 
+// Whether both are the same bytes.
 pub fn equal(a: &[u8], b: &[u8]) -> bool
     ensures { λ r. ⌜ r ≡ same (now (a .entry)) (now (b .entry)) ⌝ }
 {
@@ -171,9 +176,8 @@ pub fn before(s: &[u8], sep: u8) -> usize
 pub fn one_of(v: &[u8], words: &[u8]) -> bool
     ensures { λ r. ⌜ r ≡ oneOf (now (words .entry)) (now (v .entry)) ⌝ }
 {
-    let mut at = 0;
+    let mut rest = words;
     loop {
-        let rest = &words[at..];
         let n = before(rest, 0x20);
         if equal(v, &rest[..n]) {
             return true;
@@ -181,14 +185,15 @@ pub fn one_of(v: &[u8], words: &[u8]) -> bool
         if n == rest.len() {
             return false;
         }
-        at += n + 1;
+        rest = &rest[n + 1..];
     }
 }
 
-pub fn word(w: Words, v: &[u8]) -> bool
-    ensures { λ r. ⌜ r ≡ oneOf (wordOf w) (now (v .entry)) ⌝ }
+// Whether v is one of the words of a place.
+fn is_word(words: Words, v: &[u8]) -> bool
+    ensures { λ r. ⌜ r ≡ isOneOf (textOf words) (now (v .entry)) ⌝ }
 {
-    match w {
+    match words {
         Words::Oul => one_of(v, b"OUL"),
         Words::R22 => one_of(v, b"R22"),
         Words::OulR22 => one_of(v, b"OUL_R22"),
@@ -208,37 +213,48 @@ pub fn word(w: Words, v: &[u8]) -> bool
     }
 }
 
-// ---- numbers
+// ---- NM: "an optional sign, then digits with at most one point before, among or after them, at least one digit"
 
-fn hit(t: bool) -> usize
-    ensures { λ r. ⌜ r ≡ oneIf t ⌝ }
-    ensures small { λ r. ⌜ r ≤ 1 ⌝ }
-{
-    if t { 1 } else { 0 }
+// What the bytes of a number have shown so far.
+struct Spelling {
+    good: bool, // only digits, and at most one point
+    point: bool, // a point
+    digit: bool, // a digit
 }
 
-// Digits with at most one point, and at least one digit.
-fn plain_number(v: &[u8]) -> bool
-    ensures { λ r. ⌜ r ≡ spelled (now (v .entry)) ⌝ }
+// The spelling after one byte more.
+fn read_byte(t: Spelling, b: u8) -> Spelling
+    ensures { λ r. ⌜ r ≡ readByte t b ⌝ }
 {
-    let mut good = true;
-    let mut points = 0;
-    let mut some = false;
+    let digit = is_digit(b);
+    let point = b == 46;
+    Spelling {
+        good: t.good & (digit | point) & !(point & t.point),
+        point: t.point | point,
+        digit: t.digit | digit,
+    }
+}
+
+// The spelling after all bytes of v.
+fn read_all(v: &[u8]) -> Spelling
+    ensures { λ r. ⌜ r ≡ foldl readByte unread (now (v .entry)) ⌝ }
+{
+    let mut t = Spelling {
+        good: true,
+        point: false,
+        digit: false,
+    };
     let mut i = 0;
     while i < v.len() {
-        let b = v[i];
-        let p = b == 46;
-        let g = is_digit(b);
-        good = good & (g | p);
-        points += hit(p);
-        some = some | g;
+        t = read_byte(t, v[i]);
         i += 1;
     }
-    good & (points <= 1) & some
+    t
 }
 
+// What follows an optional sign.
 fn past_sign(v: &[u8]) -> &[u8]
-    ensures { λ r. ⌜ now r ≡ unsigned (now (v .entry)) ⌝ }
+    ensures { λ r. ⌜ now r ≡ Val.unsigned (now (v .entry)) ⌝ }
 {
     if v.len() == 0 {
         return v;
@@ -250,17 +266,25 @@ fn past_sign(v: &[u8]) -> &[u8]
     v
 }
 
-// ---- dates
-
-fn leap_year(y: u32) -> bool
-    ensures { λ r. ⌜ r ≡ leap y ⌝ }
+// At least one digit, and only what may stand beside it; `too_long` judges the length.
+fn is_number(v: &[u8]) -> bool
+    ensures { λ r. ⌜ r ≡ Val.holds Val.number (now (v .entry)) ⌝ }
 {
-    (y % 4 == 0) & ((y % 100 != 0) | (y % 400 == 0))
+    let t = read_all(past_sign(v));
+    t.good & t.digit
+}
+
+// ---- "Time is YYYYMMDDHHMMSS, date YYYYMMDD, years 1900–2099, Gregorian, 00–23, 00–59, 00–59."
+
+fn is_leap(year: u32) -> bool
+    ensures { λ r. ⌜ r ≡ Val.leap year ⌝ }
+{
+    (year % 4 == 0) & ((year % 100 != 0) | (year % 400 == 0))
 }
 
 // How long a month is, in a leap year or another.
-fn month_days(leap: bool, month: u32) -> u32
-    ensures { λ r. ⌜ r ≡ daysIn leap month ⌝ }
+fn days_in(leap: bool, month: u32) -> u32
+    ensures { λ r. ⌜ r ≡ Val.daysIn leap month ⌝ }
 {
     if month == 2 {
         if leap {
@@ -274,7 +298,8 @@ fn month_days(leap: bool, month: u32) -> u32
     31
 }
 
-fn worth(b: u8) -> u32
+// The number of a digit; 0 below the digits.
+fn digit_value(b: u8) -> u32
     ensures { λ r. ⌜ (r ≡ b - 48) × (r < 256) ⌝ }
 {
     if b < 48 {
@@ -283,87 +308,86 @@ fn worth(b: u8) -> u32
     (b - 48) as u32
 }
 
-fn pair(v: &[u8], k: usize) -> u32
+// The number of the two digits at k.
+fn two_digits(v: &[u8], k: usize) -> u32
     requires { ⌜ k + 1 < length (now v) ⌝ }
-    ensures { λ r. ⌜ (r ≡ two (now (v .entry)) k) × (r < 3000) ⌝ }
+    ensures { λ r. ⌜ (r ≡ Val.two (now (v .entry)) k) × (r < 3000) ⌝ }
 {
-    10 * worth(v[k]) + worth(v[k + 1])
+    10 * digit_value(v[k]) + digit_value(v[k + 1])
 }
 
-fn day(v: &[u8]) -> bool
+// The day that YYYYMMDD names is in the calendar.
+fn is_day(v: &[u8]) -> bool
     requires { ⌜ 8 ≤ length (now v) ⌝ }
-    ensures { λ r. ⌜ r ≡ dayOk (now (v .entry)) ⌝ }
+    ensures { λ r. ⌜ r ≡ Val.dayOk (now (v .entry)) ⌝ }
 {
-    let y = 100 * pair(v, 0) + pair(v, 2);
-    let m = pair(v, 4);
-    range(1900, 2099, y) & range(1, 12, m) & range(1, month_days(leap_year(y), m), pair(v, 6))
+    let year = 100 * two_digits(v, 0) + two_digits(v, 2);
+    let month = two_digits(v, 4);
+    let last = days_in(is_leap(year), month);
+    in_range(1900, 2099, year) & in_range(1, 12, month) & in_range(1, last, two_digits(v, 6))
 }
 
-fn clock(v: &[u8]) -> bool
+// The HHMMSS that follow name a time of day.
+fn is_clock(v: &[u8]) -> bool
     requires { ⌜ 14 ≤ length (now v) ⌝ }
-    ensures { λ r. ⌜ r ≡ clockOk (now (v .entry)) ⌝ }
+    ensures { λ r. ⌜ r ≡ Val.clockOk (now (v .entry)) ⌝ }
 {
-    (pair(v, 8) <= 23) & (pair(v, 10) <= 59) & (pair(v, 12) <= 59)
+    (two_digits(v, 8) <= 23) & (two_digits(v, 10) <= 59) & (two_digits(v, 12) <= 59)
 }
 
-fn date(v: &[u8]) -> bool
-    ensures { λ r. ⌜ r ≡ Rattle.value.specs.Rules.dateOk (now (v .entry)) ⌝ }
+fn is_date(v: &[u8]) -> bool
+    ensures { λ r. ⌜ r ≡ Val.holds Val.date (now (v .entry)) ⌝ }
 {
     if !digits(v, 8) {
         return false;
     }
-    if v.len() != 8 {
-        return false;
-    }
-    day(v)
+    is_day(v)
 }
 
-fn time(v: &[u8]) -> bool
-    ensures { λ r. ⌜ r ≡ Rattle.value.specs.Rules.timeOk (now (v .entry)) ⌝ }
+fn is_time(v: &[u8]) -> bool
+    ensures { λ r. ⌜ r ≡ Val.holds Val.time (now (v .entry)) ⌝ }
 {
     if !digits(v, 14) {
         return false;
     }
-    if v.len() != 14 {
-        return false;
-    }
-    day(v) & clock(v)
+    is_day(v) & is_clock(v)
 }
 
-// ---- a rule by name
+// ---- a place's rule
 
-fn kept(rule: Rule, v: &[u8]) -> bool
-    ensures { λ r. ⌜ r ≡ holds (ruleOf rule) (now (v .entry)) ⌝ }
+// Whether a filled value meets its rule.
+fn holds(rule: Rule, v: &[u8]) -> bool
+    ensures { λ r. ⌜ r ≡ Val.holds (ruleOf rule) (now (v .entry)) ⌝ }
 {
     match rule {
-        Rule::Time => time(v),
-        Rule::Date => date(v),
-        Rule::Number => plain_number(past_sign(v)),
+        Rule::Time => is_time(v),
+        Rule::Date => is_date(v),
+        Rule::Number => is_number(v),
         Rule::Text(_) => true,
         Rule::Digits(n) => digits(v, n),
-        Rule::Capitals(n) => signs(v, n),
-        Rule::OneOf(w) => word(w, v),
+        Rule::Capitals(n) => capitals(v, n),
+        Rule::OneOf(words) => is_word(words, v),
     }
 }
 
-// Whether n bytes are too many.
-pub fn long(rule: Rule, n: usize) -> bool
-    ensures { λ r. ⌜ r ≡ Rattle.value.specs.Rules.longer (ruleOf rule) n ⌝ }
+// 24, "text or NM too long": whether a value of n bytes is.
+pub fn too_long(rule: Rule, n: usize) -> bool
+    ensures { λ r. ⌜ ((v : List ℕ) → length v ≡ n → r ≡ Val.tooLong (ruleOf rule) v) ⌝ }
 {
     match rule {
         Rule::Time => false,
         Rule::Date => false,
         Rule::Number => 16 < n,
-        Rule::Text(k) => k < n,
+        Rule::Text(most) => most < n,
         Rule::Digits(_) => false,
         Rule::Capitals(_) => false,
         Rule::OneOf(_) => false,
     }
 }
 
-// 20, 24, 25.
-pub fn wrong(required: bool, rule: Rule, v: &[u8]) -> Fault
-    ensures { λ r. ⌜ faultNo r ≡ fault required (ruleOf rule) (now (v .entry)) ⌝ }
+// 20, 24, 25 in this order: the fault of a value that must be filled or may be empty.
+pub fn fault_of(required: bool, rule: Rule, v: &[u8]) -> Fault
+    ensures { λ r. ⌜ faultNo r ≡ Val.fault required (ruleOf rule) (now (v .entry)) ⌝ }
 {
     if v.len() == 0 {
         if required {
@@ -371,10 +395,10 @@ pub fn wrong(required: bool, rule: Rule, v: &[u8]) -> Fault
         }
         return Fault::Nothing;
     }
-    if long(rule, v.len()) {
+    if too_long(rule, v.len()) {
         return Fault::Long;
     }
-    if kept(rule, v) {
+    if holds(rule, v) {
         return Fault::Nothing;
     }
     Fault::Value

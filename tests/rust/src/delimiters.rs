@@ -77,7 +77,7 @@ impl Delimiters {
         let mut rest = plain;
         while let Some(at) = find_unshifted(rest, |b| self.letter(b).is_some()) {
             component.extend_from_slice(&rest[..at]);
-            for letter in self.letter(rest[at]) {
+            if let Some(letter) = self.letter(rest[at]) {
                 component.extend([self.escape, letter, self.escape]);
             }
             rest = &rest[at + 1..];
@@ -95,6 +95,7 @@ impl Delimiters {
         }
     }
 
+    /// What the escape with this letter stands for.
     fn byte(&self, letter: u8) -> Option<u8> {
         match letter {
             b'F' => Some(self.field),
@@ -106,10 +107,16 @@ impl Delimiters {
         }
     }
 
+    /// The letter of the escape that stands for a delimiter.
     fn letter(&self, byte: u8) -> Option<u8> {
-        [b'F', b'S', b'T', b'R', b'E']
-            .into_iter()
-            .find(|&letter| self.byte(letter) == Some(byte))
+        match byte {
+            _ if byte == self.field => Some(b'F'),
+            _ if byte == self.component => Some(b'S'),
+            _ if byte == self.subcomponent => Some(b'T'),
+            _ if byte == self.repetition => Some(b'R'),
+            _ if byte == self.escape => Some(b'E'),
+            _ => None,
+        }
     }
 }
 
@@ -133,7 +140,16 @@ mod tests {
 
     #[test]
     fn any_other_escape_is_bad() {
-        for bad in [r"\Q\", r"\f\", r"\\", r"\", r"\F", r"\F|", "\\\x1B$B\x1B(B\\", "a&b"] {
+        for bad in [
+            r"\Q\",
+            r"\f\",
+            r"\\",
+            r"\",
+            r"\F",
+            r"\F|",
+            "\\\x1B$B\x1B(B\\",
+            "a&b",
+        ] {
             assert_eq!(plain_length(bad), None, "{bad}");
         }
         assert_eq!(plain_length(r"\E\F\E\"), Some(3));
@@ -146,8 +162,18 @@ mod tests {
 
     #[test]
     fn the_header_needs_five_different_delimiters() {
-        assert_eq!(Delimiters::of_header(br"MSH|^~\&|"), Some(Delimiters::USUAL));
-        for bad in [r"", r"MSH|^~\&", r"MSH||~\&|", r"MSH|^~\&^", r"MSH|^~\$|", r"msh|^~\&|"] {
+        assert_eq!(
+            Delimiters::of_header(br"MSH|^~\&|"),
+            Some(Delimiters::USUAL)
+        );
+        for bad in [
+            r"",
+            r"MSH|^~\&",
+            r"MSH||~\&|",
+            r"MSH|^~\&^",
+            r"MSH|^~\$|",
+            r"msh|^~\&|",
+        ] {
             assert_eq!(Delimiters::of_header(bad.as_bytes()), None, "{bad}");
         }
     }

@@ -9,7 +9,7 @@ use crate::report::{
 };
 use crate::rules::{self, Rule};
 use crate::segments::{self, KnownSegment, SegmentName, SEGMENT_END};
-use crate::shift::{find_unshifted, keeps_shift_rule};
+use crate::shift::keeps_shift_rule;
 use crate::MESSAGE_LIMIT;
 
 /// A message whose bytes, header and segments are in order.
@@ -24,8 +24,7 @@ impl<'m> Message<'m> {
         if bytes.len() > MESSAGE_LIMIT {
             return Err(Refusal::of_whole(number::MESSAGE_TOO_LONG));
         }
-        let delimiters =
-            Delimiters::of_header(bytes).ok_or(Refusal::of_whole(number::HEADER))?;
+        let delimiters = Delimiters::of_header(bytes).ok_or(Refusal::of_whole(number::HEADER))?;
         if !keeps_shift_rule(bytes, SEGMENT_END) {
             return Err(Refusal::of_whole(number::MESSAGE_BYTES));
         }
@@ -85,20 +84,19 @@ fn read_header<'m>(fields: &mut Fields<'m>) -> Result<Header<'m>, Refusal> {
     })
 }
 
-/// MSH-18 is compared raw: the repetition separator, then `ISO IR87`, nothing else.
+/// MSH-18 is compared raw: the repetition separator, then `ISO IR87`, nothing else. Whatever
+/// breaks that gives 25, its absence too.
 fn read_character_set(fields: &mut Fields) -> Result<(), Refusal> {
-    let raw = fields.whole(18);
-    match raw.stream().split_first() {
-        Some((&first, b"ISO IR87")) if first == raw.delimiters.repetition => Ok(()),
-        _ => Err(raw.refuse(number::VALUE_RULE)),
+    let field = fields.whole(18);
+    match field.raw.split_first() {
+        Some((&first, b"ISO IR87")) if first == field.delimiters.repetition => Ok(()),
+        _ => Err(field.refuse(number::VALUE_RULE)),
     }
 }
 
 fn read_patient<'m>(fields: &mut Fields<'m>) -> Result<Patient<'m>, Refusal> {
     let number = fields.read(3, &rules::PATIENT)?;
-    let names = fields.whole(5);
-    let kanji = read_kanji_name(&names)?;
-    let kana = read_kana_name(&names)?;
+    let (kanji, kana) = read_names(&fields.whole(5))?;
     let birth = fields.read(7, &rules::BIRTH)?;
     let sex = fields.read(8, &rules::SEX)?;
     Ok(Patient {
@@ -108,4 +106,236 @@ fn read_patient<'m>(fields: &mut Fields<'m>) -> Result<Patient<'m>, Refusal> {
         birth,
         sex,
     })
+}
+
+/// PID-5 holds the kanji name in the first repetition marked I and the kana name in the first
+/// marked P; kanji is required and judged before kana.
+fn read_names<'m>(field: &Field<'m>) -> Result<(Name<'m>, Name<'m>), Refusal> {
+    let marked = |mark: &[u8]| field.repetitions().find(|name| name.component(8) == mark);
+    let kanji = match marked(b"I") {
+        Some(mut name) => read_name(&mut name)?,
+        None => return Err(field.refuse(number::REQUIRED_EMPTY)),
+    };
+    let kana = match marked(b"P") {
+        Some(mut name) => read_name(&mut name)?,
+        None => Name::default(),
+    };
+    Ok((kanji, kana))
+}
+
+fn read_name<'m>(name: &mut Field<'m>) -> Result<Name<'m>, Refusal> {
+    Ok(Name {
+        family: name.read(1, &rules::FAMILY)?,
+        given: name.read(2, &rules::GIVEN)?,
+    })
+}
+
+fn read_visit<'m>(fields: &mut Fields<'m>) -> Result<Visit<'m>, Refusal> {
+    Ok(Visit {
+        class: fields.read(2, &rules::CLASS)?,
+    })
+}
+
+fn read_specimen<'m>(fields: &mut Fields<'m>) -> Result<Specimen<'m>, Refusal> {
+    let mut specimen = fields.single(4)?;
+    let code = specimen.read(1, &rules::SPECIMEN)?;
+    specimen.read(3, &rules::JC10)?;
+    let collected = fields.read(17, &rules::COLLECTED)?;
+    Ok(Specimen { code, collected })
+}
+
+fn read_order<'m>(fields: &mut Fields<'m>) -> Result<Order<'m>, Refusal> {
+    let number = fields.read(2, &rules::ORDER_NUMBER)?;
+    let mut service = fields.single(4)?;
+    let group = service.read(1, &rules::GROUP)?;
+    service.read(3, &rules::GROUP_TABLE)?;
+    Ok(Order { number, group })
+}
+
+/// ORC repeats the order: its number is judged by itself, then against the last OBR-2.
+fn read_order_again(fields: &mut Fields, order_number: &[u8]) -> Result<(), Refusal> {
+    fields.read(1, &rules::ORDER_CONTROL)?;
+    let mut field = fields.single(2)?;
+    if field.read(1, &rules::ORDER_NUMBER)? != order_number {
+        return Err(field.refuse(number::ORDER_NUMBERS_DIFFER));
+    }
+    Ok(())
+}
+
+fn read_result<'m>(fields: &mut Fields<'m>) -> Result<LabResult<'m>, Refusal> {
+    let value_type = ValueType::of_code(fields.read(2, &rules::VALUE_TYPE)?);
+    let mut observed = fields.single(3)?;
+    let item = observed.read(1, &rules::ITEM)?;
+    let name = observed.read(2, &rules::ITEM_NAME)?;
+    observed.read(3, &rules::JC10)?;
+    let value = read_value(&mut fields.single(5)?, value_type)?;
+    let unit = fields.read(6, &rules::UNIT)?;
+    let flag = fields.read(8, &rules::FLAG)?;
+    let mut last = fields.single(11)?;
+    let result = LabResult {
+        item,
+        name,
+        value_type,
+        value,
+        unit,
+        flag,
+        status: last.read(1, &rules::STATUS)?,
+    };
+    if !result.value_fits_status() {
+        return Err(last.refuse(number::VALUE_AGAINST_STATUS));
+    }
+    Ok(result)
+}
+
+/// OBX-5. An empty value passes here: only its status can refuse it.
+fn read_value<'m>(field: &mut Field<'m>, value_type: ValueType) -> Result<Value<'m>, Refusal> {
+    let rule = match value_type {
+        ValueType::Structured => return read_structured_value(field),
+        ValueType::Number => &rules::NUMBER,
+        ValueType::Text => &rules::STRING,
+    };
+    field.refuse_components_past(1)?;
+    Ok(Value::single(field.read(1, rule)?))
+}
+
+/// SN: comparator, first number, joiner, second number. The first number may be empty only if
+/// all four parts are; a second number needs a joiner.
+fn read_structured_value<'m>(field: &mut Field<'m>) -> Result<Value<'m>, Refusal> {
+    const NUMBER_BESIDE_A_PART: Rule = rules::NUMBER.or_refused_when_empty();
+    field.refuse_components_past(4)?;
+    let separator = field.delimiters.component;
+    let filled = field.raw.iter().any(|&byte| byte != separator);
+    let first_number = if filled {
+        &NUMBER_BESIDE_A_PART
+    } else {
+        &rules::NUMBER
+    };
+    let value = Value {
+        compare: field.read(1, &rules::COMPARATOR)?,
+        main: field.read(2, first_number)?,
+        join: field.read(3, &rules::JOINER)?,
+        second: field.read(4, &rules::NUMBER)?,
+    };
+    if value.lacks_joiner() {
+        return Err(field.refuse(number::VALUE_RULE));
+    }
+    Ok(value)
+}
+
+/// Walks the fields of a segment by rising number.
+struct Fields<'m> {
+    parts: Parts<'m>,
+    delimiters: Delimiters,
+    segment: usize,
+}
+
+impl<'m> Fields<'m> {
+    fn new(message: &Message<'m>, segment: &KnownSegment) -> Self {
+        let stretch = &message.bytes[segment.fields.clone()];
+        let separator = message.delimiters.field;
+        Self {
+            parts: Parts::counted_from(segment.first_field, stretch, separator),
+            delimiters: message.delimiters,
+            segment: segment.ordinal,
+        }
+    }
+
+    /// A field with all its repetitions: MSH-18 and PID-5.
+    fn whole(&mut self, number: usize) -> Field<'m> {
+        let raw = self.parts.take(number);
+        self.field(raw, number)
+    }
+
+    /// Any other read field: it may not be repeated.
+    fn single(&mut self, number: usize) -> Result<Field<'m>, Refusal> {
+        let repetition = self.delimiters.repetition;
+        match self.parts.take_without(number, repetition) {
+            Some(raw) => Ok(self.field(raw, number)),
+            None => Err(Refusal::at_field(number::REPETITION, self.segment, number)),
+        }
+    }
+
+    fn field(&self, raw: &'m [u8], number: usize) -> Field<'m> {
+        Field::new(raw, self.delimiters, self.segment, number)
+    }
+
+    /// A field of which component 1 is read.
+    fn read(&mut self, number: usize, rule: &Rule) -> Result<&'m [u8], Refusal> {
+        self.single(number)?.read(1, rule)
+    }
+}
+
+/// A field, or one repetition of it, with a walk over its components.
+struct Field<'m> {
+    raw: &'m [u8],
+    components: Parts<'m>,
+    delimiters: Delimiters,
+    segment: usize,
+    number: usize,
+}
+
+impl<'m> Field<'m> {
+    fn new(raw: &'m [u8], delimiters: Delimiters, segment: usize, number: usize) -> Self {
+        Self {
+            raw,
+            components: Parts::new(raw, delimiters.component),
+            delimiters,
+            segment,
+            number,
+        }
+    }
+
+    fn refuse(&self, number: u8) -> Refusal {
+        Refusal::at_field(number, self.segment, self.number)
+    }
+
+    fn repetitions(&self) -> impl Iterator<Item = Self> + use<'_, 'm> {
+        parts::split(self.raw, self.delimiters.repetition)
+            .map(|raw| Self::new(raw, self.delimiters, self.segment, self.number))
+    }
+
+    /// A component as it stands, not judged.
+    fn component(&self, number: usize) -> &'m [u8] {
+        Parts::new(self.raw, self.delimiters.component).take(number)
+    }
+
+    /// OBX-5 admits no component too many, not even an empty one.
+    fn refuse_components_past(&self, most: usize) -> Result<(), Refusal> {
+        let count = parts::split(self.raw, self.delimiters.component).count();
+        if count > most {
+            return Err(self.refuse(number::COMPONENT_FORM));
+        }
+        Ok(())
+    }
+
+    /// The next read component, judged by its rule.
+    fn read(&mut self, component: usize, rule: &Rule) -> Result<&'m [u8], Refusal> {
+        let raw = self.components.take(component);
+        match judge_component(raw, rule, &self.delimiters) {
+            Ok(()) => Ok(raw),
+            Err(number) => Err(self.refuse(number)),
+        }
+    }
+}
+
+/// A read component's faults in their order: 21, 23, 20, 24, 25.
+fn judge_component(raw: &[u8], rule: &Rule, delimiters: &Delimiters) -> Result<(), u8> {
+    if raw == rules::DOUBLE_QUOTES {
+        return Err(number::DOUBLE_QUOTES);
+    }
+    let length = delimiters.plain_length(raw).ok_or(number::COMPONENT_FORM)?;
+    if length == 0 {
+        return if rule.is_required() {
+            Err(number::REQUIRED_EMPTY)
+        } else {
+            Ok(())
+        };
+    }
+    if rule.is_too_long(length) {
+        return Err(number::VALUE_TOO_LONG);
+    }
+    if !rule.holds(raw) {
+        return Err(number::VALUE_RULE);
+    }
+    Ok(())
 }

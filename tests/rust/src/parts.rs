@@ -29,25 +29,36 @@ impl<'m> Parts<'m> {
 
     /// Part `number`, which lies behind all that were taken before.
     pub fn take(&mut self, number: usize) -> &'m [u8] {
-        debug_assert!(number >= self.next);
-        while self.next < number && !self.rest.is_empty() {
-            self.step();
-        }
-        let part = self.step();
-        self.next = number + 1;
-        part
+        self.skip_to(number);
+        let end = find_unshifted(self.rest, |byte| byte == self.separator);
+        self.cut(end)
     }
 
-    fn step(&mut self) -> &'m [u8] {
-        self.next += 1;
-        match find_unshifted(self.rest, |byte| byte == self.separator) {
-            Some(at) => {
-                let part = &self.rest[..at];
-                self.rest = &self.rest[at + 1..];
-                part
-            }
-            None => std::mem::take(&mut self.rest),
+    /// The same, but none if `banned` stands in that part.
+    pub fn take_without(&mut self, number: usize, banned: u8) -> Option<&'m [u8]> {
+        self.skip_to(number);
+        let end = find_unshifted(self.rest, |byte| byte == self.separator || byte == banned);
+        match end {
+            Some(at) if self.rest[at] == banned => None,
+            _ => Some(self.cut(end)),
         }
+    }
+
+    fn skip_to(&mut self, number: usize) {
+        debug_assert!(number >= self.next);
+        while self.next < number && !self.rest.is_empty() {
+            let end = find_unshifted(self.rest, |byte| byte == self.separator);
+            self.cut(end);
+        }
+        self.next = number;
+    }
+
+    /// Takes the next part, which ends at a separator or with the stretch.
+    fn cut(&mut self, end: Option<usize>) -> &'m [u8] {
+        let part = &self.rest[..end.unwrap_or(self.rest.len())];
+        self.rest = end.map_or(&[], |end| &self.rest[end + 1..]);
+        self.next += 1;
+        part
     }
 }
 

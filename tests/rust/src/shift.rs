@@ -38,17 +38,18 @@ fn after_pairs(mut rest: &[u8]) -> Option<&[u8]> {
 /// `bytes` begin in one-byte mode and keep the byte and shift rule. Bytes inside a shift are
 /// passed over: 日 is 46 7C, and its 7C is no bar.
 pub fn find_unshifted(bytes: &[u8], wanted: impl Fn(u8) -> bool) -> Option<usize> {
-    let mut from = 0;
-    loop {
-        let found = bytes[from..]
-            .iter()
-            .position(|&byte| wanted(byte) || byte == SHIFT)?;
-        let at = from + found;
-        if bytes[at] != SHIFT {
+    let mut at = 0;
+    while let Some(&byte) = bytes.get(at) {
+        if wanted(byte) {
             return Some(at);
         }
-        from = end_of_shift(bytes, at);
+        at = if byte == SHIFT {
+            end_of_shift(bytes, at)
+        } else {
+            at + 1
+        };
     }
+    None
 }
 
 /// Where one-byte mode begins again after the shift that starts at `at`.
@@ -84,7 +85,9 @@ mod tests {
 
     #[test]
     fn one_byte_mode_must_be_shifted_out_of_and_returned_to() {
-        for bad in ["\x1B(B", "\x1B$B", "\x1B$BF|", "\x1B$", "\x1B", "\n", "\x7F"] {
+        for bad in [
+            "\x1B(B", "\x1B$B", "\x1B$BF|", "\x1B$", "\x1B", "\n", "\x7F",
+        ] {
             assert!(!keeps(bad.as_bytes()), "{bad:?}");
         }
         assert!(!keeps(&[0x80]) && !keeps(&[0xFF]));

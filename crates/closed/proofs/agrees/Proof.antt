@@ -1,3 +1,4 @@
+-- `closed::agrees` meets its contract.
 use borrow.Author.Needs.{needs}
 use Rattle.closed.proofs.Laws.{agrees-empty, agrees-filled}
 use Rattle.closed.proofs.agrees.Statement.{statement}

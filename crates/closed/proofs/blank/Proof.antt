@@ -1,3 +1,4 @@
+-- `closed::blank` meets its contract.
 use borrow.Author.Needs.{needs}
 use Rattle.closed.proofs.Laws.{blank-none, blank-some}
 use Rattle.closed.proofs.blank.Statement.{statement}

@@ -1,3 +1,4 @@
+-- `closed::both` meets its contract.
 use borrow.Author.Needs.{needs}
 use Rattle.closed.proofs.Laws.{kanji-alone, kanji-kana}
 use Rattle.closed.proofs.both.Statement.{statement}

@@ -1,3 +1,4 @@
+-- `closed::component` meets its contract.
 use borrow.Author.Needs.{needs}
 use mathlib.Core.Path.{_≡_}
 use Rattle.rules.specs.Shift.{met}

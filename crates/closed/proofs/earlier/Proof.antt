@@ -1,3 +1,4 @@
+-- `closed::earlier` meets its contract.
 use borrow.Author.Needs.{needs}
 use Rattle.closed.proofs.Laws.{earlier-first, earlier-second}
 use Rattle.closed.proofs.earlier.Statement.{statement}

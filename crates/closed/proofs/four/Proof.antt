@@ -1,3 +1,4 @@
+-- `closed::four` meets its contract.
 use borrow.Author.Needs.{needs}
 use Rattle.closed.proofs.Laws.{four-is}
 use Rattle.closed.proofs.four.Statement.{statement}

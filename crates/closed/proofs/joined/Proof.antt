@@ -1,3 +1,4 @@
+-- `closed::joined` meets its contract.
 use borrow.Author.Needs.{needs}
 use Rattle.judge.specs.Judge.{Small}
 use Rattle.closed.proofs.Laws.{joined-is}
@@ -8,15 +9,15 @@ part-requires : tie.Need-part-requires
 unfolding Small
 part-requires c κs = search needs
 
+part-requires-2 : tie.Need-part-requires-2
+unfolding Small
+part-requires-2 c κs = search needs
+
 unjoined-requires : tie.Need-unjoined-requires
 unjoined-requires c κs = search needs
 
 earlier-requires : tie.Need-earlier-requires
 earlier-requires c κs = search needs
-
-part-requires-2 : tie.Need-part-requires-2
-unfolding Small
-part-requires-2 c κs = search needs
 
 earlier-requires-2 : tie.Need-earlier-requires-2
 earlier-requires-2 c κs = search needs
@@ -29,8 +30,8 @@ joined-spec =
     tie.close
     (tie.spec
     part-requires
+    part-requires-2
     unjoined-requires
     earlier-requires
-    part-requires-2
     earlier-requires-2
     returns)

@@ -1,3 +1,4 @@
+-- `closed::led` meets its contract.
 use borrow.Author.Needs.{needs}
 use Rattle.closed.proofs.Laws.{led-none, led-some}
 use Rattle.closed.proofs.led.Statement.{statement}

@@ -1,3 +1,4 @@
+-- `closed::marked` meets its contract.
 use borrow.Author.Needs.{needs}
 use Rattle.rules.proofs.Lists.{part-length}
 use Rattle.closed.proofs.Laws.{marked-is}

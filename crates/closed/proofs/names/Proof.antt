@@ -1,3 +1,4 @@
+-- `closed::names` meets its contract.
 use borrow.Author.Needs.{needs}
 use Rattle.rules.proofs.Lists.{part-length}
 use Rattle.closed.proofs.Laws.{field-free, names-are}

@@ -1,3 +1,4 @@
+-- `closed::numbers` meets its contract.
 use borrow.Author.Needs.{needs}
 use Rattle.closed.proofs.Laws.{numbers-is}
 use Rattle.closed.proofs.numbers.Statement.{statement}

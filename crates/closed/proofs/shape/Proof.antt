@@ -1,3 +1,4 @@
+-- `closed::shape` meets its contract.
 use borrow.Author.Needs.{needs}
 use Rattle.closed.proofs.Laws.{last-within, shape-excess, shape-repeats, shape-right, shape-within}
 use Rattle.closed.proofs.shape.Statement.{statement}

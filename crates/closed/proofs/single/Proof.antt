@@ -1,3 +1,4 @@
+-- `closed::single` meets its contract.
 use borrow.Author.Needs.{needs}
 use Rattle.closed.proofs.Laws.{single-is}
 use Rattle.closed.proofs.single.Statement.{statement}

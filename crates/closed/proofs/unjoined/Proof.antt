@@ -1,3 +1,4 @@
+-- `closed::unjoined` meets its contract.
 use borrow.Author.Needs.{needs}
 use Rattle.closed.proofs.Laws.{unjoined-no, unjoined-yes}
 use Rattle.closed.proofs.unjoined.Statement.{statement}

@@ -1,0 +1,75 @@
+-- `value::too_long` meets its contract. Assumes nothing.
+use borrow.Author.Needs.{needs}
+use Rattle.rules.specs.Value.{tooLong}
+use Rattle.value.specs.Rules.{ruleOf}
+use Rattle.value.proofs.Laws.{too_long·laws}
+use Rattle.value.proofs.too_long.Statement.{statement}
+use Rattle.value.proofs.too_long.Tie as tie
+
+enum-told : tie.Need-enum-told
+enum-told c = search needs
+
+enum-told-2 : tie.Need-enum-told-2
+enum-told-2 c = search needs
+
+enum-told-3 : tie.Need-enum-told-3
+enum-told-3 c = search needs
+
+enum-known-rule : tie.Need-enum-known-rule
+enum-known-rule c = search needs
+
+enum-told-4 : tie.Need-enum-told-4
+enum-told-4 c = search needs
+
+enum-told-5 : tie.Need-enum-told-5
+enum-told-5 c = search needs
+
+enum-told-6 : tie.Need-enum-told-6
+enum-told-6 c = search needs
+
+returns : tie.Need-returns
+unfolding ruleOf tooLong
+returns c = search (too_long·laws, needs)
+
+returns-2 : tie.Need-returns-2
+unfolding ruleOf tooLong
+returns-2 c = search (too_long·laws, needs)
+
+returns-3 : tie.Need-returns-3
+unfolding ruleOf tooLong
+returns-3 c = search (too_long·laws, needs)
+
+returns-4 : tie.Need-returns-4
+unfolding ruleOf tooLong
+returns-4 c = search (too_long·laws, needs)
+
+returns-5 : tie.Need-returns-5
+unfolding ruleOf tooLong
+returns-5 c = search (too_long·laws, needs)
+
+returns-6 : tie.Need-returns-6
+unfolding ruleOf tooLong
+returns-6 c = search (too_long·laws, needs)
+
+returns-7 : tie.Need-returns-7
+unfolding ruleOf tooLong
+returns-7 c = search (too_long·laws, needs)
+
+pub too-long-spec : {M : Type 1} → statement M
+too-long-spec =
+    tie.close
+    (tie.spec
+    enum-told
+    enum-told-2
+    enum-told-3
+    enum-known-rule
+    enum-told-4
+    enum-told-5
+    enum-told-6
+    returns
+    returns-2
+    returns-3
+    returns-4
+    returns-5
+    returns-6
+    returns-7)

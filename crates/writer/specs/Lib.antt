@@ -1,0 +1,3 @@
+pub mod Over
+pub mod Escaping
+pub mod Woven

@@ -1,0 +1,193 @@
+// Writing into a lent buffer: bytes, numbers and escaped texts, each over the front of what remains of it, and the rest stays.
+use rules::Delims;
+use rules::Mode;
+ghost use mathlib.Core.Path.{_≡_};
+ghost use mathlib.Core.List.{List, [], _∷_, _++_};
+ghost use Prim.Native.Nat.{ℕ, _+_, _≤_, _<_};
+ghost use lib.ListN.{length};
+ghost use Rattle.rules.specs.Escape.{escape};
+ghost use Rattle.rules.specs.Message.{decimal};
+ghost use Rattle.rules.specs.Shift.{mark};
+ghost use Rattle.writer.specs.Over.{Wrote, Put};
+ghost use Rattle.writer.specs.Woven.{partText, woven};
+ghost use Rattle.writer.specs.Escaping.{unitOf, letterOf};
+
+// Copies bytes to the front of the lent tail.
+pub fn put(out: &mut [u8], bytes: &[u8]) -> usize
+    requires { ⌜ length (now bytes) ≤ length (now out) ⌝ }
+    ensures { λ r. ⌜ Wrote r (now (out .exit)) (now (bytes .entry)) (now (out .entry)) ⌝ }
+{
+    let mut i = 0;
+    while i < bytes.len() {
+        out[i] = bytes[i];
+        i += 1;
+    }
+    i
+}
+
+// The same at a place: lends the tail.
+pub fn put_at(out: &mut [u8], at: usize, bytes: &[u8]) -> usize
+    requires { ⌜ at + length (now bytes) ≤ length (now out) ⌝ }
+    ensures { λ r. ⌜ Put at (now (out .entry)) (now (bytes .entry)) r (now (out .exit)) ⌝ }
+{
+    let n = put(&mut out[at..], bytes);
+    at + n
+}
+
+// How many digits a number has.
+pub fn number_len(n: usize) -> usize
+    ensures { λ r. ⌜ (r ≡ length (decimal n)) × (r ≤ n + 1) ⌝ }
+{
+    if n < 10 {
+        return 1;
+    }
+    number_len(n / 10) + 1
+}
+
+// A number in decimal.
+pub fn put_number(out: &mut [u8], n: usize) -> usize
+    requires { ⌜ length (decimal n) ≤ length (now out) ⌝ }
+    ensures { λ r. ⌜ Wrote r (now (out .exit)) (decimal n) (now (out .entry)) ⌝ }
+{
+    if n < 10 {
+        return put_at(out, 0, &[(48 + n) as u8]);
+    }
+    let k = put_number(out, n / 10);
+    put_at(out, k, &[(48 + n % 10) as u8])
+}
+
+pub fn put_number_at(out: &mut [u8], at: usize, n: usize) -> usize
+    requires { ⌜ at + length (decimal n) ≤ length (now out) ⌝ }
+    ensures { λ r. ⌜ Put at (now (out .entry)) (decimal n) r (now (out .exit)) ⌝ }
+{
+    at + put_number(&mut out[at..], n)
+}
+
+// ---- escaped text
+
+// The letter that stands for a delimiter, 0 for any other byte.
+fn letter_for(b: u8, d: Delims) -> u8
+    ensures { λ r. ⌜ r ≡ letterOf d b ⌝ }
+{
+    if b == d.field {
+        return b'F';
+    }
+    if b == d.component {
+        return b'S';
+    }
+    if b == d.sub {
+        return b'T';
+    }
+    if b == d.repetition {
+        return b'R';
+    }
+    if b == d.escape {
+        return b'E';
+    }
+    0
+}
+
+// The same for a byte of a text in some mode: only in one-byte mode does a delimiter act.
+fn letter(mode: Mode, b: u8, d: Delims) -> u8
+    ensures { λ r. ⌜ r ≡ letterOf d (mark mode b) ⌝ }
+    ensures byte { λ r. ⌜ b < 256 ⌝ }
+{
+    if scan::one(mode) {
+        return letter_for(b, d);
+    }
+    0
+}
+
+// One byte, escaped where it is a delimiter that acts.
+fn put_unit(out: &mut [u8], at: usize, mode: Mode, b: u8, d: Delims) -> usize
+    requires { ⌜ at + length (unitOf d (mark mode b)) ≤ length (now out) ⌝ }
+    ensures { λ r. ⌜ Put at (now (out .entry)) (unitOf d (mark mode b)) r (now (out .exit)) ⌝ }
+{
+    let l = letter(mode, b, d);
+    if l == 0 {
+        return put_at(out, at, &[b]);
+    }
+    let e = d.escape;
+    put_at(out, at, &[e, l, e])
+}
+
+// How many bytes it takes.
+fn unit_len(mode: Mode, b: u8, d: Delims) -> usize
+    ensures { λ r. ⌜ (r ≡ length (unitOf d (mark mode b))) × (r ≤ 3) ⌝ }
+{
+    let l = letter(mode, b, d);
+    if l == 0 {
+        return 1;
+    }
+    3
+}
+
+// How many bytes a text takes, escaped.
+pub fn escaped_len(text: &[u8], d: Delims) -> usize
+    requires { ⌜ length (now text) ≤ 65536 ⌝ }
+    ensures { λ r. ⌜ r ≡ length (escape d (now (text .entry))) ⌝ }
+{
+    let mut n: usize = 0;
+    let mut i = 0;
+    let mut mode = Mode::One;
+    while i < text.len() {
+        let b = text[i];
+        n += unit_len(mode, b, d);
+        mode = scan::step(mode, b, 0x0D);
+        i += 1;
+    }
+    n
+}
+
+// A text, with the delimiters of its one-byte stretches escaped.
+pub fn put_escaped(out: &mut [u8], text: &[u8], d: Delims) -> usize
+    requires { ⌜ length (escape d (now text)) ≤ length (now out) ⌝ }
+    ensures { λ r. ⌜ Wrote r (now (out .exit)) (escape d (now (text .entry))) (now (out .entry)) ⌝ }
+{
+    let mut at = 0;
+    let mut i = 0;
+    let mut mode = Mode::One;
+    while i < text.len() {
+        let b = text[i];
+        at = put_unit(out, at, mode, b, d);
+        mode = scan::step(mode, b, 0x0D);
+        i += 1;
+    }
+    at
+}
+
+pub fn put_escaped_at(out: &mut [u8], at: usize, text: &[u8], d: Delims) -> usize
+    requires { ⌜ at + length (escape d (now text)) ≤ length (now out) ⌝ }
+    ensures { λ r. ⌜ Put at (now (out .entry)) (escape d (now (text .entry))) r (now (out .exit)) ⌝ }
+{
+    at + put_escaped(&mut out[at..], text, d)
+}
+
+// ---- fixed bytes and texts in turn
+
+// A part: fixed bytes as they are, a text escaped.
+fn put_part(out: &mut [u8], at: usize, part: &[u8], text: bool, d: Delims) -> usize
+    requires { ⌜ at + length (partText d text (now part)) ≤ length (now out) ⌝ }
+    ensures { λ r. ⌜ Put at (now (out .entry)) (partText d text (now (part .entry))) r (now (out .exit)) ⌝ }
+{
+    if text {
+        return put_escaped_at(out, at, part, d);
+    }
+    put_at(out, at, part)
+}
+
+// All the parts, one after another: fixed bytes, a text, fixed bytes, a text ..
+pub fn put_woven(out: &mut [u8], parts: &[&[u8]], d: Delims) -> usize
+    requires { ⌜ length (woven d (now parts)) ≤ length (now out) ⌝ }
+    ensures { λ r. ⌜ Wrote r (now (out .exit)) (woven d (now (parts .entry))) (now (out .entry)) ⌝ }
+{
+    let mut at = 0;
+    let mut text = false;
+    let mut i = 0;
+    while i < parts.len() {
+        at = put_part(out, at, parts[i], text, d);
+        text = !text;
+        i += 1;
+    }
+    at
+}

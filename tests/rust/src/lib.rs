@@ -1,0 +1,97 @@
+//! An independent reading of document 01 in plain Rust: the laboratory result message OUL^R22
+//! of HL7 v2.5, and the sheet that says the same line by line.
+//!
+//! It is written from the paper alone and shares no code with the proved library, so that each
+//! can be held against the other. Four calls cover the work:
+//!
+//! * [`check`] counts a message's specimens, orders and results, or refuses it;
+//! * [`locate`] finds a part of an accepted message;
+//! * [`to_sheet`] writes an accepted message as a sheet;
+//! * [`to_message`] writes an accepted sheet as a message.
+//!
+//! Message and sheet meet in [`report`]: each has a reader that judges and tells entries of the
+//! report one by one, and a writer that takes them.
+
+#![forbid(unsafe_code)]
+
+pub mod cases;
+pub mod delimiters;
+mod fetch;
+pub mod generate;
+mod message_reader;
+mod message_writer;
+pub mod parts;
+pub mod refusal;
+pub mod report;
+mod rules;
+mod segments;
+mod sheet_reader;
+mod sheet_writer;
+pub mod shift;
+
+use message_reader::Message;
+use message_writer::MessageWriter;
+use refusal::number;
+use sheet_writer::SheetWriter;
+use std::ops::Range;
+
+pub use refusal::Refusal;
+pub use report::Counts;
+
+/// The most bytes of a message.
+pub const MESSAGE_LIMIT: usize = 32_768;
+/// The most bytes of a sheet.
+pub const SHEET_LIMIT: usize = 65_536;
+
+/// Counts the specimens, orders and results of a message that keeps every rule.
+pub fn check(m: &[u8]) -> Result<Counts, Refusal> {
+    Message::well_formed(m)?.read(|_| ())
+}
+
+/// Finds the stretch of an accepted message that holds a component of a field in a known
+/// segment, still escaped, from the first repetition.
+///
+/// An absent part is empty: a missing field lies at the end of its segment, before the 0D; a
+/// missing component lies at the end of its field's first repetition. MSH-1 is the separator
+/// byte and MSH-2 the four bytes undivided; their further components are empty and lie right
+/// behind them.
+///
+/// The check's refusal comes first, then 31 for a field or component 0, then 30 for an ordinal
+/// that no known segment has.
+pub fn locate(
+    m: &[u8],
+    ordinal: usize,
+    field: usize,
+    component: usize,
+) -> Result<Range<usize>, Refusal> {
+    let message = Message::well_formed(m)?;
+    message.read(|_| ())?;
+    if field == 0 || component == 0 {
+        return Err(Refusal::of_whole(number::FIELD_OR_COMPONENT_ZERO));
+    }
+    fetch::locate_component(&message, ordinal, field, component)
+        .ok_or(Refusal::of_whole(number::NO_SUCH_ORDINAL))
+}
+
+/// Writes an accepted message as a sheet of at most `room` bytes.
+pub fn to_sheet(m: &[u8], room: usize) -> Result<Vec<u8>, Refusal> {
+    let message = Message::well_formed(m)?;
+    let mut writer = SheetWriter::new(message.delimiters);
+    message.read(|entry| writer.write(entry))?;
+    within_room(writer.into_sheet(), room)
+}
+
+/// Writes an accepted sheet as a message of at most `room` bytes.
+pub fn to_message(sheet: &[u8], room: usize) -> Result<Vec<u8>, Refusal> {
+    let mut writer = MessageWriter::default();
+    sheet_reader::read_sheet(sheet, |entry| writer.write(entry))?;
+    within_room(writer.into_message()?, room)
+}
+
+/// Refusal 45 is given last.
+fn within_room(output: Vec<u8>, room: usize) -> Result<Vec<u8>, Refusal> {
+    if output.len() > room {
+        return Err(Refusal::of_whole(number::BUFFER_TOO_SHORT));
+    }
+    Ok(output)
+}

@@ -1,0 +1,332 @@
+//! Properties that hold over generated cases, and what a run of them is to meet.
+
+use oul_tests::cases::{Answer, Call, Case};
+use oul_tests::delimiters::Delimiters;
+use oul_tests::refusal::number;
+use oul_tests::{
+    check, generate, locate, to_message, to_sheet, Refusal, MESSAGE_LIMIT, SHEET_LIMIT,
+};
+use std::collections::{BTreeMap, BTreeSet};
+
+/// So many cases meet every refusal number and every limit.
+const RUN: usize = 6_000;
+
+fn run(seed: u64) -> impl Iterator<Item = Case> {
+    generate::cases(seed).take(RUN)
+}
+
+fn messages(seed: u64) -> impl Iterator<Item = Vec<u8>> {
+    run(seed)
+        .filter(|case| !matches!(case.call, Call::ToMessage { .. }))
+        .map(|case| case.input)
+}
+
+fn sheets(seed: u64) -> impl Iterator<Item = Vec<u8>> {
+    run(seed)
+        .filter(|case| matches!(case.call, Call::ToMessage { .. }))
+        .map(|case| case.input)
+}
+
+fn sheet_of(m: &[u8]) -> Result<Vec<u8>, Refusal> {
+    to_sheet(m, SHEET_LIMIT)
+}
+
+fn message_of(sheet: &[u8]) -> Result<Vec<u8>, Refusal> {
+    to_message(sheet, MESSAGE_LIMIT)
+}
+
+/// The segments or lines of an input, without their ends.
+fn lines(input: &[u8], end: u8) -> impl Iterator<Item = &[u8]> {
+    input
+        .split_inclusive(move |&byte| byte == end)
+        .map(move |line| line.strip_suffix(&[end]).unwrap_or(line))
+}
+
+fn key_and_value(line: &[u8]) -> Option<(&[u8], &[u8])> {
+    let equals = line.iter().position(|&byte| byte == b'=')?;
+    Some((&line[..equals], &line[equals + 1..]))
+}
+
+// Properties
+
+#[test]
+fn the_same_seed_gives_the_same_run() {
+    assert!(run(1).take(500).eq(run(1).take(500)));
+    assert!(run(1).take(500).ne(run(2).take(500)));
+}
+
+#[test]
+fn an_accepted_sheet_returns_byte_for_byte() {
+    let mut accepted = 0;
+    for sheet in sheets(3) {
+        if let Ok(m) = message_of(&sheet) {
+            assert_eq!(sheet_of(&m), Ok(sheet));
+            accepted += 1;
+        }
+    }
+    assert!(accepted > 300, "{accepted}");
+}
+
+#[test]
+fn an_accepted_message_written_again_reads_as_the_same_sheet() {
+    let (mut returned, mut too_large) = (0, 0);
+    for m in messages(4) {
+        let Ok(sheet) = sheet_of(&m) else { continue };
+        assert!(sheet.len() < 57_000);
+        match message_of(&sheet) {
+            Ok(written) => {
+                assert_eq!(check(&written), check(&m));
+                assert_eq!(sheet_of(&written), Ok(sheet));
+                assert!(lines(&written, b'\r').all(|segment| segment.len() < 850));
+                returned += 1;
+            }
+            Err(refusal) => {
+                assert_eq!(refusal, Refusal::of_whole(44));
+                too_large += 1;
+            }
+        }
+    }
+    assert!(returned > 1_000, "{returned}");
+    assert!(too_large > 0);
+}
+
+#[test]
+fn check_fetch_and_sheet_refuse_alike() {
+    for m in messages(5) {
+        let refused = check(&m).err();
+        assert_eq!(sheet_of(&m).err(), refused);
+        assert_eq!(locate(&m, 1, 1, 1).err(), refused);
+    }
+}
+
+#[test]
+fn the_room_decides_last_and_by_the_byte() {
+    let short = Err(Refusal::of_whole(45));
+    for case in run(6) {
+        let call = match case.call {
+            Call::ToSheet { .. } => to_sheet,
+            Call::ToMessage { .. } => to_message,
+            Call::Check | Call::Fetch { .. } => continue,
+        };
+        match call(&case.input, usize::MAX) {
+            Ok(output) => {
+                assert_eq!(call(&case.input, output.len() - 1), short);
+                assert_eq!(call(&case.input, output.len()), Ok(output));
+            }
+            refused => assert_eq!(call(&case.input, 0), refused),
+        }
+    }
+}
+
+/// The read places that a sheet shows as they are: its key, the field and the component.
+const SHOWN: &[(&str, usize, usize)] = &[
+    ("sent", 7, 1),
+    ("control", 10, 1),
+    ("mode", 11, 1),
+    ("patient", 3, 1),
+    ("birth", 7, 1),
+    ("sex", 8, 1),
+    ("class", 2, 1),
+    ("specimen", 4, 1),
+    ("collected", 17, 1),
+    ("order", 2, 1),
+    ("group", 4, 1),
+    ("item", 3, 1),
+    ("name", 3, 2),
+    ("type", 2, 1),
+    ("unit", 6, 1),
+    ("flag", 8, 1),
+    ("status", 11, 1),
+];
+
+#[test]
+fn what_is_fetched_is_what_the_sheet_shows() {
+    for m in messages(7).filter(|m| m.len() < 8_000) {
+        let Ok(sheet) = sheet_of(&m) else { continue };
+        let delimiters = Delimiters::of_header(&m).unwrap();
+        let mut ordinal = 0;
+        for line in lines(&sheet, b'\n') {
+            let (key, value) = key_and_value(line).unwrap();
+            ordinal += match key {
+                b"version" | b"patient" | b"class" | b"specimen" | b"order" => 1,
+                b"item" => 1 + usize::from(follows_an_order(&m, ordinal)),
+                _ => 0,
+            };
+            let shown = SHOWN.iter().find(|(shown, ..)| shown.as_bytes() == key);
+            if let Some(&(_, field, component)) = shown {
+                let stretch = locate(&m, ordinal, field, component).unwrap();
+                let mut plain = Vec::new();
+                delimiters.unescape_into(&m[stretch], &mut plain);
+                assert_eq!(plain, value);
+            }
+        }
+    }
+}
+
+/// Whether the known segment of this ordinal is OBR, so that ORC stands before the next result.
+fn follows_an_order(m: &[u8], ordinal: usize) -> bool {
+    known_names(m).nth(ordinal - 1) == Some(b"OBR")
+}
+
+fn known_names(m: &[u8]) -> impl Iterator<Item = &[u8]> {
+    const KNOWN: [&[u8]; 7] = [b"MSH", b"PID", b"PV1", b"SPM", b"OBR", b"ORC", b"OBX"];
+    lines(m, b'\r')
+        .map(|segment| &segment[..segment.len().min(3)])
+        .filter(|name| KNOWN.contains(name))
+}
+
+#[test]
+fn a_skipped_segment_changes_nothing_but_the_count_of_bytes() {
+    for mut m in messages(8).filter(|m| m.len() < 30_000) {
+        let Ok(sheet) = sheet_of(&m) else { continue };
+        if lines(&m, b'\r').count() < 512 {
+            let first_end = m.iter().position(|&byte| byte == b'\r').unwrap();
+            let segment = [b"ZZZ", &m[3..8], b"\x1B$BF|\x1B(B\r"].concat();
+            m.splice(first_end + 1..first_end + 1, segment);
+            assert_eq!(sheet_of(&m), Ok(sheet));
+        }
+    }
+}
+
+// What a run meets
+
+#[test]
+fn every_refusal_number_occurs_in_a_run() {
+    for seed in [0, 1, 2, u64::MAX] {
+        let met: BTreeSet<u8> = run(seed)
+            .filter_map(|case| match case.answer() {
+                Answer::Refused(refusal) => Some(refusal.number),
+                Answer::Counts(_) | Answer::Bytes(_) => None,
+            })
+            .collect();
+        assert!(met.iter().eq(&number::ALL), "seed {seed}: {met:?}");
+    }
+}
+
+#[test]
+fn every_call_is_accepted_in_a_run() {
+    let mut accepted = [0; 4];
+    for case in run(9) {
+        let call = match case.call {
+            Call::Check => 0,
+            Call::Fetch { .. } => 1,
+            Call::ToSheet { .. } => 2,
+            Call::ToMessage { .. } => 3,
+        };
+        accepted[call] += usize::from(!matches!(case.answer(), Answer::Refused(_)));
+    }
+    assert!(accepted.iter().all(|&count| count > 200), "{accepted:?}");
+}
+
+#[test]
+fn every_read_field_meets_each_of_its_refusals_in_a_run() {
+    let required = "MSH7 MSH9 MSH10 MSH11 MSH12 PID3 PID5 PID8 PV12 SPM4 SPM17 OBR2 OBR4 ORC1 \
+                    ORC2 OBX2 OBX3 OBX5 OBX11";
+    let single = "MSH7 MSH9 MSH10 MSH11 MSH12 PID3 PID7 PID8 PV12 SPM4 SPM17 OBR2 OBR4 ORC1 ORC2 \
+                  OBX2 OBX3 OBX5 OBX6 OBX8 OBX11";
+    let texts = "MSH10 PID3 PID5 OBX3 OBX5 OBX6";
+    let values = "MSH7 MSH9 MSH11 MSH12 MSH18 PID7 PID8 PV12 SPM4 SPM17 OBR2 OBR4 ORC1 ORC2 OBX2 \
+                  OBX3 OBX5 OBX8 OBX11";
+    let components = &format!("{single} PID5");
+    let mut expected = BTreeSet::new();
+    for (number, fields) in [
+        (20, required),
+        (21, components),
+        (22, single),
+        (23, components),
+        (24, texts),
+        (25, values),
+        (26, "OBX11"),
+        (27, "ORC2"),
+    ] {
+        expected.extend(fields.split(' ').map(|field| format!("{number} {field}")));
+    }
+    let met: BTreeSet<String> = messages(10)
+        .filter_map(|m| {
+            let refusal = check(&m).err().filter(|refusal| refusal.field > 0)?;
+            let name = known_names(&m).nth(refusal.place - 1)?;
+            let name = String::from_utf8_lossy(name);
+            Some(format!("{} {name}{}", refusal.number, refusal.field))
+        })
+        .collect();
+    assert_eq!(met, expected);
+}
+
+#[test]
+fn every_key_meets_a_wrong_value_in_a_run() {
+    let met: BTreeSet<String> = sheets(11)
+        .filter_map(|sheet| {
+            let refusal = message_of(&sheet).err().filter(|r| r.number == 43)?;
+            let line = lines(&sheet, b'\n').nth(refusal.place - 1)?;
+            let (key, _) = key_and_value(line)?;
+            Some(String::from_utf8_lossy(key).into())
+        })
+        .collect();
+    assert_eq!(met.len(), 26, "{met:?}");
+}
+
+#[test]
+fn the_limits_of_size_are_met_from_both_sides() {
+    let mut met = BTreeSet::new();
+    for m in messages(12) {
+        let accepted = check(&m).is_ok();
+        let longest = lines(&m, b'\r').map(<[u8]>::len).max().unwrap_or(0);
+        met.insert(("bytes of a message", m.len(), accepted));
+        met.insert(("segments", lines(&m, b'\r').count(), accepted));
+        met.insert(("bytes of a segment", longest, accepted));
+    }
+    for sheet in sheets(12) {
+        let refused = message_of(&sheet).err().map(|refusal| refusal.number);
+        met.insert(("bytes of a sheet", sheet.len(), refused != Some(40)));
+        let written = message_of(&sheet).unwrap_or_default();
+        met.insert(("bytes written", written.len(), true));
+        met.insert(("segments written", lines(&written, b'\r').count(), true));
+    }
+    for limit in [
+        ("bytes of a message", 32_768, true),
+        ("bytes of a message", 32_769, false),
+        ("segments", 512, true),
+        ("segments", 513, false),
+        ("bytes of a segment", 4_096, true),
+        ("bytes of a segment", 4_097, false),
+        ("bytes of a sheet", 65_536, true),
+        ("bytes of a sheet", 65_537, false),
+        ("bytes written", 32_768, true),
+        ("segments written", 512, true),
+    ] {
+        assert!(met.contains(&limit), "{limit:?}");
+    }
+}
+
+#[test]
+fn the_limits_of_text_are_met_from_both_sides() {
+    let given = lengths_of_values(sheets(13));
+    let accepted = lengths_of_values(messages(13).filter_map(|m| sheet_of(&m).ok()));
+    for (key, limit) in [
+        ("control", 20),
+        ("patient", 20),
+        ("family", 48),
+        ("given", 48),
+        ("kanafamily", 48),
+        ("kanagiven", 48),
+        ("name", 48),
+        ("value", 200),
+        ("unit", 20),
+        ("second", 16),
+    ] {
+        let key = key.as_bytes();
+        assert!(given[key].contains(&limit) && given[key].contains(&(limit + 1)));
+        assert_eq!(accepted[key].last(), Some(&limit));
+    }
+}
+
+/// How long the values of each key are.
+fn lengths_of_values(sheets: impl Iterator<Item = Vec<u8>>) -> BTreeMap<Vec<u8>, BTreeSet<usize>> {
+    let mut lengths = BTreeMap::<_, BTreeSet<usize>>::new();
+    for sheet in sheets {
+        for (key, value) in lines(&sheet, b'\n').filter_map(key_and_value) {
+            lengths.entry(key.to_vec()).or_default().insert(value.len());
+        }
+    }
+    lengths
+}
