@@ -23,14 +23,15 @@ use Rattle.value.specs.declared.Fault.{Fault}
 use Rattle.value.specs.declared.Rule.{Rule}
 use Rattle.closed.specs.Closed.{forward, charsetFault}
 use Rattle.closed.proofs.Pieces.{piece-at}
-use Rattle.places.specs.declared.Place.the-variants.{Must}
-use Rattle.places.specs.declared.Walk.{Walk}
-use Rattle.places.specs.declared.Form.{Form}
-use Rattle.places.specs.declared.Form.the-variants.{One, Three, Charset, Names}
-use Rattle.places.specs.Check.{entryFor, entriesFrom, entriesFault, formFault, formHead, Begins, Judged, Went, To, here, segment, Walked, FoundIn}
-use Rattle.places.proofs.Pieces.{onward-add}
+use Rattle.fields.specs.declared.Place.the-variants.{Must}
+use Rattle.fields.specs.declared.Walk.{Walk}
+use Rattle.fields.specs.declared.Form.{Form}
+use Rattle.fields.specs.declared.Form.the-variants.{One, Three, Charset, Names}
+use Rattle.fields.specs.Fields.{entryFor, entriesFrom, entriesFault, formFault, formHead, Begins, Judged, Went, To}
+use Rattle.places.specs.Check.{here, segment, Walked, FoundIn}
+use Rattle.fields.proofs.Pieces.{onward-add}
 use Rattle.places.proofs.Plain.{lettersOnly, raw-value}
-use Rattle.places.proofs.Laws.{fine-zero, fault-some, component-is}
+use Rattle.fields.proofs.Laws.{fine-zero, fault-some, component-is}
 
 pub begins : {n : Name} {d : Delims} {order s : List ℕ} {k : ℕ} {w : Walk} → ((f : ℕ) → pieceOf n f ≡ f - k) → Begins k w → Walked n d order s (places n) w
 unfolding segmentOf faultTold onward

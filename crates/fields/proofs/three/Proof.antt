@@ -1,7 +1,7 @@
 use borrow.Author.Needs.{needs}
-use Rattle.places.proofs.Laws.{three·laws}
-use Rattle.places.proofs.three.Statement.{statement}
-use Rattle.places.proofs.three.Tie as tie
+use Rattle.fields.proofs.Laws.{three·laws}
+use Rattle.fields.proofs.three.Statement.{statement}
+use Rattle.fields.proofs.three.Tie as tie
 
 component-requires : tie.Need-component-requires
 component-requires c κs = search needs

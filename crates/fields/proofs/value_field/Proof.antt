@@ -1,7 +1,7 @@
 use borrow.Author.Needs.{needs}
-use Rattle.places.proofs.Laws.{value-field·laws}
-use Rattle.places.proofs.value_field.Statement.{statement}
-use Rattle.places.proofs.value_field.Tie as tie
+use Rattle.fields.proofs.Laws.{value-field·laws}
+use Rattle.fields.proofs.value_field.Statement.{statement}
+use Rattle.fields.proofs.value_field.Tie as tie
 
 fine-requires : tie.Need-fine-requires
 fine-requires c κs = search needs

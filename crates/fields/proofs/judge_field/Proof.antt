@@ -1,7 +1,7 @@
 use borrow.Author.Needs.{needs}
-use Rattle.places.proofs.Laws.{judge-field·laws}
-use Rattle.places.proofs.judge_field.Statement.{statement}
-use Rattle.places.proofs.judge_field.Tie as tie
+use Rattle.fields.proofs.Laws.{judge-field·laws}
+use Rattle.fields.proofs.judge_field.Statement.{statement}
+use Rattle.fields.proofs.judge_field.Tie as tie
 
 enum-known-form : tie.Need-enum-known-form
 enum-known-form c = search needs

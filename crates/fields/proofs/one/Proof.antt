@@ -1,7 +1,7 @@
 use borrow.Author.Needs.{needs}
-use Rattle.places.proofs.Laws.{one·laws}
-use Rattle.places.proofs.one.Statement.{statement}
-use Rattle.places.proofs.one.Tie as tie
+use Rattle.fields.proofs.Laws.{one·laws}
+use Rattle.fields.proofs.one.Statement.{statement}
+use Rattle.fields.proofs.one.Tie as tie
 
 component-requires : tie.Need-component-requires
 component-requires c κs = search needs

@@ -1,7 +1,7 @@
 use borrow.Author.Needs.{needs}
-use Rattle.places.proofs.Laws.{two·laws}
-use Rattle.places.proofs.two.Statement.{statement}
-use Rattle.places.proofs.two.Tie as tie
+use Rattle.fields.proofs.Laws.{two·laws}
+use Rattle.fields.proofs.two.Statement.{statement}
+use Rattle.fields.proofs.two.Tie as tie
 
 component-requires : tie.Need-component-requires
 component-requires c κs = search needs

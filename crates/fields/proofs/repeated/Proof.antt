@@ -1,7 +1,7 @@
 use borrow.Author.Needs.{needs}
-use Rattle.places.proofs.Laws.{repeated·laws}
-use Rattle.places.proofs.repeated.Statement.{statement}
-use Rattle.places.proofs.repeated.Tie as tie
+use Rattle.fields.proofs.Laws.{repeated·laws}
+use Rattle.fields.proofs.repeated.Statement.{statement}
+use Rattle.fields.proofs.repeated.Tie as tie
 
 returns : tie.Need-returns
 returns c = search (repeated·laws, needs)

@@ -1,7 +1,7 @@
 use borrow.Author.Needs.{needs}
-use Rattle.places.proofs.Laws.{first-of·laws}
-use Rattle.places.proofs.first_of.Statement.{statement}
-use Rattle.places.proofs.first_of.Tie as tie
+use Rattle.fields.proofs.Laws.{first-of·laws}
+use Rattle.fields.proofs.first_of.Statement.{statement}
+use Rattle.fields.proofs.first_of.Tie as tie
 
 fine-requires : tie.Need-fine-requires
 fine-requires c κs = search needs

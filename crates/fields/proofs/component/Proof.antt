@@ -1,7 +1,7 @@
 use borrow.Author.Needs.{needs}
-use Rattle.places.proofs.Laws.{component·laws}
-use Rattle.places.proofs.component.Statement.{statement}
-use Rattle.places.proofs.component.Tie as tie
+use Rattle.fields.proofs.Laws.{component·laws}
+use Rattle.fields.proofs.component.Statement.{statement}
+use Rattle.fields.proofs.component.Tie as tie
 
 first-requires : tie.Need-first-requires
 first-requires c κs = search needs

@@ -1,7 +1,7 @@
 use borrow.Author.Needs.{needs}
-use Rattle.places.proofs.Laws.{unless·laws}
-use Rattle.places.proofs.unless.Statement.{statement}
-use Rattle.places.proofs.unless.Tie as tie
+use Rattle.fields.proofs.Laws.{unless·laws}
+use Rattle.fields.proofs.unless.Statement.{statement}
+use Rattle.fields.proofs.unless.Tie as tie
 
 returns : tie.Need-returns
 returns c = search (unless·laws, needs)

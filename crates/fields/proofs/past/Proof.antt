@@ -4,9 +4,9 @@ use borrow.Author.Needs.{needs}
 use lib.ListN.{length, drop}
 use Rattle.rules.specs.Shift.{met}
 use Rattle.scan.specs.Scan.{onward}
-use Rattle.places.proofs.Laws.{past·laws}
-use Rattle.places.proofs.past.Statement.{statement}
-use Rattle.places.proofs.past.Tie as tie
+use Rattle.fields.proofs.Laws.{past·laws}
+use Rattle.fields.proofs.past.Statement.{statement}
+use Rattle.fields.proofs.past.Tie as tie
 
 abbrev Inv-loop : tie.InvT-loop
 Inv-loop s at n sep to₀ left₀ to left = (to ≤ length s) × (onward sep n (met (drop at s)) ≡ onward sep left (met (drop to s)))

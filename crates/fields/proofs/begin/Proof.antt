@@ -1,7 +1,7 @@
 use borrow.Author.Needs.{needs}
 use Rattle.value.specs.Rules.{faultNo, fineOf}
-use Rattle.places.proofs.begin.Statement.{statement}
-use Rattle.places.proofs.begin.Tie as tie
+use Rattle.fields.proofs.begin.Statement.{statement}
+use Rattle.fields.proofs.begin.Tie as tie
 
 returns : tie.Need-returns
 unfolding fineOf faultNo

@@ -1,4 +1,4 @@
--- Laws of the routines of the segments. Assumes nothing.
+-- Laws of a read field, and of the way from one to the next. Assumes nothing.
 use Prim.Native.Nat.{ℕ, zero, suc, _+_, _-_, _≤_, _<_}
 use native.Mathlib.Omega.{arith}
 use mathlib.Core.Path.{_≡_, refl, sym, ap, subst, _∙_}
@@ -28,13 +28,13 @@ use Rattle.value.specs.declared.Rule.{Rule}
 use Rattle.judge.specs.Judge.{Raw, Small}
 use Rattle.closed.specs.Closed.{forward, charsetFault, ClosedOf, ValueOf}
 use Rattle.closed.proofs.Pieces.{piece-at, repetition-is, component-at, forward-repeats, forward-long, forward-short, rest-long, rest-more}
-use Rattle.places.specs.declared.Place.{Place}
-use Rattle.places.specs.declared.Place.the-variants.{Unread, Must, May}
-use Rattle.places.specs.declared.Form.{Form}
-use Rattle.places.specs.declared.Form.the-variants.{One, Three, Charset, Names}
-use Rattle.places.specs.declared.Walk.{Walk}
-use Rattle.places.specs.Check.{placeFault, Smalls, JudgedOf, componentsFault, ComponentsOf, entriesFrom, entriesFault, formFault, formHead, SmallForm, ReadOf, Ready, Went, To, ValueTo}
-use Rattle.places.proofs.Pieces.{after-field}
+use Rattle.fields.specs.declared.Place.{Place}
+use Rattle.fields.specs.declared.Place.the-variants.{Unread, Must, May}
+use Rattle.fields.specs.declared.Form.{Form}
+use Rattle.fields.specs.declared.Form.the-variants.{One, Three, Charset, Names}
+use Rattle.fields.specs.declared.Walk.{Walk}
+use Rattle.fields.specs.Fields.{placeFault, Smalls, JudgedOf, componentsFault, ComponentsOf, entriesFrom, entriesFault, formFault, formHead, SmallForm, ReadOf, Ready, Went, To, ValueTo}
+use Rattle.fields.proofs.Pieces.{after-field}
 
 -- ---- faults
 pub fine-zero : (f : Fault) → fineOf f ≡ true → faultNo f ≡ 0

@@ -1,7 +1,7 @@
 use borrow.Author.Needs.{needs}
-use Rattle.places.proofs.Laws.{judge-place·laws}
-use Rattle.places.proofs.judge_place.Statement.{statement}
-use Rattle.places.proofs.judge_place.Tie as tie
+use Rattle.fields.proofs.Laws.{judge-place·laws}
+use Rattle.fields.proofs.judge_place.Statement.{statement}
+use Rattle.fields.proofs.judge_place.Tie as tie
 
 enum-told : tie.Need-enum-told
 enum-told c = search needs
