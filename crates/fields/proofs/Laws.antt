@@ -1,11 +1,10 @@
 -- Laws of a read field, and of the way from one to the next. Assumes nothing.
 use Prim.Native.Nat.{ℕ, zero, suc, _+_, _-_, _≤_, _<_}
 use native.Mathlib.Omega.{arith}
-use mathlib.Core.Path.{_≡_, refl, sym, ap, subst, _∙_}
-use mathlib.Core.List.{List, [], _∷_, _++_, map}
-use mathlib.Core.Bool.{Bool, true, false, cond, not, _&&_, _||_}
+use mathlib.Core.Path.{_≡_, refl, sym, ap, _∙_}
+use mathlib.Core.List.{List, [], _∷_, map}
+use mathlib.Core.Bool.{Bool, true, false, not}
 use borrow.Author.Tests.{eqb-true, eqb-false}
-use lib.Dec.{eqb}
 use lib.ListN.{length, take, drop, length-drop}
 use lib.Seq.{drop-drop}
 use Rattle.rules.specs.declared.Delims.{Delims}
@@ -16,14 +15,14 @@ use Rattle.rules.specs.Shift.{met, byteOf}
 use Rattle.rules.specs.Judge.{judge, judgeAll, namesFault, rawFour, valueFault}
 use Rattle.rules.specs.Judge as J
 use Rattle.rules.specs.View.{componentOf, firstRepetition, seenIn}
-use Rattle.rules.proofs.Logic.{cases, never, not-true, not-false, then-zero, done}
+use Rattle.rules.proofs.Logic.{never, not-true, not-false, then-zero}
 use Rattle.rules.proofs.Lists.{rest-is, part-length}
 use Rattle.rules.proofs.Modes.{length-marks}
 use Rattle.scan.specs.Scan.{until, is, ends, after, next, onward, plainText, CutOf, TailOf, Proper}
 use Rattle.scan.proofs.Laws.{from-met, piece-met, ends-far, far-is}
 use Rattle.value.specs.Rules.{ruleOf, faultNo, fineOf}
 use Rattle.value.specs.declared.Fault.{Fault}
-use Rattle.value.specs.declared.Fault.the-variants.{Nothing, Missing, Null, Repeated, Escape, Long, Value, Status, Differs}
+use Rattle.value.specs.declared.Fault.the-variants.{Nothing, Repeated}
 use Rattle.value.specs.declared.Rule.{Rule}
 use Rattle.judge.specs.Judge.{Raw, Small}
 use Rattle.closed.specs.Closed.{forward, charsetFault, ClosedOf, ValueOf}
@@ -302,14 +301,25 @@ pub part-within : (s : List ℕ) (u k : ℕ) → u ≤ length s → k ≤ length
 part-within s u k h e = omega (arith, part-long s u)
 
 pub ruleset first-of·laws = (first-later, first-stays)
+
 pub ruleset unless·laws = (unless-holds, unless-not)
+
 pub ruleset repeated·laws = (repeated-yes, repeated-no)
+
 pub ruleset judge-place·laws = (unread-is, must-is, may-is, must-small, may-small)
+
 pub ruleset component·laws = (head-raw, component-judged, part-length)
+
 pub ruleset one·laws = (one-read, one-within)
+
 pub ruleset two·laws = (led-read, rest-fits, led-within)
+
 pub ruleset three·laws = (led-read, rest-fits, led-within)
+
 pub ruleset judge-field·laws = (read-one, read-three, read-charset, read-names, small-one, small-first, small-second, small-third)
+
 pub ruleset past·laws = (past-on, past-end, one-within)
+
 pub ruleset field·laws = (field-ended, field-judged, part-within)
+
 pub ruleset value-field·laws = (value-ended, value-judged, part-within)

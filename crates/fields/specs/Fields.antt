@@ -1,23 +1,19 @@
 -- What a read field is told, and how far a segment is judged.
 use mathlib.Core.Path.{_≡_}
 use mathlib.Core.Bool.{Bool, true, false}
-use mathlib.Core.List.{List, [], _∷_, _++_, map}
+use mathlib.Core.List.{List, [], _∷_, map}
 use Prim.Native.Nat.{ℕ, suc, _+_, _-_, _≤_, _<_}
 use lib.ListN.{length, take, drop}
 use Rattle.rules.specs.declared.Delims.{Delims}
-use Rattle.rules.specs.declared.Name.{Name}
-use Rattle.rules.specs.declared.Name.the-variants.{Obr, Obx}
-use Rattle.rules.specs.Told.{Told, _>>_, _then_, _when_}
+use Rattle.rules.specs.Told.{_then_, _when_}
 use Rattle.rules.specs.Lists.{has}
 use Rattle.rules.specs.Lists as L
 use Rattle.rules.specs.Shift.{met, byteOf}
-use Rattle.rules.specs.Frame.{Known}
-use Rattle.rules.specs.Places.{places, Field, reads, closed, charset, names, _must_, _may_}
+use Rattle.rules.specs.Places.{Field, reads, closed, charset, names, _must_, _may_}
 use Rattle.rules.specs.Places as Table
-use Rattle.rules.specs.View.{pieceOf, firstRepetition, seenIn, partOf, Segment, segmentOf}
+use Rattle.rules.specs.View.{firstRepetition, seenIn}
 use Rattle.rules.specs.Judge.{judge, judgeAll, namesFault, rawFour, valueFault}
 use Rattle.rules.specs.Judge as J
-use Rattle.rules.specs.Check.{valueAt, rawFourOf, faultTold, partsTold}
 use Rattle.scan.specs.Scan.{until, is, ends, after, onward, next}
 use Rattle.value.specs.Rules.{ruleOf, faultNo, fineOf}
 use Rattle.judge.specs.Judge.{Small}

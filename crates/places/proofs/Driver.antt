@@ -1,7 +1,7 @@
 -- The loop over the segments, for the check: one turn, at the segment seg of what is left, and the order number after it. Assumes nothing.
 use Prim.Native.Nat.{ℕ, suc, _+_}
 use mathlib.Core.Path.{_≡_, refl, sym, ap, _∙_}
-use mathlib.Core.List.{List, [], _∷_, map}
+use mathlib.Core.List.{List, _∷_, map}
 use mathlib.Core.Bool.{true, false}
 use lib.ListN.{length, take, drop}
 use Rattle.rules.specs.declared.Delims.{Delims}
@@ -11,7 +11,7 @@ use Rattle.rules.specs.Told.{Told, refused, _>>_}
 use Rattle.rules.specs.Shift.{met}
 use Rattle.rules.specs.Frame.{segments, nameOf, knownFrom, is}
 use Rattle.rules.specs.Places.{places}
-use Rattle.rules.specs.View.{fieldOf, partOf, segmentOf, Segment}
+use Rattle.rules.specs.View.{fieldOf, partOf, segmentOf}
 use Rattle.rules.specs.Check.{faultTold, partsTold, placesTold, orderAfter}
 use Rattle.places.specs.Check.{here, segment, FoundIn, OrderAt}
 

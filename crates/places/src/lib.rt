@@ -1,12 +1,27 @@
 // The read places of each segment, field by field, as the table of document 01 lists them.
-use fields::Form;
-use fields::Place;
+use fields::Form::Charset;
+use fields::Form::Names;
+use fields::Form::One;
+use fields::Form::Three;
+use fields::Place::May;
+use fields::Place::Must;
+use fields::Place::Unread;
 use fields::Valued;
 use fields::Walk;
+use fields::begin;
+use fields::field;
+use fields::first_of;
+use fields::unless;
+use fields::value_field;
 use rules::Delims;
 use rules::Name;
 use value::Fault;
-use value::Rule;
+use value::Rule::Capitals;
+use value::Rule::Date;
+use value::Rule::Digits;
+use value::Rule::OneOf;
+use value::Rule::Text;
+use value::Rule::Time;
 use value::Words;
 ghost use mathlib.Core.Path.{_≡_};
 ghost use mathlib.Core.Bool.{true};
@@ -27,6 +42,7 @@ pub struct Found {
     pub len: usize,
 }
 
+// What is found at the end of a segment.
 fn ended(w: Walk) -> Found
     ensures { λ r. ⌜ (r .fault ≡ w .fault) × (r .field ≡ w .field) ⌝ }
 {
@@ -39,27 +55,23 @@ fn ended(w: Walk) -> Found
     }
 }
 
+// In MSH the first separator is itself field 1: it is where the walk begins.
 pub fn msh(s: &[u8], d: Delims) -> Found
     requires { ⌜ Proper d ⌝ }
     ensures { λ r. ⌜ ((order : List ℕ) → FoundIn Msh d order (met (now (s .entry))) (r .field) (faultNo (r .fault))) ⌝ }
 {
-    let w = fields::begin(1);
-    let w = fields::field(s, d, w, 7, Form::One(Place::Must(Rule::Time)));
-    let w = fields::field(
-        s,
-        d,
-        w,
-        9,
-        Form::Three(
-            Place::Must(Rule::OneOf(Words::Oul)),
-            Place::Must(Rule::OneOf(Words::R22)),
-            Place::Must(Rule::OneOf(Words::OulR22)),
-        ),
+    let w = begin(1);
+    let w = field(s, d, w, 7, One(Must(Time)));
+    let event = Three(
+        Must(OneOf(Words::Oul)),
+        Must(OneOf(Words::R22)),
+        Must(OneOf(Words::OulR22)),
     );
-    let w = fields::field(s, d, w, 10, Form::One(Place::Must(Rule::Text(20))));
-    let w = fields::field(s, d, w, 11, Form::One(Place::Must(Rule::OneOf(Words::Modes))));
-    let w = fields::field(s, d, w, 12, Form::One(Place::Must(Rule::OneOf(Words::Version))));
-    let w = fields::field(s, d, w, 18, Form::Charset);
+    let w = field(s, d, w, 9, event);
+    let w = field(s, d, w, 10, One(Must(Text(20))));
+    let w = field(s, d, w, 11, One(Must(OneOf(Words::Modes))));
+    let w = field(s, d, w, 12, One(Must(OneOf(Words::Version))));
+    let w = field(s, d, w, 18, Charset);
     ended(w)
 }
 
@@ -67,11 +79,11 @@ pub fn pid(s: &[u8], d: Delims) -> Found
     requires { ⌜ Proper d ⌝ }
     ensures { λ r. ⌜ ((order : List ℕ) → FoundIn Pid d order (met (now (s .entry))) (r .field) (faultNo (r .fault))) ⌝ }
 {
-    let w = fields::begin(0);
-    let w = fields::field(s, d, w, 3, Form::One(Place::Must(Rule::Text(20))));
-    let w = fields::field(s, d, w, 5, Form::Names);
-    let w = fields::field(s, d, w, 7, Form::One(Place::May(Rule::Date)));
-    let w = fields::field(s, d, w, 8, Form::One(Place::Must(Rule::OneOf(Words::Sexes))));
+    let w = begin(0);
+    let w = field(s, d, w, 3, One(Must(Text(20))));
+    let w = field(s, d, w, 5, Names);
+    let w = field(s, d, w, 7, One(May(Date)));
+    let w = field(s, d, w, 8, One(Must(OneOf(Words::Sexes))));
     ended(w)
 }
 
@@ -79,8 +91,8 @@ pub fn pv1(s: &[u8], d: Delims) -> Found
     requires { ⌜ Proper d ⌝ }
     ensures { λ r. ⌜ ((order : List ℕ) → FoundIn Pv1 d order (met (now (s .entry))) (r .field) (faultNo (r .fault))) ⌝ }
 {
-    let w = fields::begin(0);
-    let w = fields::field(s, d, w, 2, Form::One(Place::Must(Rule::OneOf(Words::Classes))));
+    let w = begin(0);
+    let w = field(s, d, w, 2, One(Must(OneOf(Words::Classes))));
     ended(w)
 }
 
@@ -88,19 +100,10 @@ pub fn spm(s: &[u8], d: Delims) -> Found
     requires { ⌜ Proper d ⌝ }
     ensures { λ r. ⌜ ((order : List ℕ) → FoundIn Spm d order (met (now (s .entry))) (r .field) (faultNo (r .fault))) ⌝ }
 {
-    let w = fields::begin(0);
-    let w = fields::field(
-        s,
-        d,
-        w,
-        4,
-        Form::Three(
-            Place::Must(Rule::Digits(3)),
-            Place::Unread,
-            Place::Must(Rule::OneOf(Words::Jc10)),
-        ),
-    );
-    let w = fields::field(s, d, w, 17, Form::One(Place::Must(Rule::Time)));
+    let w = begin(0);
+    let material = Three(Must(Digits(3)), Unread, Must(OneOf(Words::Jc10)));
+    let w = field(s, d, w, 4, material);
+    let w = field(s, d, w, 17, One(Must(Time)));
     ended(w)
 }
 
@@ -109,19 +112,10 @@ pub fn obr(s: &[u8], d: Delims) -> Found
     ensures { λ r. ⌜ ((order : List ℕ) → FoundIn Obr d order (met (now (s .entry))) (r .field) (faultNo (r .fault))) ⌝ }
     ensures order { λ r. ⌜ OrderAt d (now (s .entry)) (faultNo (r .fault)) (r .at) (r .len) ⌝ }
 {
-    let w = fields::begin(0);
-    let order = fields::field(s, d, w, 2, Form::One(Place::Must(Rule::Digits(15))));
-    let w = fields::field(
-        s,
-        d,
-        order,
-        4,
-        Form::Three(
-            Place::Must(Rule::Capitals(8)),
-            Place::Unread,
-            Place::Must(Rule::OneOf(Words::Group)),
-        ),
-    );
+    let w = begin(0);
+    let order = field(s, d, w, 2, One(Must(Digits(15))));
+    let group = Three(Must(Capitals(8)), Unread, Must(OneOf(Words::Group)));
+    let w = field(s, d, order, 4, group);
     let fault = w.fault;
     Found {
         fault,
@@ -136,14 +130,14 @@ pub fn orc(s: &[u8], d: Delims, order: &[u8]) -> Found
     requires { ⌜ Proper d ⌝ }
     ensures { λ r. ⌜ FoundIn Orc d (now (order .entry)) (met (now (s .entry))) (r .field) (faultNo (r .fault)) ⌝ }
 {
-    let w = fields::begin(0);
-    let w = fields::field(s, d, w, 1, Form::One(Place::Must(Rule::OneOf(Words::Re))));
-    let w = fields::field(s, d, w, 2, Form::One(Place::Must(Rule::Digits(15))));
+    let w = begin(0);
+    let w = field(s, d, w, 1, One(Must(OneOf(Words::Re))));
+    let w = field(s, d, w, 2, One(Must(Digits(15))));
     let f = w.fault;
     let at = w.start;
     let end = at + w.head;
     let same = value::equal(&s[at..end], order);
-    let fault = fields::first_of(f, fields::unless(same, Fault::Differs));
+    let fault = first_of(f, unless(same, Fault::Differs));
     Found {
         fault,
         field: w.field,
@@ -157,23 +151,14 @@ fn obx_value(s: &[u8], d: Delims) -> Valued
     requires { ⌜ Proper d ⌝ }
     ensures { λ r. ⌜ ResultAt d (now (s .entry)) (r .walk) (r .filled) (r .beside) ⌝ }
 {
-    let w = fields::begin(0);
-    let w = fields::field(s, d, w, 2, Form::One(Place::Must(Rule::OneOf(Words::Types))));
+    let w = begin(0);
+    let w = field(s, d, w, 2, One(Must(OneOf(Words::Types))));
     let at = w.start;
     let end = at + w.head;
     let kind = &s[at..end];
-    let w = fields::field(
-        s,
-        d,
-        w,
-        3,
-        Form::Three(
-            Place::Must(Rule::Capitals(17)),
-            Place::May(Rule::Text(48)),
-            Place::Must(Rule::OneOf(Words::Jc10)),
-        ),
-    );
-    fields::value_field(s, d, w, kind)
+    let item = Three(Must(Capitals(17)), May(Text(48)), Must(OneOf(Words::Jc10)));
+    let w = field(s, d, w, 3, item);
+    value_field(s, d, w, kind)
 }
 
 pub fn obx(s: &[u8], d: Delims) -> Found
@@ -182,14 +167,14 @@ pub fn obx(s: &[u8], d: Delims) -> Found
 {
     let v = obx_value(s, d);
     let w = v.walk;
-    let w = fields::field(s, d, w, 6, Form::One(Place::May(Rule::Text(20))));
-    let w = fields::field(s, d, w, 8, Form::One(Place::May(Rule::OneOf(Words::Flags))));
-    let w = fields::field(s, d, w, 11, Form::One(Place::Must(Rule::OneOf(Words::Statuses))));
+    let w = field(s, d, w, 6, One(May(Text(20))));
+    let w = field(s, d, w, 8, One(May(OneOf(Words::Flags))));
+    let w = field(s, d, w, 11, One(Must(OneOf(Words::Statuses))));
     let f = w.fault;
     let at = w.start;
     let end = at + w.head;
     let agrees = closed::agrees(&s[at..end], v.filled, v.beside);
-    let fault = fields::first_of(f, fields::unless(agrees, Fault::Status));
+    let fault = first_of(f, unless(agrees, Fault::Status));
     Found {
         fault,
         field: w.field,
