@@ -29,7 +29,7 @@ use Rattle.scan.specs.Scan as Scan
 use Rattle.value.specs.declared.Fault.{Fault}
 use Rattle.value.specs.declared.Fault.the-variants.{Nothing, Missing, Null, Repeated, Escape, Long, Value, Status, Differs}
 use Rattle.value.specs.Rules.{faultNo, fineOf}
-use Rattle.places.proofs.Laws.{fine-zero, fault-some}
+use Rattle.fields.proofs.Laws.{fine-zero, fault-some}
 use Rattle.places.specs.Check.{here, FoundIn, OrderAt}
 use Rattle.frame.specs.Frame.{goodOf, framedTold, frameOf, Sound}
 use Rattle.frame.specs.declared.Opened.{Opened}

@@ -1,21 +1,21 @@
 -- A value of letters and digits has no escapes: what was read is what stands there. Assumes nothing.
-use Prim.Native.Nat.{ℕ, zero, suc}
+use Prim.Native.Nat.{ℕ}
 use native.Mathlib.Omega.{arith}
 use mathlib.Core.Path.{_≡_, refl, sym, ap, _∙_}
 use mathlib.Core.List.{List, [], _∷_, map}
 use mathlib.Core.Option.{Option, none, some}
-use mathlib.Core.Bool.{Bool, true, false, cond, not, _&&_, _||_}
+use mathlib.Core.Bool.{Bool, true, false, not}
 use lib.Dec.{eqb}
 use lib.ListN.{length}
 use Rattle.rules.specs.declared.Delims.{Delims}
-use Rattle.rules.specs.Told.{_then_, _when_}
+use Rattle.rules.specs.Told.{_when_}
 use Rattle.rules.specs.Lists.{bytes, same, all, any, split, isOneOf, empty}
-use Rattle.rules.specs.Shift.{byteOf, within}
+use Rattle.rules.specs.Shift.{byteOf}
 use Rattle.rules.specs.Frame.{digit}
 use Rattle.rules.specs.Value.{Rule, time, date, number, text, digits, capitals, words, holds, tooLong, fault}
-use Rattle.rules.specs.Escape.{Letter, At, plain, opened, named, letters, meaning, push, unescapeAt, unescape}
+use Rattle.rules.specs.Escape.{Letter, plain, opened, named, letters, meaning, push, unescapeAt, unescape}
 use Rattle.rules.specs.Judge.{plainOf, unescapedOr, faultOr23, judge}
-use Rattle.rules.proofs.Logic.{cases, optionCases, never, both, not-false, or-true, then-none, when-none}
+use Rattle.rules.proofs.Logic.{cases, optionCases, never, both, not-false, then-none, when-none}
 use Rattle.rules.proofs.Lists.{all-first, any-first, same-eq}
 use Rattle.scan.specs.Scan.{alnum, Proper}
 

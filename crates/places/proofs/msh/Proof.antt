@@ -1,6 +1,6 @@
 use borrow.Author.Needs.{needs}
 use Rattle.places.proofs.Segments.{msh·laws}
-use Rattle.places.specs.Check.{SmallForm}
+use Rattle.fields.specs.Fields.{SmallForm}
 use Rattle.places.proofs.msh.Statement.{statement}
 use Rattle.places.proofs.msh.Tie as tie
 

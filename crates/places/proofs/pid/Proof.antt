@@ -1,6 +1,6 @@
 use borrow.Author.Needs.{needs}
 use Rattle.places.proofs.Segments.{pid·laws}
-use Rattle.places.specs.Check.{SmallForm}
+use Rattle.fields.specs.Fields.{SmallForm}
 use Rattle.places.proofs.pid.Statement.{statement}
 use Rattle.places.proofs.pid.Tie as tie
 
