@@ -19,9 +19,8 @@ use Rattle.rules.specs.Judge.{plainOf, judge, judgeAll}
 use Rattle.rules.specs.Check.{ownFault, laterFault, partFault, numberOf, faultTold, partsTold}
 use Rattle.rules.specs.Row.{Line, line, lines, fourAt}
 use Rattle.rules.specs.Sheet.{keyOf, linesText}
-use Rattle.rules.proofs.Logic.{then-none}
+use Rattle.rules.proofs.Logic.{then-none, not-given}
 use Rattle.rules.proofs.Lists.{from}
-use Rattle.returns.proofs.General.{not-given}
 use Rattle.returns.proofs.Clean.{Cleans}
 use Rattle.returns.proofs.Escaped.{Proper}
 use Rattle.returns.proofs.Groups.{Facts}

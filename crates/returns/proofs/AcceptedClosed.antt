@@ -17,8 +17,7 @@ use Rattle.rules.specs.View.{fieldOf, componentOf, firstRepetition}
 use Rattle.rules.specs.Judge.{faultOr23, unescapedOr, plainOf, judge, firstMarked, kanji, kana, nameFault, namesFault, isSN, rawFour, beside, unjoined, partsFault, valueFault, agrees}
 use Rattle.rules.specs.Row.{lines}
 use Rattle.rules.proofs.Logic.{cases, never, not-false, then-none, when-none}
-use Rattle.rules.proofs.Lists.{empty-is, same-eq, from}
-use Rattle.returns.proofs.General.{one-word}
+use Rattle.rules.proofs.Lists.{empty-is, same-eq, from, one-word}
 use Rattle.returns.proofs.Escaped.{Proper}
 use Rattle.returns.proofs.Groups.{must-may, must-filled, meets-rule}
 use Rattle.returns.proofs.Closed.{fourOf}

@@ -21,11 +21,11 @@ use Rattle.rules.specs.View.{partOf, Segment, segmentOf, View, view}
 use Rattle.rules.specs.Check.{partsTold, orderAfter, placesTold, namesOf, countsTold, viewTold, frameTold, checkTold}
 use Rattle.rules.specs.Row.{lines, Row, rowOf, rowsFrom, rowsOf}
 use Rattle.rules.specs.Sheet.{linesText, rowLines, sheetOf, nextGroups, valid}
-use Rattle.rules.proofs.Logic.{cases, never, both, not-true, not-false, guard}
-use Rattle.rules.proofs.Lists.{starts-eq}
-use Rattle.rules.proofs.Split.{frees, split-free, ended-append, ended-lines}
+use Rattle.rules.proofs.Logic.{cases, never, both, not-true, not-false, guard, not-given}
+use Rattle.rules.proofs.Lists.{starts-eq, in-all}
+use Rattle.rules.proofs.Split.{frees, split-free, ended-append, ended-lines, split-frees, butLast-frees}
 use Rattle.rules.proofs.Modes.{length-marks, met-append}
-use Rattle.returns.proofs.General.{inNames, name-is, in-all, not-given, split-frees, butLast-frees}
+use Rattle.rules.proofs.Names.{inNames, name-is}
 use Rattle.returns.proofs.Clean.{Clean, Cleans, clean-keeps, end-0D, ended-cleans}
 use Rattle.returns.proofs.Escaped.{twelve, Delim, Proper, proper}
 use Rattle.returns.proofs.Groups.{facts-good}

@@ -14,8 +14,7 @@ use Rattle.rules.specs.Shift.{within, step, isOne, walk, keeps, mark, marks, me
 use Rattle.rules.proofs.Logic.{cases, both, not-true}
 use Rattle.rules.proofs.Lists.{has-nil, has-first, has-there}
 use Rattle.rules.proofs.Split.{frees}
-use Rattle.rules.proofs.Modes.{one-is, walk-append, walk-step, walk-bad, marks-cons, met-append}
-use Rattle.returns.proofs.General.{inModes}
+use Rattle.rules.proofs.Modes.{one-is, walk-append, walk-step, walk-bad, marks-cons, met-append, inModes}
 
 abbrev pub Clean : List ℕ → Type 0
 Clean s = walk 0x20 One s ≡ One

@@ -17,9 +17,8 @@ use Rattle.rules.specs.Shift.{step, isOne, walk, mark, marks, met, byteOf}
 use Rattle.rules.specs.Frame.{fiveOf, delimsOk}
 use Rattle.rules.specs.Escape.{Letter, letters, meaning, letterFor, plain, push, unescapeAt, unescape, escapeMet, escape}
 use Rattle.rules.proofs.Logic.{cases, optionCases, never, both, not-true, eqb-self, eqb-sym}
-use Rattle.rules.proofs.Lists.{same-eq, same-self, all-first, has-first}
+use Rattle.rules.proofs.Lists.{same-eq, same-self, all-first, has-first, in-all}
 use Rattle.rules.proofs.Modes.{one-is, walk-step, length-marks}
-use Rattle.returns.proofs.General.{in-all}
 use Rattle.returns.proofs.Clean.{Clean, not-bad, agree, stays, met-cons, clean-cons}
 
 -- ---- a delimiter: "one of `! # % & * ; ? @ \\ ^ | ~`"

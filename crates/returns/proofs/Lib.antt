@@ -1,4 +1,3 @@
-pub mod General
 pub mod Clean
 pub mod Escaped
 pub mod Plain

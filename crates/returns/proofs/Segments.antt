@@ -23,8 +23,7 @@ use Rattle.rules.specs.Check.{ownFault, laterFault, partFault, numberOf, faultT
 use Rattle.rules.specs.Row.{Line, line, lines, fourAt, Row, header, visit, specimen, order, rowOf}
 use Rattle.rules.specs.Message.{blanks, decimal, decimalTo, encoding, Piece, piece, piecesOf, segmentText}
 use Rattle.rules.proofs.Logic.{cases}
-use Rattle.rules.proofs.Lists.{same-self}
-use Rattle.returns.proofs.General.{in-range, all-append}
+use Rattle.rules.proofs.Lists.{same-self, in-range, all-append}
 use Rattle.returns.proofs.Clean.{Cleans}
 use Rattle.returns.proofs.Escaped.{Proper, plainByte}
 use Rattle.returns.proofs.Plain.{bytewise}

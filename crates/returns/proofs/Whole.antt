@@ -18,11 +18,10 @@ use Rattle.rules.specs.Shift.{walk, isOne, step, mark, marks, met, byteOf}
 use Rattle.rules.specs.Value.{Rule, fault}
 use Rattle.rules.specs.Escape.{Letter, letters, meaning, At, plain, opened, named, push, unescapeAt, unescape}
 use Rattle.rules.specs.Judge.{unescapedOr, plainOf, faultOr23, judge}
-use Rattle.rules.proofs.Logic.{cases, optionCases, never, then-none, when-none}
+use Rattle.rules.proofs.Logic.{cases, optionCases, never, then-none, when-none, nothing-some}
 use Rattle.rules.proofs.Lists.{same-eq, same-self}
 use Rattle.rules.proofs.Split.{split-nil, split-here, split-there}
 use Rattle.rules.proofs.Modes.{one-is, marks-nil, length-marks, met-one}
-use Rattle.returns.proofs.General.{nothing-some}
 use Rattle.returns.proofs.Clean.{Clean, Cleans, not-bad, agree, nth-met}
 use Rattle.returns.proofs.Escaped.{twelve, Delim, Proper, delim-one, delim-small, small-one, byte-far, byte-near}
 use Rattle.returns.proofs.Groups.{Keeps}

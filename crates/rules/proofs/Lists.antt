@@ -5,7 +5,7 @@ use mathlib.Core.List.{List, [], _∷_, _++_, append-assoc, append-nil}
 use Prim.Native.Nat.{ℕ, zero, suc, _+_, _-_, _≤_, _<_}
 use native.Mathlib.Numerals.{add-one}
 use native.Mathlib.Omega.{arith}
-use borrow.Author.Tests.{eqb-true}
+use borrow.Author.Tests.{eqb-true, eqb-false}
 use lib.Dec.{eqb}
 use lib.ListN.{length, getD, take, drop, drop-of-length-le, length-drop}
 use lib.Seq.{drop-cons, take-all, take-suc, length-take-le}
@@ -52,6 +52,13 @@ pub starts-own : (k w : List ℕ) → starts k (k ++ w) ≡ true
 unfolding starts
 starts-own [] w = refl
 starts-own (b ∷ k) w = cc (eqb-self b, starts-own k w)
+
+-- only the first bytes count
+pub starts-prefix : (k p x : List ℕ) → length k ≤ length p → starts k (p ++ x) ≡ starts k p
+unfolding starts
+starts-prefix [] p x h = refl
+starts-prefix (b ∷ k) [] x h = absurd (omega arith)
+starts-prefix (b ∷ k) (a ∷ p) x h = cases (eqb a b) (λ e. rw (e, starts) (starts-prefix k p x (omega arith))) (λ e. rw (e, starts))
 
 pub drop-own : {A : Type 0} (k w : List A) → drop (length k) (k ++ w) ≡ w
 drop-own [] w = refl
@@ -121,6 +128,47 @@ has-append x (y ∷ a) b =
     cases (eqb y x)
     (λ e. cc (has-here x y a e, has-here x y (a ++ b) e))
     (λ e. cc (has-there x y a e, has-there x y (a ++ b) e, has-append x a b))
+
+-- ---- what holds of each, of one
+pub in-all : (p : ℕ → Bool) (x : ℕ) (s : List ℕ) → has x s ≡ true → all p s ≡ true → p x ≡ true
+in-all p x [] h k = never (sym h ∙ has-nil x)
+in-all p x (b ∷ s) h k =
+    let q = all-first p b s k in
+    cases (eqb b x) (λ e. rw (eqb-true b x e) at (q .0)) (λ e. in-all p x s (sym (has-there x b s e) ∙ h) (q .1))
+
+pub all-append : (p : ℕ → Bool) (s t : List ℕ) → all p s ≡ true → all p t ≡ true → all p (s ++ t) ≡ true
+unfolding all
+all-append p [] t h k = k
+all-append p (x ∷ s) t h k = let q = all-first p x s h in cc (all-append p s t (q .1) k)
+
+pub all-each : (p q : ℕ → Bool) → ((b : ℕ) → p b ≡ true → q b ≡ true) → (s : List ℕ) → all p s ≡ true → all q s ≡ true
+unfolding all
+all-each p q f [] h = refl
+all-each p q f (b ∷ s) h = let r = all-first p b s h in cc (f b (r .0), all-each p q f s (r .1))
+
+-- one of some words
+pub one-of : (p : List ℕ → Bool) (v : List ℕ) (ps : List (List ℕ)) → any (same v) ps ≡ true → all p ps ≡ true → p v ≡ true
+unfolding any
+one-of p v [] h k = never (sym h)
+one-of p v (q ∷ ps) h k =
+    let r = all-first p q ps k in
+    cases (same v q) (λ e. rw (same-eq v q e) (r .0)) (λ e. one-of p v ps (rw (e, any) at h) (r .1))
+
+pub one-word : (v w : List ℕ) → any (same v) (w ∷ []) ≡ true → v ≡ w
+unfolding any
+one-word v w h = cases (same v w) (λ e. same-eq v w e) (λ e. cc)
+
+-- what holds for each number of a range
+unfoldable pub range : ℕ → ℕ → List ℕ
+range low zero = []
+range low (suc n) = low ∷ range (suc low) n
+
+pub in-range : (p : ℕ → Bool) (low n : ℕ) → all p (range low n) ≡ true → (b : ℕ) → low ≤ b → b < low + n → p b ≡ true
+unfolding range
+in-range p low zero h b l u = absurd (omega arith)
+in-range p low (suc n) h b l u =
+    let q = all-first p low (range (suc low) n) h in
+    cases (eqb low b) (λ e. rw (eqb-true low b e) at (q .0)) (λ e. in-range p (suc low) n (q .1) b (omega (arith, eqb-false low b e)) (omega arith))
 
 -- ---- the n-th of some texts
 -- where another is altered; where empty ones are put last

@@ -1,7 +1,7 @@
 -- Going by cases, and the laws of tests: what every proof of the library stands on. Assumes nothing.
 use mathlib.Core.Path.{_≡_, refl, sym}
 use mathlib.Core.Bool.{Bool, true, false, cond, not, _&&_, _||_, false≢true}
-use mathlib.Core.List.{List}
+use mathlib.Core.List.{List, [], _∷_}
 use mathlib.Core.Option.{Option, none, some}
 use Prim.Native.Nat.{ℕ, zero, suc}
 use borrow.Author.Tests.{eqb-true, eqb-false, eq-eqb, ne-eqb}
@@ -18,6 +18,10 @@ pub optionCases : {A P : Type 0} (o : Option A) → ((v : A) → o ≡ some v �
 optionCases none f g = g refl
 optionCases (some v) f g = f v refl
 
+pub listCases : {A P : Type 0} (s : List A) → (s ≡ [] → P) → ((x : A) (r : List A) → s ≡ x ∷ r → P) → P
+listCases [] f g = f refl
+listCases (x ∷ r) f g = g x r refl
+
 pub toldCases : {A P : Type 0} (t : Told A) → ((a : A) → t ≡ gives a → P) → ((n s f : ℕ) → t ≡ refused n s f → P) → P
 toldCases (gives a) f g = f a refl
 toldCases (refused n s k) f g = g n s k refl
@@ -29,6 +33,13 @@ zeroCases (suc n) f g = g n refl
 -- what is both so and not so is nowhere
 pub never : {P : Type 0} → true ≡ false → P
 never h = absurd (false≢true (sym h))
+
+-- a refusal gives nothing
+pub not-given : {A P : Type 0} {n s f : ℕ} {a : A} → refused n s f ≡ gives a → P
+not-given h = let z : _≡_ {A = ℕ} 0 1 = cc in absurd (omega arith)
+
+pub nothing-some : {A P : Type 0} {a : A} → none ≡ some a → P
+nothing-some h = let z : _≡_ {A = ℕ} 0 1 = cc in absurd (omega arith)
 
 -- ---- tests
 pub both : (a b : Bool) → (a && b) ≡ true → (a ≡ true) × (b ≡ true)
@@ -46,6 +57,11 @@ not-true false h = refl
 pub not-false : (a : Bool) → not a ≡ false → a ≡ true
 not-false true h = refl
 not-false false h = never h
+
+-- one of two tests
+pub either : (x y : Bool) {P : Type 0} → (x || y) ≡ true → (x ≡ true → P) → (y ≡ true → P) → P
+either true y h f g = f refl
+either false y h f g = g h
 
 pub and-true : (a : Bool) → (a && true) ≡ a
 and-true true = refl

@@ -13,6 +13,17 @@ use Rattle.rules.specs.Shift.{step, isOne, walk, keeps, mark, marks, met
 use Rattle.rules.proofs.Logic.{cases, or-true}
 use Rattle.rules.proofs.Lists.{here, over}
 
+-- ---- what holds in each mode
+pub inModes : (P : Mode → Type 0) → P One → P Esc1 → P Esc2 → P Two → P Second → P Back1 → P Back2 → P Bad → (m : Mode) → P m
+inModes P a b c d e f g h One = a
+inModes P a b c d e f g h Esc1 = b
+inModes P a b c d e f g h Esc2 = c
+inModes P a b c d e f g h Two = d
+inModes P a b c d e f g h Second = e
+inModes P a b c d e f g h Back1 = f
+inModes P a b c d e f g h Back2 = g
+inModes P a b c d e f g h Bad = h
+
 pub one-is : (m : Mode) → isOne m ≡ true → m ≡ One
 unfolding isOne
 one-is One e = refl

@@ -9,7 +9,7 @@ use lib.Dec.{eqb}
 use lib.ListN.{length, getD, take, drop}
 use Rattle.rules.specs.Lists.{empty, nth, has, onto, split, allButLast, last, led, join, ended}
 use Rattle.rules.proofs.Logic.{cases, both, not-true, eqb-self}
-use Rattle.rules.proofs.Lists.{empty-is, has-first, has-nil}
+use Rattle.rules.proofs.Lists.{empty-is, has-first, has-nil, has-there}
 
 -- the first piece of s, and the pieces after it
 unfoldable pub front : ℕ → List ℕ → List ℕ
@@ -169,6 +169,45 @@ join-cons sep p q ps = refl
 unfoldable pub frees : ℕ → List (List ℕ) → Bool
 frees sep [] = true
 frees sep (p ∷ ps) = not (has sep p) && frees sep ps
+
+pub frees-first : (sep : ℕ) (p : List ℕ) (ps : List (List ℕ)) → has sep p ≡ false → frees sep ps ≡ true → frees sep (p ∷ ps) ≡ true
+unfolding frees
+frees-first sep p ps h k = rw (h, k)
+
+pub frees-both : (sep : ℕ) (p : List ℕ) (ps : List (List ℕ)) → frees sep (p ∷ ps) ≡ true → (has sep p ≡ false) × (frees sep ps ≡ true)
+unfolding frees
+frees-both sep p ps h = let a = both (not (has sep p)) (frees sep ps) h in (not-true (has sep p) (a .0), a .1)
+
+pub frees-left : (sep : ℕ) (ps qs : List (List ℕ)) → frees sep (ps ++ qs) ≡ true → frees sep ps ≡ true
+frees-left sep [] qs h = unfold frees in refl
+frees-left sep (p ∷ ps) qs h =
+    let a = frees-both sep p (ps ++ qs) h in
+    frees-first sep p ps (a .0) (frees-left sep ps qs (a .1))
+
+pub frees-right : (sep : ℕ) (ps qs : List (List ℕ)) → frees sep (ps ++ qs) ≡ true → frees sep qs ≡ true
+frees-right sep [] qs h = h
+frees-right sep (p ∷ ps) qs h = frees-right sep ps qs (frees-both sep p (ps ++ qs) h .1)
+
+onto-frees : (x b : ℕ) (ps : List (List ℕ)) → eqb b x ≡ false → frees x ps ≡ true → frees x (onto b ps) ≡ true
+unfolding onto frees
+onto-frees x b [] e h = cc (has-there x b [] e, has-nil x)
+onto-frees x b (p ∷ ps) e h = cc (has-there x b p e)
+
+pub split-frees : (x : ℕ) (s : List ℕ) → frees x (split x s) ≡ true
+unfolding frees
+split-frees x [] = rw (split-nil x, has-nil x)
+split-frees x (b ∷ s) =
+    cases (eqb b x)
+    (λ e. rw (split-here x b s e, has-nil x) (split-frees x s))
+    (λ e. rw (split-there x b s e) (onto-frees x b (split x s) e (split-frees x s)))
+
+pub butLast-frees : (x : ℕ) (ps : List (List ℕ)) → frees x ps ≡ true → frees x (allButLast ps) ≡ true
+unfolding frees allButLast
+butLast-frees x [] h = refl
+butLast-frees x (p ∷ []) h = refl
+butLast-frees x (p ∷ q ∷ ps) h =
+    let r = both (not (has x p)) (frees x (q ∷ ps)) h in
+    cc (r .0, butLast-frees x (q ∷ ps) (r .1))
 
 pub split-join : (sep : ℕ) (p : List ℕ) (ps : List (List ℕ)) → frees sep (p ∷ ps) ≡ true → split sep (join sep (p ∷ ps)) ≡ p ∷ ps
 unfolding frees join led
