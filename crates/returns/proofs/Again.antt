@@ -26,8 +26,8 @@ use Rattle.rules.proofs.Lists.{starts-eq, in-all}
 use Rattle.rules.proofs.Split.{frees, split-free, ended-append, ended-lines, split-frees, butLast-frees}
 use Rattle.rules.proofs.Modes.{length-marks, met-append}
 use Rattle.rules.proofs.Names.{inNames, name-is}
-use Rattle.returns.proofs.Clean.{Clean, Cleans, clean-keeps, end-0D, ended-cleans}
-use Rattle.returns.proofs.Escaped.{twelve, Delim, Proper, proper}
+use Rattle.rules.proofs.Header.{twelve, Delim, Proper, proper}
+use Rattle.rules.proofs.Clean.{Clean, Cleans, clean-keeps, end-0D, ended-cleans}
 use Rattle.returns.proofs.Groups.{facts-good}
 use Rattle.returns.proofs.Messages.{Tidy, counted}
 use Rattle.returns.proofs.Sheets.{row-of}
@@ -175,7 +175,7 @@ module _ (d : Delims) (p : Proper d) where
       let k = seg (nameOf s) at (met s) in
       let z = both-told (partsTold d ord i (segmentOf d k) (map (partOf d k) (places (nameOf s)))) (placesTold d (orderAfter d ord (segmentOf d k)) (suc i) l) tt P in
       let W : Whole (met s) = record { text = s; is = refl; clean = h } in
-      (seg-good d p ord at (met s) W (nameOf s) (named (d .field) (p .f-in) s t) (zeros d p ord i k (places (nameOf s)) W (z .0)), z .1)
+      (seg-good d p ord at (met s) W (nameOf s) (named (d .field) (p .field) s t) (zeros d p ord i k (places (nameOf s)) W (z .0)), z .1)
 
   one-order : (a : Name) (at n : ℕ) (s : List ℕ) (l : List Segment) → orderFault a (suc n) (names (segAt at s ∷ l)) ≡ 0
       → (any (is (nameOf s)) (after a) ≡ true) × (orderFault (nameOf s) (suc (suc n)) (names l) ≡ 0)

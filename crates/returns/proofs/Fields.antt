@@ -17,8 +17,9 @@ use Rattle.rules.specs.Message.{composed, blanks}
 use Rattle.rules.proofs.Logic.{both, not-true}
 use Rattle.rules.proofs.Lists.{has-nil, has-there, has-append}
 use Rattle.rules.proofs.Split.{frees, split-none, split-join}
-use Rattle.returns.proofs.Clean.{Clean, Cleans, clean-cons, clean-join, met-cons, met-join, nth-met}
-use Rattle.returns.proofs.Escaped.{Delim, Proper, Separator, by-field, by-component, by-repetition, plainByte, word, delim-one, escaped-clean, escaped-back, escaped-free, escaped-empty, escaped-null}
+use Rattle.rules.proofs.Header.{Delim, Proper, delim-one}
+use Rattle.rules.proofs.Clean.{Clean, Cleans, clean-cons, clean-join, met-cons, met-join, nth-met}
+use Rattle.rules.proofs.Escaped.{Separator, by-field, by-component, by-repetition, plainByte, word, escaped-clean, escaped-back, escaped-free, escaped-empty, escaped-null}
 
 -- ---- a component as it is written, and what it says
 pub record Comp (d : Delims) (c v : List ℕ) : Type 0 where
@@ -108,14 +109,14 @@ module _ (d : Delims) (p : Proper d) where
   unfolding composed
   several {c} {v} {cs} {vs} x y =
       let z = also x y in
-      let o = delim-one (d .component) (p .c-in) in
+      let o = delim-one (d .component) (p .component) in
       let m = met-join (d .component) o (c ∷ cs) (comps-clean z) in
       record {
         ok = record {
           clean = clean-join (d .component) o (c ∷ cs) (comps-clean z);
-          free = rw m (has-join (d .field) (d .component) (p .c-f) (map met (c ∷ cs)) (comps-free (d .field) (by-field d p) z));
+          free = rw m (has-join (d .field) (d .component) (p .component-field) (map met (c ∷ cs)) (comps-free (d .field) (by-field d p) z));
         };
-        once = rw m (has-join (d .repetition) (d .component) (p .c-r) (map met (c ∷ cs)) (comps-free (d .repetition) (by-repetition d p) z));
+        once = rw m (has-join (d .repetition) (d .component) (p .component-repetition) (map met (c ∷ cs)) (comps-free (d .repetition) (by-repetition d p) z));
         says = z;
         cut = rw m (split-join (d .component) (met c) (map met cs) (comps-free (d .component) (by-component d p) z));
       }
@@ -164,11 +165,11 @@ module _ (d : Delims) (p : Proper d) where
   oks-free (next x y) = cc (x .free, oks-free y)
 
   pub segment-clean : {fs : List (List ℕ)} → Oks d fs → Clean (join (d .field) fs)
-  segment-clean {fs} x = clean-join (d .field) (delim-one (d .field) (p .f-in)) fs (oks-clean x)
+  segment-clean {fs} x = clean-join (d .field) (delim-one (d .field) (p .field)) fs (oks-clean x)
 
   segment-cut : {f : List ℕ} {fs : List (List ℕ)} → Oks d (f ∷ fs) → split (d .field) (met (join (d .field) (f ∷ fs))) ≡ map met (f ∷ fs)
   segment-cut {f} {fs} x =
-      rw (met-join (d .field) (delim-one (d .field) (p .f-in)) (f ∷ fs) (oks-clean x)) (split-join (d .field) (met f) (map met fs) (oks-free x))
+      rw (met-join (d .field) (delim-one (d .field) (p .field)) (f ∷ fs) (oks-clean x)) (split-join (d .field) (met f) (map met fs) (oks-free x))
 
   pub field-at : {f : List ℕ} {fs : List (List ℕ)} → Oks d (f ∷ fs) → (n : Name) (at i : ℕ)
       → fieldOf d (record { name = n; start = at; body = met (join (d .field) (f ∷ fs)) }) i ≡ nth (map met (f ∷ fs)) (pieceOf n i)

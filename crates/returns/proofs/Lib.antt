@@ -1,6 +1,3 @@
-pub mod Clean
-pub mod Escaped
-pub mod Plain
 pub mod Fields
 pub mod Groups
 pub mod Segments

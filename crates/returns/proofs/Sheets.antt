@@ -20,7 +20,7 @@ use Rattle.rules.proofs.Logic.{cases, toldCases, never, both, not-false, guard,
 use Rattle.rules.proofs.Lists.{any-cons, starts-eq, starts-own, drop-own, from, exactly, one-word}
 use Rattle.rules.proofs.Split.{frees, ended-lines, split-ended, butLast-snoc, last-snoc, split-frees, butLast-frees}
 use Rattle.rules.proofs.Names.{inNames, name-is}
-use Rattle.returns.proofs.Clean.{Cleans, clean-append, clean-rest, cleans-append, cleans-parts, end-0A, cleans-free, ended-cleans, cleans-ended}
+use Rattle.rules.proofs.Clean.{Cleans, clean-append, clean-rest, cleans-append, cleans-parts, end-0A, cleans-free, ended-cleans, cleans-ended}
 use Rattle.returns.proofs.Groups.{facts, must-filled, meets-rule}
 use Rattle.returns.proofs.Messages.{first, Tidy}
 

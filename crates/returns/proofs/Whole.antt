@@ -22,8 +22,9 @@ use Rattle.rules.proofs.Logic.{cases, optionCases, never, then-none, when-none,
 use Rattle.rules.proofs.Lists.{same-eq, same-self}
 use Rattle.rules.proofs.Split.{split-nil, split-here, split-there}
 use Rattle.rules.proofs.Modes.{one-is, marks-nil, length-marks, met-one}
-use Rattle.returns.proofs.Clean.{Clean, Cleans, not-bad, agree, nth-met}
-use Rattle.returns.proofs.Escaped.{twelve, Delim, Proper, delim-one, delim-small, small-one, byte-far, byte-near}
+use Rattle.rules.proofs.Header.{twelve, Delim, Proper, delim-one, delim-small}
+use Rattle.rules.proofs.Clean.{Clean, Cleans, not-bad, agree, nth-met}
+use Rattle.rules.proofs.Escaped.{small-one, byte-far, byte-near}
 use Rattle.returns.proofs.Groups.{Keeps}
 
 -- a text as it is met that begins in one-byte mode and ends there
@@ -121,11 +122,11 @@ meaning-first r rs l x h f g = cases (eqb l (r .letter)) (λ e. f (sym (eqb-true
 means : (d : Delims) → Proper d → (l x : ℕ) → meaning (letters d) l ≡ some x → Delim x × (step 0x20 One l ≡ One)
 unfolding letters step
 means d p l x h =
-    meaning-first _ _ l x h (λ e f. (rw f at (p .f-in), rw (← e)))
-    (λ h. meaning-first _ _ l x h (λ e f. (rw f at (p .c-in), rw (← e)))
-    (λ h. meaning-first _ _ l x h (λ e f. (rw f at (p .s-in), rw (← e)))
-    (λ h. meaning-first _ _ l x h (λ e f. (rw f at (p .r-in), rw (← e)))
-    (λ h. meaning-first _ _ l x h (λ e f. (rw f at (p .e-in), rw (← e)))
+    meaning-first _ _ l x h (λ e f. (rw f at (p .field), rw (← e)))
+    (λ h. meaning-first _ _ l x h (λ e f. (rw f at (p .component), rw (← e)))
+    (λ h. meaning-first _ _ l x h (λ e f. (rw f at (p .sub), rw (← e)))
+    (λ h. meaning-first _ _ l x h (λ e f. (rw f at (p .repetition), rw (← e)))
+    (λ h. meaning-first _ _ l x h (λ e f. (rw f at (p .escape), rw (← e)))
     (λ h. let z : none ≡ some x = unfold meaning in h in nothing-some z)))))
 
 module _ (d : Delims) (b : ℕ) (s v : List ℕ) {P : Type 0} where
@@ -163,8 +164,8 @@ module _ (d : Delims) (p : Proper d) where
       let g = agree 0x0D m b n in
       plain-step d (mark m b) (marks 0x0D (step 0x0D m b) c) v u
       (λ e u′.
-      let q = met-one m b (d .escape) (delim-small (d .escape) (p .e-in)) e in
-      let o : step 0x20 m b ≡ One = rw (q .0, q .1) (delim-one (d .escape) (p .e-in)) in
+      let q = met-one m b (d .escape) (delim-small (d .escape) (p .escape)) e in
+      let o : step 0x20 m b ≡ One = rw (q .0, q .1) (delim-one (d .escape) (p .escape)) in
       let r = unescaped-law c opened (step 0x20 m b) v o h (rw g at u′) in
       (cc (r .0), omega (arith, r .1)))
       (λ w e u′ k.
@@ -185,8 +186,8 @@ module _ (d : Delims) (p : Proper d) where
       let g = agree 0x0D m b n in
       named-step d (mark m b) (marks 0x0D (step 0x0D m b) c) v x u
       (λ w e u′ k.
-      let q = met-one m b (d .escape) (delim-small (d .escape) (p .e-in)) e in
-      let o : step 0x20 m b ≡ One = rw (q .0, q .1) (delim-one (d .escape) (p .e-in)) in
+      let q = met-one m b (d .escape) (delim-small (d .escape) (p .escape)) e in
+      let o : step 0x20 m b ≡ One = rw (q .0, q .1) (delim-one (d .escape) (p .escape)) in
       let o′ : step 0x20 m x ≡ One = rw (q .0) (delim-one x (f .1)) in
       let r = unescaped-law c plain (step 0x20 m b) w tt h (rw g at u′) in
       (rw (k, o′) (rw o at (r .0)), rw k (omega (arith, r .1))))

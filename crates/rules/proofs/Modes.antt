@@ -78,6 +78,30 @@ unfolding marks
 length-marks end m [] = refl
 length-marks end m (x ∷ a) = ap suc (length-marks end (step end m x) a)
 
+pub length-met : (s : List ℕ) → length (met s) ≡ length s
+unfolding met
+length-met s = length-marks 0x0D One s
+
+mark-unique : (m : Mode) (x y : ℕ) → mark m x ≡ mark m y → x ≡ y
+unfolding mark
+mark-unique m x y e =
+    cases (isOne m) (λ o. rw o at e) (λ o. let z : 256 + x ≡ 256 + y = rw o at e in omega arith)
+
+marks-unique : (m : Mode) (a b : List ℕ) → marks 0x0D m a ≡ marks 0x0D m b → a ≡ b
+unfolding marks
+marks-unique m [] [] e = refl
+marks-unique m [] (y ∷ b) e = cc
+marks-unique m (x ∷ a) [] e = cc
+marks-unique m (x ∷ a) (y ∷ b) e =
+    let q = mark-unique m x y (cc) in
+    let r : marks 0x0D (step 0x0D m y) a ≡ marks 0x0D (step 0x0D m y) b = cc in
+    cc (q, marks-unique (step 0x0D m y) a b r)
+
+-- two texts that are met the same are the same
+pub met-unique : (a b : List ℕ) → met a ≡ met b → a ≡ b
+unfolding met
+met-unique a b e = marks-unique One a b e
+
 -- what a walk by an index sees at i, and at the end
 pub marks-here : (end : ℕ) (s : List ℕ) (i : ℕ) (m : Mode) → i < length s
     → marks end m (drop i s) ≡ mark m (getD s i 0) ∷ marks end (step end m (getD s i 0)) (drop (i + 1) s)

@@ -18,6 +18,17 @@ front sep s = nth (split sep s) 0
 unfoldable pub later : ℕ → List ℕ → List (List ℕ)
 later sep s = drop 1 (split sep s)
 
+-- how many separators stand in s, and what stands after the last of them
+unfoldable pub before : ℕ → List ℕ → ℕ
+before sep s = length (allButLast (split sep s))
+
+unfoldable pub since : ℕ → List ℕ → List ℕ
+since sep s = last (split sep s)
+
+-- the bytes so far of the segment
+abbrev pub here : List ℕ → List ℕ
+here p = since 0x0D p
+
 -- ---- one byte on
 pub split-nil : (sep : ℕ) → split sep [] ≡ [] ∷ []
 unfolding split
@@ -230,11 +241,13 @@ ended-last sep p [] = sym (append-nil p)
 ended-last sep p (q ∷ ps) =
     append-assoc p (sep ∷ ended sep (allButLast (q ∷ ps))) (last (q ∷ ps)) ∙ ap (λ (r : List ℕ). p ++ (sep ∷ r)) (ended-last sep q ps)
 
+-- a text is its ended lines, and what stands after the last
+pub ended-split : (sep : ℕ) (s : List ℕ) → ended sep (allButLast (split sep s)) ++ last (split sep s) ≡ s
+ended-split sep s = cc (split-cons sep s, ended-last sep (front sep s) (later sep s), join-split sep s)
+
 -- a text that is cut at its ends and ended again
 pub ended-lines : (sep : ℕ) (s : List ℕ) → empty (last (split sep s)) ≡ true → ended sep (allButLast (split sep s)) ≡ s
-ended-lines sep s h =
-    sym (append-nil (ended sep (allButLast (split sep s))))
-    ∙ cc (empty-is (last (split sep s)) h, split-cons sep s, ended-last sep (front sep s) (later sep s), join-split sep s)
+ended-lines sep s h = sym (append-nil (ended sep (allButLast (split sep s)))) ∙ cc (empty-is (last (split sep s)) h, ended-split sep s)
 
 pub split-ended : (sep : ℕ) (ps : List (List ℕ)) → frees sep ps ≡ true → split sep (ended sep ps) ≡ ps ++ ([] ∷ [])
 unfolding frees ended
@@ -242,3 +255,30 @@ split-ended sep [] h = split-nil sep
 split-ended sep (p ∷ ps) h =
     let q = both (not (has sep p)) (frees sep ps) h in
     cc (split-next sep p (ended sep ps) (not-true (has sep p) (q .0)), split-ended sep ps (q .1))
+
+-- ---- how many separators, and what stands after the last: one separator more; more bytes without one
+pub before-next : (sep : ℕ) (p s : List ℕ) → has sep p ≡ false → before sep (p ++ (sep ∷ s)) ≡ suc (before sep s)
+unfolding before
+before-next sep p s h = rw (split-next sep p s h, butLast-split sep p s)
+
+pub since-next : (sep : ℕ) (p s : List ℕ) → has sep p ≡ false → since sep (p ++ (sep ∷ s)) ≡ since sep s
+unfolding since
+since-next sep p s h = rw (split-next sep p s h, last-split sep p s)
+
+pub split-end : (sep : ℕ) (a b : List ℕ) → has sep b ≡ false → split sep (a ++ b) ≡ allButLast (split sep a) ++ ((since sep a ++ b) ∷ [])
+unfolding since front later
+split-end sep a b h = split-glue sep a b ∙ rw (split-none sep b h)
+
+pub last-end : (ps : List (List ℕ)) (x : List ℕ) → last (ps ++ (x ∷ [])) ≡ x
+unfolding last
+last-end [] x = refl
+last-end (p ∷ []) x = refl
+last-end (p ∷ q ∷ ps) x = last-end (q ∷ ps) x
+
+pub before-more : (sep : ℕ) (a b : List ℕ) → has sep b ≡ false → before sep (a ++ b) ≡ before sep a
+unfolding before
+before-more sep a b h =
+    rw (split-end sep a b h, butLast-glue (allButLast (split sep a)) (since sep a ++ b) []) (unfold allButLast in rw (append-nil (allButLast (split sep a))))
+
+pub since-more : (sep : ℕ) (a b : List ℕ) → has sep b ≡ false → since sep (a ++ b) ≡ since sep a ++ b
+since-more sep a b h = unfold since in (ap last (split-end sep a b h) ∙ last-end (allButLast (split sep a)) (since sep a ++ b))
