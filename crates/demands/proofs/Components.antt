@@ -17,10 +17,10 @@ use Rattle.rules.specs.Places.{Place, Field, reads, closed, places, isClosed, c
 use Rattle.rules.specs.View.{pieceOf, fieldOf, componentOf, firstRepetition, seenIn, partOf}
 use Rattle.rules.proofs.Logic.{cases, neither, not-true, or-true}
 use Rattle.rules.proofs.Lists.{all-first, all-cons, any-first, any-cons, nth-more, has-append}
-use Rattle.rules.proofs.Split.{front, later, split-glue, split-more, pieces-length}
+use Rattle.rules.proofs.Split.{front, later, split-glue, split-more, pieces-length, before, since}
+use Rattle.rules.proofs.Names.{name-stays}
 use Rattle.demands.proofs.Sight.{asKnown, shown, samePart}
-use Rattle.demands.proofs.Names.{name-stays}
-use Rattle.demands.specs.Edits.{before, since, numbered, Spot, unreadAt, unreadFrom}
+use Rattle.demands.specs.Edits.{numbered, Spot, unreadAt, unreadFrom}
 use Rattle.demands.proofs.Fields.{met-three, split-three, pieces-other, piece-other, blank-from, shown-same, fields-other}
 
 -- ---- one field, altered after g and before r

@@ -19,15 +19,16 @@ use Rattle.rules.specs.View.{pieceOf, fieldOf, componentOf}
 use Rattle.rules.specs.Fetch.{span, startOf}
 use Rattle.rules.proofs.Logic.{cases, neither, and-true, and-false, not-true, eqb-self, or-true}
 use Rattle.rules.proofs.Lists.{all-cons, has-nil, has-cons, has-here, has-append}
-use Rattle.rules.proofs.Split.{front, later, frees, split-free, split-next, split-ended, butLast-snoc, ended-append}
-use Rattle.rules.proofs.Modes.{keeps-append, met-append}
-use Rattle.demands.specs.Edits.{before, since, here, numbered, Spot, spotIn, spot, stands, inSegment, inField, inOpenField, unreadAt, stretch, begins, other, others, fieldBytes, unreadFrom, newFields, componentBytes, newComponents, segmentEdit, fieldEdit, fieldsEdit, componentEdit, componentsEdit, unread, Edit, edit}
-use Rattle.demands.specs.Covered.{repetitionOf, fieldPlace, repetitionPlace, componentPlace, spotAt, HasField, Framed, Opens, OpensIn, Covered}
-use Rattle.demands.proofs.Header.{allowed, Header, header, header-bytes, header-stays, delims-stay, nine}
-use Rattle.demands.proofs.Names.{spelling-of, spelled, name-three}
-use Rattle.demands.proofs.Pieces.{Piece, met-sep, plain-met, plain-kept, start-past, length-met, before-more, since-more}
+use Rattle.rules.proofs.Split.{front, later, frees, split-free, split-next, split-ended, butLast-snoc, ended-append, before, since, here, before-more, since-more, frees-left, frees-right}
+use Rattle.rules.proofs.Modes.{keeps-append, met-append, length-met}
+use Rattle.rules.proofs.Names.{spelling-of, spelled, name-three}
+use Rattle.rules.proofs.Header.{Delim, Header, header, header-bytes, header-stays, delims-stay, nine, delim-within, printable}
+use Rattle.rules.proofs.Clean.{plain-met, plain-kept, ended-keeps}
+use Rattle.rules.proofs.Pieces.{Piece, met-sep, start-past}
+use Rattle.rules.proofs.Where.{repetitionOf, fieldPlace, repetitionPlace, componentPlace, Framed, ended-segments, segments-free, starts-fresh, Stands, stands-known, after-header, fieldPiece, fieldLeft, fieldRight, field-is, field-whole, field-place, repetitionPiece, repetitionLeft, repetitionRight, repetition-is, repetition-whole, repetition-place, componentPiece, componentLeft, componentRight, component-is, component-whole, component-place}
+use Rattle.demands.specs.Edits.{numbered, Spot, spotIn, spot, stands, inSegment, inField, inOpenField, unreadAt, stretch, begins, other, others, fieldBytes, unreadFrom, newFields, componentBytes, newComponents, segmentEdit, fieldEdit, fieldsEdit, componentEdit, componentsEdit, unread, Edit, edit}
+use Rattle.demands.specs.Covered.{spotAt, HasField, Opens, OpensIn, Covered}
 use Rattle.demands.proofs.Fields.{met-three}
-use Rattle.demands.proofs.Where.{ended-segments, segments-free, starts-fresh, ended-keeps, frees-left, frees-right, in-range, printable, Stands, stands-known, after-header, fieldPiece, fieldLeft, fieldRight, field-is, field-whole, field-place, repetitionPiece, repetitionLeft, repetitionRight, repetition-is, repetition-whole, repetition-place, componentPiece, componentLeft, componentRight, component-is, component-whole, component-place}
 
 -- ---- a place past the header, in one-byte mode
 stands-at : (p q : List ℕ) → headerOk (p ++ q) ≡ true → 9 ≤ length p → keeps 0x0D p ≡ true → stands p ≡ true
@@ -116,7 +117,7 @@ segments-open m g a x b e l o w h =
 
 -- ---- where the fields begin
 -- after the name
-start-named : (b j : ℕ) (raw : List ℕ) → allowed b ≡ true → is (nameOf raw) Other ≡ false → 1 ≤ j → j < length (split b (met raw)) → 4 ≤ startOf b j (met raw)
+start-named : (b j : ℕ) (raw : List ℕ) → Delim b → is (nameOf raw) Other ≡ false → 1 ≤ j → j < length (split b (met raw)) → 4 ≤ startOf b j (met raw)
 start-named b zero raw h n l e = absurd (omega arith)
 start-named b (suc j) raw h n l e =
     let q = spelling-of (nameOf raw) n in
@@ -134,11 +135,11 @@ unfolding all bytes spelling
 header-pieces m g =
     let d = delimsOf m in
     let four = d .component ∷ d .repetition ∷ d .escape ∷ d .sub ∷ [] in
-    let l = printable (d .field) (g .field) in
+    let l = printable (d .field) (g .proper .field) in
     let plain : all (within 0x20 0x7E) four ≡ true =
-    simp (all-cons, in-range (d .component) (g .component), in-range (d .repetition) (g .repetition), in-range (d .escape) (g .escape), in-range (d .sub) (g .sub)) in
-    let free : has (d .field) four ≡ false = simp (has-cons, has-nil, g .component-field, g .repetition-field, g .escape-field, g .sub-field) in
-    let name : has (d .field) (bytes "MSH") ≡ false = spelling-of Msh refl .free (d .field) (g .field) in
+    simp (all-cons, delim-within (d .component) (g .proper .component), delim-within (d .repetition) (g .proper .repetition), delim-within (d .escape) (g .proper .escape), delim-within (d .sub) (g .proper .sub)) in
+    let free : has (d .field) four ≡ false = simp (has-cons, has-nil, g .proper .component-field, g .proper .repetition-field, g .proper .escape-field, g .proper .sub-field) in
+    let name : has (d .field) (bytes "MSH") ≡ false = spelling-of Msh refl .free (d .field) (g .proper .field) in
     ap (λ (x : List ℕ). split (d .field) (met x)) (header-bytes m g)
     ∙ rw (
       met-sep (d .field) (l .0) (l .1) (bytes "MSH") (four ++ (d .field ∷ drop 9 m)) (plain-kept (bytes "MSH") refl),
@@ -273,7 +274,7 @@ module _ (m : List ℕ) (ok : headerOk m ≡ true) (g : Header m) (k : Known) (s
 
     name-long : 3 ≤ length (F .left)
     name-long =
-        let l = start-named (d .field) (pieceOf (k .name) f) (s .raw) (g .field) (s .known) (open-piece (k .name) f (has-it .0) o) field-present in
+        let l = start-named (d .field) (pieceOf (k .name) f) (s .raw) (g .proper .field) (s .known) (open-piece (k .name) f (has-it .0) o) field-present in
         omega (arith, F .at)
 
     name-before : nameOf (F .left) ≡ k .name

@@ -16,11 +16,11 @@ use Rattle.rules.specs.Places.{Field, fieldNo, places, isClosed, unreadField}
 use Rattle.rules.specs.View.{pieceOf, fieldOf, partOf, segmentOf}
 use Rattle.rules.proofs.Logic.{cases, both, not-true}
 use Rattle.rules.proofs.Lists.{empty-is, all-first, nth-other, nth-more}
-use Rattle.rules.proofs.Split.{front, later, front-free, later-free, split-glue, split-more, pieces-length}
+use Rattle.rules.proofs.Split.{front, later, front-free, later-free, split-glue, split-more, pieces-length, before, since}
 use Rattle.rules.proofs.Modes.{met-append}
+use Rattle.rules.proofs.Names.{name-stays}
 use Rattle.demands.proofs.Sight.{asKnown, shown, samePart}
-use Rattle.demands.proofs.Names.{name-stays}
-use Rattle.demands.specs.Edits.{before, since, numbered, unreadFrom}
+use Rattle.demands.specs.Edits.{numbered, unreadFrom}
 
 -- ---- fields, on the marked text
 pub met-three : (s v r : List ℕ) → keeps 0x0D s ≡ true → keeps 0x0D v ≡ true → met (s ++ (v ++ r)) ≡ met s ++ (met v ++ met r)

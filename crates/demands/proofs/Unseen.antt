@@ -16,11 +16,11 @@ use Rattle.rules.specs.Places.{isClosed, unreadField, unreadComponent}
 use Rattle.rules.specs.View.{view}
 use Rattle.rules.proofs.Logic.{cases, both, neither, not-true, eqb-sym}
 use Rattle.rules.proofs.Lists.{empty-is, all-first, has-nil, has-there}
-use Rattle.rules.proofs.Split.{front, later, split-at, front-free}
-use Rattle.demands.proofs.Header.{Header, header}
-use Rattle.demands.proofs.Pieces.{here-keeps}
+use Rattle.rules.proofs.Split.{front, later, split-at, front-free, here, before, since}
+use Rattle.rules.proofs.Header.{Header, header}
+use Rattle.rules.proofs.Clean.{here-keeps}
 use Rattle.demands.proofs.Sight.{shown, altered, same-view, others-unseen}
-use Rattle.demands.specs.Edits.{here, before, since, numbered, spotIn, spot, stands, inSegment, inField, inOpenField, unreadAt, stretch, begins, other, others, fieldBytes, unreadFrom, newFields, componentBytes, newComponents, segmentEdit, fieldEdit, fieldsEdit, componentEdit, componentsEdit, unread, Edit, edit, Edits, none, next, Change, changed, changedAll, unreadAll}
+use Rattle.demands.specs.Edits.{numbered, spotIn, spot, stands, inSegment, inField, inOpenField, unreadAt, stretch, begins, other, others, fieldBytes, unreadFrom, newFields, componentBytes, newComponents, segmentEdit, fieldEdit, fieldsEdit, componentEdit, componentsEdit, unread, Edit, edit, Edits, none, next, Change, changed, changedAll, unreadAll}
 use Rattle.demands.proofs.Fields.{field-unseen, new-fields-unseen}
 use Rattle.demands.proofs.Components.{past-name, component-unseen, later-unseen, new-components-unseen}
 
@@ -188,7 +188,7 @@ nothing-left p (e ∷ q) g h =
     (λ r.
     let h2 = sym (has-there e (d .field) (d .repetition ∷ []) r) ∙ h1 in
     cases (eqb (d .repetition) e)
-    (λ z. rw (← eqb-true (d .repetition) e z, front-there (d .field) (d .repetition) (marks 0x0D (step 0x0D One (d .repetition)) (front 0x0D q)) (g .repetition-field)) (front-here (d .repetition) _))
+    (λ z. rw (← eqb-true (d .repetition) e z, front-there (d .field) (d .repetition) (marks 0x0D (step 0x0D One (d .repetition)) (front 0x0D q)) (g .proper .repetition-field)) (front-here (d .repetition) _))
     (λ z. absurd (false≢true (sym (one-free e (d .repetition) z) ∙ h2))))))
 
 components-new : (p v q : List ℕ) → Stood p → inOpenField (spot p) ≡ true → newComponents (delimsOf p) (spot p) v ≡ true
