@@ -1,22 +1,21 @@
 -- Components, fields and segments as they are written, and what is seen of them. Assumes nothing.
 use mathlib.Core.Path.{_≡_, refl, _∙_}
-use mathlib.Core.Bool.{Bool, true, false, not}
+use mathlib.Core.Bool.{Bool, true, false}
 use mathlib.Core.List.{List, [], _∷_, _++_, map}
 use mathlib.Core.Option.{some}
 use Prim.Native.Nat.{ℕ, zero, suc, _-_}
 use lib.Dec.{eqb}
 use Rattle.rules.specs.declared.Delims.{Delims}
 use Rattle.rules.specs.declared.Name.{Name}
-use Rattle.rules.specs.Lists.{bytes, empty, same, has, all, split, led, join, nth}
+use Rattle.rules.specs.Lists.{bytes, empty, same, has, all, split, join, nth}
 use Rattle.rules.specs.Shift.{met}
 use Rattle.rules.specs.Escape.{unescape, escape}
 use Rattle.rules.specs.Value.{Rule, fault}
 use Rattle.rules.specs.View.{pieceOf, fieldOf, componentOf, firstRepetition}
 use Rattle.rules.specs.Judge.{unescapedOr, plainOf, faultOr23, judge}
 use Rattle.rules.specs.Message.{composed, blanks}
-use Rattle.rules.proofs.Logic.{both, not-true}
-use Rattle.rules.proofs.Lists.{has-nil, has-there, has-append}
-use Rattle.rules.proofs.Split.{frees, split-none, split-join}
+use Rattle.rules.proofs.Lists.{has-there}
+use Rattle.rules.proofs.Split.{frees, split-none, split-join, has-join}
 use Rattle.rules.proofs.Header.{Delim, Proper, delim-one}
 use Rattle.rules.proofs.Clean.{Clean, Cleans, clean-cons, clean-join, met-cons, met-join, nth-met}
 use Rattle.rules.proofs.Escaped.{Separator, by-field, by-component, by-repetition, plainByte, word, escaped-clean, escaped-back, escaped-free, escaped-empty, escaped-null}
@@ -41,23 +40,6 @@ pub record Ok (d : Delims) (f : List ℕ) : Type 0 where
 pub data Oks (d : Delims) : List (List ℕ) → Type 0 where
   last : Oks d []
   next : {f : List ℕ} {fs : List (List ℕ)} → Ok d f → Oks d fs → Oks d (f ∷ fs)
-
-pub has-neither : (x : ℕ) (a b : List ℕ) → has x a ≡ false → has x b ≡ false → has x (a ++ b) ≡ false
-has-neither x a b h k = rw (has-append x a b, h, k)
-
-has-led : (x y : ℕ) → eqb y x ≡ false → (ps : List (List ℕ)) → frees x ps ≡ true → has x (led y ps) ≡ false
-unfolding led frees
-has-led x y n [] h = has-nil x
-has-led x y n (p ∷ ps) h =
-    let q = both (not (has x p)) (frees x ps) h in
-    has-there x y (p ++ led y ps) n ∙ has-neither x p (led y ps) (not-true (has x p) (q .0)) (has-led x y n ps (q .1))
-
-has-join : (x y : ℕ) → eqb y x ≡ false → (ps : List (List ℕ)) → frees x ps ≡ true → has x (join y ps) ≡ false
-unfolding join frees
-has-join x y n [] h = has-nil x
-has-join x y n (p ∷ ps) h =
-    let q = both (not (has x p)) (frees x ps) h in
-    has-neither x p (led y ps) (not-true (has x p) (q .0)) (has-led x y n ps (q .1))
 
 -- a field of some components: none repeats, and it is cut into them
 pub record FieldIs (d : Delims) (f : List ℕ) (cs vs : List (List ℕ)) : Type 0 where

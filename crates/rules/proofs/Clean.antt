@@ -1,5 +1,5 @@
 -- Texts that keep the shift rule by themselves: the rule with an end that is allowed anyway (20) allows no other byte. Assumes nothing.
-use mathlib.Core.Path.{_≡_, refl, ap, _∙_}
+use mathlib.Core.Path.{_≡_, refl, sym, ap, _∙_}
 use mathlib.Core.Bool.{true, false, cond, not}
 use mathlib.Core.List.{List, [], _∷_, _++_, map, append-assoc}
 use Prim.Native.Nat.{ℕ}
@@ -88,7 +88,7 @@ end-0D =
       never = inModes (λ m. step 0x20 m 0x0D ≡ Bad) refl refl refl refl refl refl refl refl;
     }
 
-clean-free : (x : ℕ) → End x → (m : Mode) (s : List ℕ) → walk 0x20 m s ≡ One → has x s ≡ false
+pub clean-free : (x : ℕ) → End x → (m : Mode) (s : List ℕ) → walk 0x20 m s ≡ One → has x s ≡ false
 unfolding walk
 clean-free x n m [] h = has-nil x
 clean-free x n m (b ∷ s) h =
@@ -114,6 +114,11 @@ walk-free : (end : ℕ) (m : Mode) (s : List ℕ) → has end s ≡ false → wa
 unfolding walk
 walk-free end m [] h = refl
 walk-free end m (b ∷ s) h = let g = has-first end b s h in rw (other end m b (g .0)) (walk-free end (step 0x20 m b) s (g .1))
+
+-- what keeps the rule with an end that it does not hold
+pub keeps-clean : (end : ℕ) (s : List ℕ) → keeps end s ≡ true → has end s ≡ false → Clean s
+unfolding keeps
+keeps-clean end s h f = sym (walk-free end One s f) ∙ one-is (walk end One s) h
 
 after-end : (end : ℕ) → End end → (m : Mode) (s : List ℕ) → walk end (step end m end) s ≡ One → (m ≡ One) × (walk end One s ≡ One)
 after-end end E m s h =

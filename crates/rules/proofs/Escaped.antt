@@ -6,18 +6,17 @@ use mathlib.Core.List.{List, [], _∷_}
 use mathlib.Core.Option.{none, some}
 use Prim.Native.Nat.{ℕ, _+_, _-_, _*_, _≤_, _<_}
 use native.Mathlib.Omega.{arith}
-use borrow.Author.Tests.{eqb-true, ne-eqb, leb-true, ltb-true, le-ltb, lt-ltb}
-use lib.Dec.{eqb, ltb, leb}
+use borrow.Author.Tests.{eqb-true, leb-true, le-ltb, lt-ltb}
+use lib.Dec.{eqb, leb}
 use lib.ListN.{length}
 use Rattle.rules.specs.declared.Delims.{Delims}
 use Rattle.rules.specs.declared.Mode.{Mode}
 use Rattle.rules.specs.declared.Mode.the-variants.{One, Bad}
-use Rattle.rules.specs.Lists.{bytes, empty, same, has, any, all, distinct}
+use Rattle.rules.specs.Lists.{bytes, empty, same, has, any, all}
 use Rattle.rules.specs.Shift.{step, isOne, walk, mark, marks, met, byteOf}
-use Rattle.rules.specs.Frame.{fiveOf, delimsOk}
 use Rattle.rules.specs.Escape.{Letter, letters, meaning, letterFor, plain, push, unescapeAt, unescape, escapeMet, escape}
-use Rattle.rules.proofs.Logic.{cases, optionCases, never, both, not-true, eqb-self, eqb-sym}
-use Rattle.rules.proofs.Lists.{same-eq, same-self, all-first, has-first, in-all}
+use Rattle.rules.proofs.Logic.{cases, optionCases, both, not-true, eqb-self}
+use Rattle.rules.proofs.Lists.{same-eq, same-self, all-first}
 use Rattle.rules.proofs.Modes.{one-is, walk-step, length-marks}
 use Rattle.rules.proofs.Clean.{Clean, not-bad, agree, stays, met-cons, clean-cons}
 use Rattle.rules.proofs.Header.{twelve, Delim, delim-one, delim-ne, delim-far, Proper}

@@ -1,7 +1,7 @@
 -- Laws of plain lists of bytes. Assumes nothing.
 use mathlib.Core.Path.{_≡_, refl, sym, ap, _∙_}
-use mathlib.Core.Bool.{Bool, true, false, cond, not, _&&_, _||_, false≢true}
-use mathlib.Core.List.{List, [], _∷_, _++_, append-assoc, append-nil}
+use mathlib.Core.Bool.{Bool, true, false, _&&_, _||_, false≢true}
+use mathlib.Core.List.{List, [], _∷_, _++_, append-assoc}
 use Prim.Native.Nat.{ℕ, zero, suc, _+_, _-_, _≤_, _<_}
 use native.Mathlib.Numerals.{add-one}
 use native.Mathlib.Omega.{arith}
@@ -10,7 +10,7 @@ use lib.Dec.{eqb}
 use lib.ListN.{length, getD, take, drop, drop-of-length-le, length-drop}
 use lib.Seq.{drop-cons, take-all, take-suc, length-take-le}
 use Rattle.rules.specs.Lists.{empty, nth, same, starts, all, any, has}
-use Rattle.rules.proofs.Logic.{cases, never, eqb-self}
+use Rattle.rules.proofs.Logic.{cases, never, eqb-self, neither}
 
 -- ---- a walk by an index
 pub here : {A : Type 0} (d : A) (s : List A) (i : ℕ) → i < length s → drop i s ≡ getD s i d ∷ drop (i + 1) s
@@ -129,6 +129,17 @@ has-append x (y ∷ a) b =
     (λ e. cc (has-here x y a e, has-here x y (a ++ b) e))
     (λ e. cc (has-there x y a e, has-there x y (a ++ b) e, has-append x a b))
 
+pub one-free : (x b : ℕ) → eqb b x ≡ false → has x (b ∷ []) ≡ false
+one-free x b e = has-there x b [] e ∙ has-nil x
+
+pub has-neither : (x : ℕ) (a b : List ℕ) → has x a ≡ false → has x b ≡ false → has x (a ++ b) ≡ false
+has-neither x a b h k = rw (has-append x a b, h, k)
+
+pub has-parts : (x : ℕ) (a b c : List ℕ) → has x (a ++ (b ++ c)) ≡ false → (has x a ≡ false) × (has x b ≡ false)
+has-parts x a b c h =
+    let p = neither (has x a) (has x (b ++ c)) (sym (has-append x a (b ++ c)) ∙ h) in
+    (p .0, neither (has x b) (has x c) (sym (has-append x b c) ∙ p .1) .0)
+
 -- ---- what holds of each, of one
 pub in-all : (p : ℕ → Bool) (x : ℕ) (s : List ℕ) → has x s ≡ true → all p s ≡ true → p x ≡ true
 in-all p x [] h k = never (sym h ∙ has-nil x)
@@ -182,6 +193,19 @@ pub nth-more : (ps xs : List (List ℕ)) (j : ℕ) → ((i : ℕ) → j ≡ leng
 nth-more [] xs j h = h j (omega arith)
 nth-more (p ∷ ps) xs zero h = refl
 nth-more (p ∷ ps) xs (suc j) h = nth-more ps xs j (λ i e. h i (omega arith))
+
+-- where it is the one
+pub nth-at : (ps : List (List ℕ)) (x : List ℕ) (r : List (List ℕ)) → nth (ps ++ (x ∷ r)) (length ps) ≡ x
+nth-at [] x r = refl
+nth-at (p ∷ ps) x r = nth-at ps x r
+
+pub nth-zero : (ps : List (List ℕ)) (x : List ℕ) (r : List (List ℕ)) → length ps ≡ 0 → nth (ps ++ (x ∷ r)) 0 ≡ x
+nth-zero [] x r h = refl
+nth-zero (p ∷ ps) x r h = absurd (omega arith)
+
+pub nth-first : (ps : List (List ℕ)) (x y : List ℕ) (r s : List (List ℕ)) → 0 < length ps → nth (ps ++ (x ∷ r)) 0 ≡ nth (ps ++ (y ∷ s)) 0
+nth-first [] x y r s h = absurd (omega arith)
+nth-first (p ∷ ps) x y r s h = refl
 
 -- a list of a known length is the list of its elements
 unfoldable pub from : List (List ℕ) → ℕ → ℕ → List (List ℕ)

@@ -7,7 +7,7 @@ use Prim.Native.Nat.{ℕ, zero, suc}
 use borrow.Author.Tests.{eqb-true, eqb-false, eq-eqb, ne-eqb}
 use native.Mathlib.Omega.{arith}
 use lib.Dec.{eqb}
-use Rattle.rules.specs.Told.{Told, gives, refused, _>>_, _>>=_, _then_, _when_}
+use Rattle.rules.specs.Told.{Told, gives, refused, _>>_, _then_, _when_}
 
 -- ---- by cases, with the equation
 pub cases : {P : Type 0} (t : Bool) → (t ≡ true → P) → (t ≡ false → P) → P
@@ -74,6 +74,11 @@ and-false false = refl
 pub and-assoc : (a b c : Bool) → (a && (b && c)) ≡ ((a && b) && c)
 and-assoc true b c = refl
 and-assoc false b c = refl
+
+pub and-swap : (a b c : Bool) → ((a && b) && c) ≡ ((a && c) && b)
+and-swap true true c = sym (and-true c)
+and-swap true false c = sym (and-false c)
+and-swap false b c = refl
 
 pub or-true : (a : Bool) → (a || true) ≡ true
 or-true true = refl

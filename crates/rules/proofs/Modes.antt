@@ -1,15 +1,15 @@
 -- Laws of the shift modes and of bytes as they are met. Assumes nothing.
-use mathlib.Core.Path.{_≡_, refl, sym, ap, _∙_}
-use mathlib.Core.Bool.{Bool, true, false, cond, not, _&&_, _||_}
+use mathlib.Core.Path.{_≡_, refl, ap, _∙_}
+use mathlib.Core.Bool.{true, cond, _&&_}
 use mathlib.Core.List.{List, [], _∷_, _++_}
 use Prim.Native.Nat.{ℕ, zero, suc, _+_, _-_, _<_, _≤_}
 use native.Mathlib.Omega.{arith}
 use borrow.Author.Tests.{eqb-true, ne-eqb, lt-ltb, le-ltb, le-leb}
-use lib.Dec.{eqb, leb, ltb}
+use lib.Dec.{eqb}
 use lib.ListN.{length, getD, take, drop}
 use Rattle.rules.specs.declared.Mode.{Mode}
 use Rattle.rules.specs.declared.Mode.the-variants.{One, Esc1, Esc2, Two, Second, Back1, Back2, Bad}
-use Rattle.rules.specs.Shift.{step, isOne, walk, keeps, mark, marks, met, byteOf, within}
+use Rattle.rules.specs.Shift.{step, isOne, walk, keeps, mark, marks, met, byteOf}
 use Rattle.rules.proofs.Logic.{cases, or-true}
 use Rattle.rules.proofs.Lists.{here, over}
 
@@ -72,6 +72,9 @@ marks-append end m (x ∷ a) b = ap (λ (r : List ℕ). mark m x ∷ r) (marks-a
 pub met-append : (a b : List ℕ) → keeps 0x0D a ≡ true → met (a ++ b) ≡ met a ++ met b
 unfolding met keeps
 met-append a b h = marks-append 0x0D One a b ∙ rw (one-is (walk 0x0D One a) h)
+
+pub met-three : (s v r : List ℕ) → keeps 0x0D s ≡ true → keeps 0x0D v ≡ true → met (s ++ (v ++ r)) ≡ met s ++ (met v ++ met r)
+met-three s v r hs hv = cc (met-append s (v ++ r) hs, met-append v r hv)
 
 pub length-marks : (end : ℕ) (m : Mode) (a : List ℕ) → length (marks end m a) ≡ length a
 unfolding marks

@@ -9,11 +9,14 @@ use lib.Dec.{eqb}
 use lib.ListN.{length, getD, drop, length-append}
 use Rattle.rules.specs.declared.Name.{Name}
 use Rattle.rules.specs.declared.Name.the-variants.{Msh, Pid, Pv1, Spm, Obr, Orc, Obx, Other}
-use Rattle.rules.specs.Lists.{bytes, starts, all, any, has}
-use Rattle.rules.specs.Shift.{within}
+use Rattle.rules.specs.Lists.{bytes, starts, all, any, has, split}
+use Rattle.rules.specs.Shift.{within, met}
 use Rattle.rules.specs.Frame.{knownNames, spelling, nameAmong, nameOf, rank, is}
 use Rattle.rules.proofs.Logic.{cases, both, never, not-true}
 use Rattle.rules.proofs.Lists.{starts-eq, in-all}
+use Rattle.rules.proofs.Split.{front, later, split-free}
+use Rattle.rules.proofs.Modes.{met-append}
+use Rattle.rules.proofs.Clean.{plain-met, plain-kept}
 use Rattle.rules.proofs.Header.{twelve, Delim}
 
 -- ---- what holds of each name
@@ -84,3 +87,12 @@ name-three (a ∷ b ∷ c ∷ s) x h = unfold nameOf nameAmong knownNames spelli
 pub name-stays : (s x : List ℕ) → is (nameOf s) Other ≡ false → nameOf (s ++ x) ≡ nameOf s
 name-stays s x h =
     name-three s x (omega (arith, ap length (spelled s h) ∙ length-append (spelling (nameOf s)) (drop 3 s), spelling-of (nameOf s) h .three))
+
+-- the first piece of a known segment begins with its name
+pub name-split : (x : ℕ) → Delim x → (s : List ℕ) → is (nameOf s) Other ≡ false
+    → split x (met s) ≡ (spelling (nameOf s) ++ front x (met (drop 3 s))) ∷ later x (met (drop 3 s))
+name-split x i s h =
+    let n = spelling (nameOf s) in
+    let q = spelling-of (nameOf s) h in
+    ap (λ (t : List ℕ). split x (met t)) (spelled s h)
+    ∙ rw (met-append n (drop 3 s) (plain-kept n (q .plain)), plain-met n (q .plain)) (split-free x n (met (drop 3 s)) (q .free x i))

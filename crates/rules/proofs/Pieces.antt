@@ -15,9 +15,9 @@ use Rattle.rules.specs.Lists.{nth, has, split, allButLast, last}
 use Rattle.rules.specs.Shift.{step, isOne, walk, keeps, mark, marks, met}
 use Rattle.rules.specs.Fetch.{span, startOf}
 use Rattle.rules.proofs.Logic.{cases}
-use Rattle.rules.proofs.Lists.{has-nil, has-there}
+use Rattle.rules.proofs.Lists.{has-nil, has-there, has-parts}
 use Rattle.rules.proofs.Split.{later, before, since, split-cons, split-none, split-next, before-next, since-next}
-use Rattle.rules.proofs.Modes.{one-is, walk-append, walk-step, marks-nil, marks-cons, met-append, length-met, met-one, still-one}
+use Rattle.rules.proofs.Modes.{one-is, walk-append, walk-step, marks-nil, marks-cons, met-append, length-met, met-one, still-one, met-three}
 use Rattle.rules.proofs.Clean.{met-cons}
 
 -- ---- one separator after another
@@ -87,6 +87,16 @@ pub record Piece (sep n : ℕ) (s : List ℕ) : Type 0 where
   pub free : has sep (met own) ≡ false
   -- a separator comes next, or the end
   pub next : (right ≡ []) ⊎ (right ≡ sep ∷ drop 1 right)
+
+-- what it does not hold
+module _ {sep n : ℕ} {s : List ℕ} (c : Piece sep n s) (x : ℕ) where
+  pub piece-bytes : has x s ≡ false → (has x (c .left) ≡ false) × (has x (c .own) ≡ false)
+  piece-bytes h = has-parts x (c .left) (c .own) (c .right) (ap (has x) (sym (c .whole)) ∙ h)
+
+  pub piece-marks : has x (met s) ≡ false → (has x (met (c .left)) ≡ false) × (has x (met (c .own)) ≡ false)
+  piece-marks h =
+      has-parts x (met (c .left)) (met (c .own)) (met (c .right))
+      (ap (has x) (sym (ap met (c .whole) ∙ met-three (c .left) (c .own) (c .right) (c .left-kept) (c .own-kept))) ∙ h)
 
 module _ (sep : ℕ) (low : 0x20 ≤ sep) (high : sep ≤ 0x7E) where
   -- the first piece of a text with one; with more

@@ -1,15 +1,14 @@
 -- Laws of splitting at a separator, of joining, and of lines that are each ended. Assumes nothing.
 use mathlib.Core.Path.{_≡_, refl, sym, ap, _∙_}
-use mathlib.Core.Bool.{Bool, true, false, cond, not, _&&_, _||_}
+use mathlib.Core.Bool.{Bool, true, false, not, _&&_}
 use mathlib.Core.List.{List, [], _∷_, _++_, append-nil, append-assoc}
-use Prim.Native.Nat.{ℕ, zero, suc, _+_, _-_, _<_, _≤_}
-use native.Mathlib.Omega.{arith}
+use Prim.Native.Nat.{ℕ, suc, _+_}
 use borrow.Author.Tests.{eqb-true}
 use lib.Dec.{eqb}
-use lib.ListN.{length, getD, take, drop}
+use lib.ListN.{length, drop}
 use Rattle.rules.specs.Lists.{empty, nth, has, onto, split, allButLast, last, led, join, ended}
 use Rattle.rules.proofs.Logic.{cases, both, not-true, eqb-self}
-use Rattle.rules.proofs.Lists.{empty-is, has-first, has-nil, has-there}
+use Rattle.rules.proofs.Lists.{empty-is, has-first, has-nil, has-there, one-free, has-neither}
 
 -- the first piece of s, and the pieces after it
 unfoldable pub front : ℕ → List ℕ → List ℕ
@@ -78,6 +77,13 @@ split-none sep (b ∷ v) h = let g = has-first sep b v h in cc (split-there sep 
 pub split-at : (sep : ℕ) (q : List ℕ) → split sep (sep ∷ q) ≡ [] ∷ split sep q
 split-at sep q = split-here sep sep q (eqb-self sep)
 
+pub front-here : (sep : ℕ) (q : List ℕ) → front sep (sep ∷ q) ≡ []
+unfolding front
+front-here sep q = cc (split-at sep q)
+
+pub front-there : (sep b : ℕ) (q : List ℕ) → eqb b sep ≡ false → front sep (b ∷ q) ≡ b ∷ front sep q
+front-there sep b q e = front-free sep (b ∷ []) q (one-free sep b e)
+
 pub split-next : (sep : ℕ) (p s : List ℕ) → has sep p ≡ false → split sep (p ++ (sep ∷ s)) ≡ p ∷ split sep s
 unfolding onto
 split-next sep [] s h = split-at sep s
@@ -106,6 +112,12 @@ split-glue sep (b ∷ p) q =
     cases (eqb b sep)
     (λ e. let g = glue-cons [] (split sep p) (front sep p) (later sep p) (split-cons sep p) in cc (split-here sep b p e, split-here sep b (p ++ q) e, split-glue sep p q, g .0, g .1))
     (λ e. cc (split-there sep b p e, split-there sep b (p ++ q) e, split-glue sep p q, onto-glue b (split sep p) (front sep q) (later sep q)))
+
+-- the pieces of a v r, with v without separators
+pub split-three : (sep : ℕ) (a v r : List ℕ) → has sep v ≡ false
+    → split sep (a ++ (v ++ r)) ≡ allButLast (split sep a) ++ ((since sep a ++ (v ++ front sep r)) ∷ later sep r)
+unfolding since
+split-three sep a v r h = cc (split-glue sep a (v ++ r), front-free sep v r h, later-free sep v r h)
 
 pub butLast-glue : (a : List (List ℕ)) (x : List ℕ) (r : List (List ℕ)) → allButLast (a ++ (x ∷ r)) ≡ a ++ allButLast (x ∷ r)
 unfolding allButLast
@@ -219,6 +231,20 @@ butLast-frees x (p ∷ []) h = refl
 butLast-frees x (p ∷ q ∷ ps) h =
     let r = both (not (has x p)) (frees x (q ∷ ps)) h in
     cc (r .0, butLast-frees x (q ∷ ps) (r .1))
+
+pub has-led : (x y : ℕ) → eqb y x ≡ false → (ps : List (List ℕ)) → frees x ps ≡ true → has x (led y ps) ≡ false
+unfolding led frees
+has-led x y n [] h = has-nil x
+has-led x y n (p ∷ ps) h =
+    let q = both (not (has x p)) (frees x ps) h in
+    has-there x y (p ++ led y ps) n ∙ has-neither x p (led y ps) (not-true (has x p) (q .0)) (has-led x y n ps (q .1))
+
+pub has-join : (x y : ℕ) → eqb y x ≡ false → (ps : List (List ℕ)) → frees x ps ≡ true → has x (join y ps) ≡ false
+unfolding join frees
+has-join x y n [] h = has-nil x
+has-join x y n (p ∷ ps) h =
+    let q = both (not (has x p)) (frees x ps) h in
+    has-neither x p (led y ps) (not-true (has x p) (q .0)) (has-led x y n ps (q .1))
 
 pub split-join : (sep : ℕ) (p : List ℕ) (ps : List (List ℕ)) → frees sep (p ∷ ps) ≡ true → split sep (join sep (p ∷ ps)) ≡ p ∷ ps
 unfolding frees join led

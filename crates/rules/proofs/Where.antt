@@ -22,7 +22,7 @@ use Rattle.rules.specs.Check.{frameTold}
 use Rattle.rules.specs.Fetch.{stretch, startOf, bytesAt}
 use Rattle.rules.proofs.Logic.{cases, both, not-false, guard, nothing-some}
 use Rattle.rules.proofs.Lists.{drop-own, take-own}
-use Rattle.rules.proofs.Split.{since, here, frees, frees-both, frees-left, frees-right, split-frees, butLast-frees, split-ended, last-snoc, ended-append, ended-lines}
+use Rattle.rules.proofs.Split.{since, here, frees, frees-both, frees-left, frees-right, split-frees, butLast-frees, split-ended, last-snoc, ended-append, ended-lines, butLast-snoc}
 use Rattle.rules.proofs.Modes.{length-met}
 use Rattle.rules.proofs.Header.{Delim, printable, Header, header, nine}
 use Rattle.rules.proofs.Clean.{keeps-parts, ended-keeps}
@@ -73,6 +73,10 @@ framed m h =
 pub ended-segments : (m : List ℕ) → Framed m → ended 0x0D (segments m) ≡ m
 unfolding segments
 ended-segments m g = ended-lines 0x0D m (g .ends)
+
+pub segments-ended : (ss : List (List ℕ)) (h : frees 0x0D ss ≡ true) → segments (ended 0x0D ss) ≡ ss
+unfolding segments
+segments-ended ss h = rw (split-ended 0x0D ss h) (butLast-snoc ss)
 
 -- no segment has 0D in it
 pub segments-free : (m : List ℕ) → frees 0x0D (segments m) ≡ true
