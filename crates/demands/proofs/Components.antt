@@ -6,36 +6,24 @@ use Prim.Native.Nat.{ℕ, zero, suc, _+_, _-_, _<_}
 use native.Mathlib.Omega.{arith}
 use borrow.Author.Tests.{eqb-true, eqb-false, ne-eqb, ltb-true, ltb-false}
 use lib.Dec.{eqb, ltb}
-use lib.ListN.{length}
 use Rattle.rules.specs.declared.Delims.{Delims}
 use Rattle.rules.specs.declared.Name.{Name}
 use Rattle.rules.specs.declared.Name.the-variants.{Msh, Pid, Pv1, Spm, Obr, Orc, Obx, Other}
-use Rattle.rules.specs.Lists.{nth, all, any, has, split, allButLast}
+use Rattle.rules.specs.Lists.{all, any, has, split, allButLast}
 use Rattle.rules.specs.Shift.{keeps, walk, met, marks, isOne}
 use Rattle.rules.specs.Frame.{nameOf, is, Known}
 use Rattle.rules.specs.Places.{Place, Field, reads, closed, places, isClosed, componentsRead, unreadComponent}
 use Rattle.rules.specs.View.{pieceOf, fieldOf, componentOf, firstRepetition, seenIn, partOf}
 use Rattle.rules.proofs.Logic.{cases, neither, not-true, or-true}
-use Rattle.rules.proofs.Lists.{all-first, all-cons, any-first, any-cons, nth-more, has-append}
-use Rattle.rules.proofs.Split.{front, later, split-glue, split-more, pieces-length}
+use Rattle.rules.proofs.Lists.{all-first, all-cons, any-first, any-cons, nth-more, has-append, nth-at, nth-zero, nth-first}
+use Rattle.rules.proofs.Split.{front, later, split-glue, split-more, pieces-length, before, since, split-three}
+use Rattle.rules.proofs.Modes.{met-three}
+use Rattle.rules.proofs.Names.{name-stays}
 use Rattle.demands.proofs.Sight.{asKnown, shown, samePart}
-use Rattle.demands.proofs.Names.{name-stays}
-use Rattle.demands.specs.Edits.{before, since, numbered, Spot, unreadAt, unreadFrom}
-use Rattle.demands.proofs.Fields.{met-three, split-three, pieces-other, piece-other, blank-from, shown-same, fields-other}
+use Rattle.demands.specs.Edits.{numbered, Spot, unreadAt, unreadFrom}
+use Rattle.demands.proofs.Fields.{pieces-other, piece-other, blank-from, shown-same, fields-other}
 
 -- ---- one field, altered after g and before r
-nth-at : (ps : List (List ℕ)) (x : List ℕ) (r : List (List ℕ)) → nth (ps ++ (x ∷ r)) (length ps) ≡ x
-nth-at [] x r = refl
-nth-at (p ∷ ps) x r = nth-at ps x r
-
-nth-zero : (ps qs : List (List ℕ)) (x : List ℕ) (r : List (List ℕ)) → length ps ≡ 0 → nth (ps ++ (x ∷ r)) 0 ≡ x
-nth-zero [] qs x r h = refl
-nth-zero (p ∷ ps) qs x r h = absurd (omega arith)
-
-nth-first : (ps : List (List ℕ)) (x y : List ℕ) (r s : List (List ℕ)) → 0 < length ps → nth (ps ++ (x ∷ r)) 0 ≡ nth (ps ++ (y ∷ s)) 0
-nth-first [] x y r s h = absurd (omega arith)
-nth-first (p ∷ ps) x y r s h = refl
-
 pub repeats-same : (x : ℕ) (g v w r : List ℕ) → has x v ≡ false → has x w ≡ false → has x (g ++ (v ++ r)) ≡ has x (g ++ (w ++ r))
 repeats-same x g v w r hv hw = cc (has-append x g (v ++ r), has-append x g (w ++ r), has-append x v r, has-append x w r)
 
@@ -52,7 +40,7 @@ pub first-here : (d : Delims) (g v r : List ℕ) → before (d .repetition) g �
 unfolding firstRepetition before
 first-here d g v r h hv =
     rw (split-three (d .repetition) g v r hv)
-    (nth-zero (allButLast (split (d .repetition) g)) [] (since (d .repetition) g ++ (v ++ front (d .repetition) r)) (later (d .repetition) r) h)
+    (nth-zero (allButLast (split (d .repetition) g)) (since (d .repetition) g ++ (v ++ front (d .repetition) r)) (later (d .repetition) r) h)
 
 -- ---- the table: a read component is not unread, and counts from 1; a closed field is closed
 abbrev pub missed : Name → ℕ → Place → Bool

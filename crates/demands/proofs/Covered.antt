@@ -17,17 +17,17 @@ use Rattle.rules.specs.Frame.{headerOk, delimsOf, knownNames, spelling, nameAmo
 use Rattle.rules.specs.Places.{isClosed, unreadField}
 use Rattle.rules.specs.View.{pieceOf, fieldOf, componentOf}
 use Rattle.rules.specs.Fetch.{span, startOf}
-use Rattle.rules.proofs.Logic.{cases, neither, and-true, and-false, not-true, eqb-self, or-true}
-use Rattle.rules.proofs.Lists.{all-cons, has-nil, has-cons, has-here, has-append}
-use Rattle.rules.proofs.Split.{front, later, frees, split-free, split-next, split-ended, butLast-snoc, ended-append}
-use Rattle.rules.proofs.Modes.{keeps-append, met-append}
-use Rattle.demands.specs.Edits.{before, since, here, numbered, Spot, spotIn, spot, stands, inSegment, inField, inOpenField, unreadAt, stretch, begins, other, others, fieldBytes, unreadFrom, newFields, componentBytes, newComponents, segmentEdit, fieldEdit, fieldsEdit, componentEdit, componentsEdit, unread, Edit, edit}
-use Rattle.demands.specs.Covered.{repetitionOf, fieldPlace, repetitionPlace, componentPlace, spotAt, HasField, Framed, Opens, OpensIn, Covered}
-use Rattle.demands.proofs.Header.{allowed, Header, header, header-bytes, header-stays, delims-stay, nine}
-use Rattle.demands.proofs.Names.{spelling-of, spelled, name-three}
-use Rattle.demands.proofs.Pieces.{Piece, met-sep, plain-met, plain-kept, start-past, length-met, before-more, since-more}
-use Rattle.demands.proofs.Fields.{met-three}
-use Rattle.demands.proofs.Where.{ended-segments, segments-free, starts-fresh, ended-keeps, frees-left, frees-right, in-range, printable, Stands, stands-known, after-header, fieldPiece, fieldLeft, fieldRight, field-is, field-whole, field-place, repetitionPiece, repetitionLeft, repetitionRight, repetition-is, repetition-whole, repetition-place, componentPiece, componentLeft, componentRight, component-is, component-whole, component-place}
+use Rattle.rules.proofs.Logic.{cases, neither, not-true, eqb-self, or-true, and-swap}
+use Rattle.rules.proofs.Lists.{all-cons, has-nil, has-cons, has-here}
+use Rattle.rules.proofs.Split.{front, later, frees, split-next, ended-append, before, since, here, before-more, since-more, frees-left, frees-right}
+use Rattle.rules.proofs.Modes.{keeps-append, met-append, length-met}
+use Rattle.rules.proofs.Names.{spelling-of, name-three, name-split}
+use Rattle.rules.proofs.Header.{Delim, Header, header, header-bytes, header-stays, delims-stay, nine, delim-within, printable}
+use Rattle.rules.proofs.Clean.{plain-met, plain-kept, ended-keeps}
+use Rattle.rules.proofs.Pieces.{Piece, met-sep, start-past, piece-bytes, piece-marks}
+use Rattle.rules.proofs.Where.{repetitionOf, fieldPlace, repetitionPlace, componentPlace, Framed, ended-segments, segments-free, starts-fresh, Stands, stands-known, after-header, fieldPiece, fieldLeft, fieldRight, field-is, field-whole, field-place, repetitionPiece, repetitionLeft, repetitionRight, repetition-is, repetition-whole, repetition-place, componentPiece, componentLeft, componentRight, component-is, component-whole, component-place, segments-ended}
+use Rattle.demands.specs.Edits.{numbered, Spot, spotIn, spot, stands, inSegment, inField, inOpenField, unreadAt, stretch, begins, other, others, fieldBytes, unreadFrom, newFields, componentBytes, newComponents, segmentEdit, fieldEdit, fieldsEdit, componentEdit, componentsEdit, unread, Edit, edit}
+use Rattle.demands.specs.Covered.{spotAt, HasField, Opens, OpensIn, Covered}
 
 -- ---- a place past the header, in one-byte mode
 stands-at : (p q : List ℕ) → headerOk (p ++ q) ≡ true → 9 ≤ length p → keeps 0x0D p ≡ true → stands p ≡ true
@@ -60,11 +60,6 @@ module _ (p v w q : List ℕ) (s : stands p ≡ true) where
       (or-true (segmentEdit p v w))
 
 -- an edit may be undone
-and-swap : (a b c : Bool) → ((a && b) && c) ≡ ((a && c) && b)
-and-swap true true c = sym (and-true c)
-and-swap true false c = sym (and-false c)
-and-swap false b c = refl
-
 unread-swap : (p v w q : List ℕ) → unread p v w q ≡ unread p w v q
 unfolding unread segmentEdit fieldEdit fieldsEdit componentEdit componentsEdit
 unread-swap p v w q =
@@ -85,10 +80,6 @@ as-edit : (m p v w q : List ℕ) → m ≡ p ++ (v ++ q) → unread p v w q ≡ 
 as-edit m p v w q e u = rw e (edit p v w q u)
 
 -- ---- segments of other names
-segments-ended : (ss : List (List ℕ)) (h : frees 0x0D ss ≡ true) → segments (ended 0x0D ss) ≡ ss
-unfolding segments
-segments-ended ss h = rw (split-ended 0x0D ss h) (butLast-snoc ss)
-
 segment-fits : (a x : List (List ℕ)) (w : List ℕ) → frees 0x0D a ≡ true → frees 0x0D x ≡ true → all other x ≡ true → others w ≡ true
     → segmentEdit (ended 0x0D a) (ended 0x0D x) w ≡ true
 unfolding segmentEdit others since empty
@@ -116,16 +107,12 @@ segments-open m g a x b e l o w h =
 
 -- ---- where the fields begin
 -- after the name
-start-named : (b j : ℕ) (raw : List ℕ) → allowed b ≡ true → is (nameOf raw) Other ≡ false → 1 ≤ j → j < length (split b (met raw)) → 4 ≤ startOf b j (met raw)
+start-named : (b j : ℕ) (raw : List ℕ) → Delim b → is (nameOf raw) Other ≡ false → 1 ≤ j → j < length (split b (met raw)) → 4 ≤ startOf b j (met raw)
 start-named b zero raw h n l e = absurd (omega arith)
 start-named b (suc j) raw h n l e =
-    let q = spelling-of (nameOf raw) n in
     let w = spelling (nameOf raw) in
-    let t = drop 3 raw in
-    let p : split b (met raw) ≡ (w ++ front b (met t)) ∷ later b (met t) =
-    ap (λ (x : List ℕ). split b (met x)) (spelled raw n)
-    ∙ rw (met-append w t (plain-kept w (q .plain)), plain-met w (q .plain)) (split-free b w (met t) (q .free b h)) in
-    omega (arith, start-past b j (met raw) (w ++ front b (met t)) (later b (met t)) p e, length-append w (front b (met t)), q .three)
+    let t = met (drop 3 raw) in
+    omega (arith, start-past b j (met raw) (w ++ front b t) (later b t) (name-split b h raw n) e, length-append w (front b t), spelling-of (nameOf raw) n .three)
 
 -- after MSH-2
 header-pieces : (m : List ℕ) (g : Header m) → let d = delimsOf m in
@@ -134,11 +121,11 @@ unfolding all bytes spelling
 header-pieces m g =
     let d = delimsOf m in
     let four = d .component ∷ d .repetition ∷ d .escape ∷ d .sub ∷ [] in
-    let l = printable (d .field) (g .field) in
+    let l = printable (d .field) (g .proper .field) in
     let plain : all (within 0x20 0x7E) four ≡ true =
-    simp (all-cons, in-range (d .component) (g .component), in-range (d .repetition) (g .repetition), in-range (d .escape) (g .escape), in-range (d .sub) (g .sub)) in
-    let free : has (d .field) four ≡ false = simp (has-cons, has-nil, g .component-field, g .repetition-field, g .escape-field, g .sub-field) in
-    let name : has (d .field) (bytes "MSH") ≡ false = spelling-of Msh refl .free (d .field) (g .field) in
+    simp (all-cons, delim-within (d .component) (g .proper .component), delim-within (d .repetition) (g .proper .repetition), delim-within (d .escape) (g .proper .escape), delim-within (d .sub) (g .proper .sub)) in
+    let free : has (d .field) four ≡ false = simp (has-cons, has-nil, g .proper .component-field, g .proper .repetition-field, g .proper .escape-field, g .proper .sub-field) in
+    let name : has (d .field) (bytes "MSH") ≡ false = spelling-of Msh refl .free (d .field) (g .proper .field) in
     ap (λ (x : List ℕ). split (d .field) (met x)) (header-bytes m g)
     ∙ rw (
       met-sep (d .field) (l .0) (l .1) (bytes "MSH") (four ++ (d .field ∷ drop 9 m)) (plain-kept (bytes "MSH") refl),
@@ -176,20 +163,6 @@ unfolding unreadField
 unread-open n f u = neither (isClosed n f) _ (not-true (isClosed n f || _) u) .0
 
 -- ---- what stands in a piece
-has-parts : (x : ℕ) (a b c : List ℕ) → has x (a ++ (b ++ c)) ≡ false → (has x a ≡ false) × (has x b ≡ false)
-has-parts x a b c h =
-    let p = neither (has x a) (has x (b ++ c)) (sym (has-append x a (b ++ c)) ∙ h) in
-    (p .0, neither (has x b) (has x c) (sym (has-append x b c) ∙ p .1) .0)
-
-module _ {sep n : ℕ} {s : List ℕ} (c : Piece sep n s) (x : ℕ) where
-  piece-bytes : has x s ≡ false → (has x (c .left) ≡ false) × (has x (c .own) ≡ false)
-  piece-bytes h = has-parts x (c .left) (c .own) (c .right) (ap (has x) (sym (c .whole)) ∙ h)
-
-  piece-marks : has x (met s) ≡ false → (has x (met (c .left)) ≡ false) × (has x (met (c .own)) ≡ false)
-  piece-marks h =
-      has-parts x (met (c .left)) (met (c .own)) (met (c .right))
-      (ap (has x) (sym (ap met (c .whole) ∙ met-three (c .left) (c .own) (c .right) (c .left-kept) (c .own-kept))) ∙ h)
-
 field-bytes : (d : Delims) (v : List ℕ) → keeps 0x0D v ≡ true → has 0x0D v ≡ false → has (d .field) (met v) ≡ false → fieldBytes d v ≡ true
 unfolding fieldBytes stretch all
 field-bytes d v k e f = rw (k, e) (simp (all-cons, f))
@@ -273,7 +246,7 @@ module _ (m : List ℕ) (ok : headerOk m ≡ true) (g : Header m) (k : Known) (s
 
     name-long : 3 ≤ length (F .left)
     name-long =
-        let l = start-named (d .field) (pieceOf (k .name) f) (s .raw) (g .field) (s .known) (open-piece (k .name) f (has-it .0) o) field-present in
+        let l = start-named (d .field) (pieceOf (k .name) f) (s .raw) (g .proper .field) (s .known) (open-piece (k .name) f (has-it .0) o) field-present in
         omega (arith, F .at)
 
     name-before : nameOf (F .left) ≡ k .name

@@ -8,11 +8,11 @@ use Rattle.rules.specs.Told.{Told, lengthOf, over}
 use Rattle.rules.specs.View.{view}
 use Rattle.rules.specs.Check.{checkTold}
 use Rattle.rules.specs.Sheet.{toSheet}
+use Rattle.rules.proofs.Header.{header}
+use Rattle.rules.proofs.Where.{framed, stands-known}
 use Rattle.rules.proofs.Unique.{told-unique, length-unique}
 use Rattle.demands.specs.Edits.{Change, changedAll, unreadAll}
 use Rattle.demands.specs.Demand.{Keeps, SameAnswers, SameReturns, refusalOf, bytesOf, Demand3}
-use Rattle.demands.proofs.Header.{header}
-use Rattle.demands.proofs.Where.{framed, stands-known}
 use Rattle.demands.proofs.Unseen.{unseen, all-unseen, edits}
 use Rattle.demands.proofs.Parts.{part-same, refusal-same}
 use Rattle.demands.proofs.Covered.{undone, covered}

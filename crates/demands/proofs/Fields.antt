@@ -16,22 +16,13 @@ use Rattle.rules.specs.Places.{Field, fieldNo, places, isClosed, unreadField}
 use Rattle.rules.specs.View.{pieceOf, fieldOf, partOf, segmentOf}
 use Rattle.rules.proofs.Logic.{cases, both, not-true}
 use Rattle.rules.proofs.Lists.{empty-is, all-first, nth-other, nth-more}
-use Rattle.rules.proofs.Split.{front, later, front-free, later-free, split-glue, split-more, pieces-length}
-use Rattle.rules.proofs.Modes.{met-append}
+use Rattle.rules.proofs.Split.{front, later, split-more, pieces-length, before, since, split-three}
+use Rattle.rules.proofs.Modes.{met-append, met-three}
+use Rattle.rules.proofs.Names.{name-stays}
 use Rattle.demands.proofs.Sight.{asKnown, shown, samePart}
-use Rattle.demands.proofs.Names.{name-stays}
-use Rattle.demands.specs.Edits.{before, since, numbered, unreadFrom}
+use Rattle.demands.specs.Edits.{numbered, unreadFrom}
 
 -- ---- fields, on the marked text
-pub met-three : (s v r : List ℕ) → keeps 0x0D s ≡ true → keeps 0x0D v ≡ true → met (s ++ (v ++ r)) ≡ met s ++ (met v ++ met r)
-met-three s v r hs hv = cc (met-append s (v ++ r) hs, met-append v r hv)
-
--- the pieces of a v r, with v without separators
-pub split-three : (sep : ℕ) (a v r : List ℕ) → has sep v ≡ false
-    → split sep (a ++ (v ++ r)) ≡ allButLast (split sep a) ++ ((since sep a ++ (v ++ front sep r)) ∷ later sep r)
-unfolding since
-split-three sep a v r h = cc (split-glue sep a (v ++ r), front-free sep v r h, later-free sep v r h)
-
 pub pieces-other : (sep : ℕ) (a v w r : List ℕ) (j : ℕ) → has sep v ≡ false → has sep w ≡ false → (j ≡ before sep a → ⊥)
     → nth (split sep (a ++ (v ++ r))) j ≡ nth (split sep (a ++ (w ++ r))) j
 unfolding before

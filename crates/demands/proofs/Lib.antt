@@ -1,7 +1,3 @@
-pub mod Header
-pub mod Names
-pub mod Pieces
-pub mod Where
 pub mod Sight
 pub mod Fields
 pub mod Components

@@ -20,10 +20,10 @@ use Rattle.rules.specs.Check.{checkTold}
 use Rattle.rules.specs.Fetch.{spanOf, ordinal, fetchTold, bytesAt, partTold}
 use Rattle.rules.proofs.Logic.{cases, both, never, not-true, not-false, optionCases}
 use Rattle.rules.proofs.Lists.{any-cons, any-nil, has-nil, has-there, has-first}
+use Rattle.rules.proofs.Modes.{met-unique}
+use Rattle.rules.proofs.Header.{Header, header-bytes}
+use Rattle.rules.proofs.Where.{Stands, component-bytes}
 use Rattle.demands.specs.Demand.{refusalOf, partRead}
-use Rattle.demands.proofs.Header.{Header, header-bytes}
-use Rattle.demands.proofs.Pieces.{met-unique}
-use Rattle.demands.proofs.Where.{Stands, component-bytes}
 
 -- ---- a read component is in the view
 -- the component of a field that the parts of a segment show

@@ -11,11 +11,11 @@ use Rattle.rules.specs.Shift.{met}
 use Rattle.rules.specs.Frame.{delimsOf, segments, nameOf, is, Known, knownFrom, known}
 use Rattle.rules.specs.Places.{Field, reads, closed, fieldNo, places}
 use Rattle.rules.specs.View.{fieldOf, partOf, Segment, segmentOf, view}
-use Rattle.demands.specs.Edits.{since, here, other}
-use Rattle.demands.proofs.Header.{delims-stay}
+use Rattle.demands.specs.Edits.{other}
 use Rattle.rules.proofs.Logic.{cases}
 use Rattle.rules.proofs.Lists.{all-first}
-use Rattle.rules.proofs.Split.{front, later, split-cons, front-free, later-free, split-glue, butLast-glue}
+use Rattle.rules.proofs.Split.{front, later, split-cons, front-free, later-free, split-glue, butLast-glue, since, here}
+use Rattle.rules.proofs.Header.{delims-stay}
 
 pub samePart : (d : Delims) (k l : Known) (F : Field) → fieldOf d k (fieldNo F) ≡ fieldOf d l (fieldNo F) → partOf d k F ≡ partOf d l F
 unfolding partOf

@@ -14,27 +14,17 @@ use Rattle.rules.specs.Shift.{step, isOne, keeps, mark, marks, met}
 use Rattle.rules.specs.Frame.{headerOk, delimsOf, segments, nameOf, is}
 use Rattle.rules.specs.Places.{isClosed, unreadField, unreadComponent}
 use Rattle.rules.specs.View.{view}
-use Rattle.rules.proofs.Logic.{cases, both, neither, not-true, eqb-sym}
-use Rattle.rules.proofs.Lists.{empty-is, all-first, has-nil, has-there}
-use Rattle.rules.proofs.Split.{front, later, split-at, front-free}
-use Rattle.demands.proofs.Header.{Header, header}
-use Rattle.demands.proofs.Pieces.{here-keeps}
+use Rattle.rules.proofs.Logic.{cases, both, neither, not-true, eqb-sym, either}
+use Rattle.rules.proofs.Lists.{empty-is, all-first, has-there, one-free}
+use Rattle.rules.proofs.Split.{front, later, here, before, since, front-here, front-there}
+use Rattle.rules.proofs.Header.{Header, header}
+use Rattle.rules.proofs.Clean.{here-keeps}
 use Rattle.demands.proofs.Sight.{shown, altered, same-view, others-unseen}
-use Rattle.demands.specs.Edits.{here, before, since, numbered, spotIn, spot, stands, inSegment, inField, inOpenField, unreadAt, stretch, begins, other, others, fieldBytes, unreadFrom, newFields, componentBytes, newComponents, segmentEdit, fieldEdit, fieldsEdit, componentEdit, componentsEdit, unread, Edit, edit, Edits, none, next, Change, changed, changedAll, unreadAll}
+use Rattle.demands.specs.Edits.{numbered, spotIn, spot, stands, inSegment, inField, inOpenField, unreadAt, stretch, begins, other, others, fieldBytes, unreadFrom, newFields, componentBytes, newComponents, segmentEdit, fieldEdit, fieldsEdit, componentEdit, componentsEdit, unread, Edit, edit, Edits, none, next, Change, changed, changedAll, unreadAll}
 use Rattle.demands.proofs.Fields.{field-unseen, new-fields-unseen}
 use Rattle.demands.proofs.Components.{past-name, component-unseen, later-unseen, new-components-unseen}
 
 -- ---- what stands before an edit, and the stretch and place taken apart
-front-here : (sep : ℕ) (q : List ℕ) → front sep (sep ∷ q) ≡ []
-unfolding front
-front-here sep q = cc (split-at sep q)
-
-one-free : (x b : ℕ) → eqb b x ≡ false → has x (b ∷ []) ≡ false
-one-free x b e = has-there x b [] e ∙ has-nil x
-
-front-there : (sep b : ℕ) (q : List ℕ) → eqb b sep ≡ false → front sep (b ∷ q) ≡ b ∷ front sep q
-front-there sep b q e = front-free sep (b ∷ []) q (one-free sep b e)
-
 pub record Stood (p : List ℕ) : Type 0 where
   pub head : Header p
   pub long : 8 ≤ length p
@@ -188,7 +178,7 @@ nothing-left p (e ∷ q) g h =
     (λ r.
     let h2 = sym (has-there e (d .field) (d .repetition ∷ []) r) ∙ h1 in
     cases (eqb (d .repetition) e)
-    (λ z. rw (← eqb-true (d .repetition) e z, front-there (d .field) (d .repetition) (marks 0x0D (step 0x0D One (d .repetition)) (front 0x0D q)) (g .repetition-field)) (front-here (d .repetition) _))
+    (λ z. rw (← eqb-true (d .repetition) e z, front-there (d .field) (d .repetition) (marks 0x0D (step 0x0D One (d .repetition)) (front 0x0D q)) (g .proper .repetition-field)) (front-here (d .repetition) _))
     (λ z. absurd (false≢true (sym (one-free e (d .repetition) z) ∙ h2))))))
 
 components-new : (p v q : List ℕ) → Stood p → inOpenField (spot p) ≡ true → newComponents (delimsOf p) (spot p) v ≡ true
@@ -224,10 +214,6 @@ components-unseen p v w q g h =
     let y = components-new p w q g (c .0) (b .1) (a .1) in
     same-view p (v ++ q) (w ++ q) (g .long) (altered d p v w q (x .0) (y .0) (x .1 ∙ sym (y .1)))
 
-or-else : {P : Type 0} (a b : Bool) → (a || b) ≡ true → (a ≡ true → P) → (b ≡ true → P) → P
-or-else true b h f g = f refl
-or-else false b h f g = g h
-
 -- (b) each edit leaves the view as it was
 pub unread-unseen : (p v w q : List ℕ) → unread p v w q ≡ true → view (p ++ (v ++ q)) ≡ view (p ++ (w ++ q))
 unfolding unread
@@ -236,10 +222,10 @@ unread-unseen p v w q h =
     let x = spot p in
     let a = both (stands p) _ h in
     let g = stood p (a .0) in
-    or-else (segmentEdit p v w) _ (a .1) (segment-unseen p v w q g)
-    (λ b. or-else (fieldEdit d x v w) _ b (field-altered p v w q g)
-    (λ c. or-else (fieldsEdit d x v w q) _ c (fields-unseen p v w q g)
-    (λ e. or-else (componentEdit d x v w) (componentsEdit d x v w q) e (component-altered p v w q g) (components-unseen p v w q g))))
+    either (segmentEdit p v w) _ (a .1) (segment-unseen p v w q g)
+    (λ b. either (fieldEdit d x v w) _ b (field-altered p v w q g)
+    (λ c. either (fieldsEdit d x v w q) _ c (fields-unseen p v w q g)
+    (λ e. either (componentEdit d x v w) (componentsEdit d x v w q) e (component-altered p v w q g) (components-unseen p v w q g))))
 
 pub unseen : {m n : List ℕ} → Edit m n → view m ≡ view n
 unseen (edit p v w q h) = unread-unseen p v w q h

@@ -7,34 +7,17 @@ use mathlib.Core.Option.{some}
 use Prim.Native.Nat.{ℕ, suc, _+_, _-_, _<_, _≤_}
 use lib.ListN.{length, getElem?}
 use Rattle.rules.specs.declared.Delims.{Delims}
-use Rattle.rules.specs.Lists.{empty, nth, all, split, last, ended}
-use Rattle.rules.specs.Shift.{keeps, met}
-use Rattle.rules.specs.Frame.{headerOk, delimsOf, Known, segments, known}
+use Rattle.rules.specs.Lists.{all, split, last, ended}
+use Rattle.rules.specs.Shift.{met}
+use Rattle.rules.specs.Frame.{delimsOf, Known, segments, known}
 use Rattle.rules.specs.Places.{isClosed, unreadField}
 use Rattle.rules.specs.View.{pieceOf, fieldOf, componentOf}
-use Rattle.rules.specs.Fetch.{startOf}
-use Rattle.demands.specs.Edits.{before, numbered, Spot, unreadAt, other, others, fieldBytes, newFields, componentBytes, newComponents, Edit}
+use Rattle.rules.proofs.Split.{before}
+use Rattle.rules.proofs.Where.{repetitionOf, fieldPlace, repetitionPlace, componentPlace}
+use Rattle.demands.specs.Edits.{numbered, Spot, unreadAt, other, others, fieldBytes, newFields, componentBytes, newComponents, Edit}
 
--- a message with a header, that keeps the byte and shift rule and ends in 0D: one that keeps rules 10 to 14, or one on the way between two
--- such, which may be too long
-pub record Framed (m : List ℕ) : Type 0 where
-  pub headed : headerOk m ≡ true
-  pub kept : keeps 0x0D m ≡ true
-  pub ends : empty (last (split 0x0D m)) ≡ true
-
--- ---- places in a message, as fetch counts them: repetitions from 0, fields and components from 1
-abbrev pub repetitionOf : Delims → Known → ℕ → ℕ → List ℕ
-repetitionOf d k f r = nth (split (d .repetition) (fieldOf d k f)) r
-
-abbrev pub fieldPlace : Delims → Known → ℕ → ℕ
-fieldPlace d k f = k .start + startOf (d .field) (pieceOf (k .name) f) (k .body)
-
-abbrev pub repetitionPlace : Delims → Known → ℕ → ℕ → ℕ
-repetitionPlace d k f r = fieldPlace d k f + startOf (d .repetition) r (fieldOf d k f)
-
-abbrev pub componentPlace : Delims → Known → ℕ → ℕ → ℕ → ℕ
-componentPlace d k f r c = repetitionPlace d k f r + startOf (d .component) (c - 1) (repetitionOf d k f r)
-
+-- ---- places in a message, as fetch counts them: repetitions from 0, fields and components from 1. `fieldPlace`, `repetitionPlace` and
+-- `componentPlace` stand with their laws, in Where.
 abbrev pub spotAt : Known → ℕ → ℕ → ℕ → Spot
 spotAt k f r c = record { name = k .name; field = f; repetition = suc r; component = c }
 

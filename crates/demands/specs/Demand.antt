@@ -14,8 +14,9 @@ use Rattle.rules.specs.View.{View, view}
 use Rattle.rules.specs.Check.{frameTold, checkTold}
 use Rattle.rules.specs.Fetch.{fetchTold, partTold}
 use Rattle.rules.specs.Sheet.{toSheet}
+use Rattle.rules.proofs.Where.{Framed}
 use Rattle.demands.specs.Edits.{Edit, Edits}
-use Rattle.demands.specs.Covered.{Framed, Covered}
+use Rattle.demands.specs.Covered.{Covered}
 
 -- a message that keeps rules 10 to 14: "the size, header, byte and segment rules"
 abbrev pub Keeps : List ℕ → Type 0

@@ -6,28 +6,18 @@ use mathlib.Core.Bool.{Bool, true, false, cond, not, _&&_, _||_}
 use mathlib.Core.List.{List, [], _∷_, _++_}
 use Prim.Native.Nat.{ℕ, suc}
 use lib.Dec.{eqb, ltb}
-use lib.ListN.{length, take, drop}
+use lib.ListN.{take, drop}
 use Rattle.rules.specs.declared.Delims.{Delims}
 use Rattle.rules.specs.declared.Name.{Name}
 use Rattle.rules.specs.declared.Name.the-variants.{Msh, Other}
-use Rattle.rules.specs.Lists.{empty, all, has, split, allButLast, last}
+use Rattle.rules.specs.Lists.{empty, all, has, split, last}
 use Rattle.rules.specs.Shift.{keeps, met}
 use Rattle.rules.specs.Frame.{headerOk, delimsOf, segments, nameOf, is}
 use Rattle.rules.specs.Places.{isClosed, unreadField, unreadComponent}
-use Rattle.rules.proofs.Split.{front, later}
+use Rattle.rules.proofs.Split.{front, later, before, since, here}
 
--- ---- the place where p ends
--- how many separators stand in s, and what stands after the last of them
-unfoldable pub before : ℕ → List ℕ → ℕ
-before sep s = length (allButLast (split sep s))
-
-unfoldable pub since : ℕ → List ℕ → List ℕ
-since sep s = last (split sep s)
-
--- the bytes so far of the segment
-abbrev pub here : List ℕ → List ℕ
-here p = since 0x0D p
-
+-- ---- the place where p ends: how many separators stand `before` it, what stands `since` the last of them, and `here` the bytes so far of
+-- the segment (as defined in Split)
 -- the number of the field after k separators: 0 is the name; in MSH the first separator is itself field 1
 unfoldable pub numbered : Name → ℕ → ℕ
 numbered n k = cond (is n Msh) (suc k) k

@@ -18,9 +18,10 @@ use Rattle.rules.specs.Places.{unreadField}
 use Rattle.rules.specs.View.{fieldOf}
 use Rattle.rules.specs.Fetch.{partTold}
 use Rattle.rules.specs.WholeCase.{wholeMessage, sexQ, sexQSkipped, theCase}
-use Rattle.rules.proofs.Split.{front, later}
-use Rattle.demands.specs.Edits.{before, since, numbered, spotIn, stands, inSegment, inField, inOpenField, unreadAt, stretch, begins, others, fieldBytes, unreadFrom, newFields, componentBytes, newComponents, segmentEdit, fieldEdit, fieldsEdit, componentEdit, componentsEdit, unread, Change, changed, changedAll, unreadAll}
-use Rattle.demands.specs.Covered.{fieldPlace, HasField}
+use Rattle.rules.proofs.Split.{front, later, before, since}
+use Rattle.rules.proofs.Where.{fieldPlace}
+use Rattle.demands.specs.Edits.{numbered, spotIn, stands, inSegment, inField, inOpenField, unreadAt, stretch, begins, others, fieldBytes, unreadFrom, newFields, componentBytes, newComponents, segmentEdit, fieldEdit, fieldsEdit, componentEdit, componentsEdit, unread, Change, changed, changedAll, unreadAll}
+use Rattle.demands.specs.Covered.{HasField}
 use Rattle.demands.specs.Demand.{Keeps, partRead}
 
 -- to unfold this name is to unfold the case, the rules and the edits

@@ -19,14 +19,14 @@ use Rattle.rules.specs.Judge.{plainOf, judge, judgeAll}
 use Rattle.rules.specs.Check.{ownFault, laterFault, partFault, numberOf, faultTold, partsTold}
 use Rattle.rules.specs.Row.{Line, line, lines, fourAt}
 use Rattle.rules.specs.Sheet.{keyOf, linesText}
-use Rattle.rules.proofs.Logic.{then-none}
+use Rattle.rules.proofs.Logic.{then-none, not-given}
 use Rattle.rules.proofs.Lists.{from}
-use Rattle.returns.proofs.General.{not-given}
-use Rattle.returns.proofs.Clean.{Cleans}
-use Rattle.returns.proofs.Escaped.{Proper}
+use Rattle.rules.proofs.Header.{Proper}
+use Rattle.rules.proofs.Clean.{Cleans}
+use Rattle.rules.proofs.Measures.{sum, pieces-fit, nth-short}
 use Rattle.returns.proofs.Groups.{Facts}
 use Rattle.returns.proofs.Whole.{Whole, whole-nth, Fair, fair}
-use Rattle.returns.proofs.Measures.{sum, pieces-fit, nth-short, sizeOf, lines-size}
+use Rattle.returns.proofs.Measures.{sizeOf, lines-size}
 
 -- ---- the table of places, read backwards
 abbrev pub Fairs : Delims → List ℕ → List Place → Type 0
@@ -47,15 +47,15 @@ told-zero i f (suc n) t h = not-given h
 module _ (d : Delims) (p : Proper d) where
   pub whole-field : (k : Known) → Whole (k .body) → (n : ℕ) → Whole (fieldOf d k n)
   unfolding fieldOf
-  whole-field k W n = whole-nth (d .field) (p .f-in) (k .body) W (pieceOf (k .name) n)
+  whole-field k W n = whole-nth (d .field) (p .field) (k .body) W (pieceOf (k .name) n)
 
   pub whole-component : (r : List ℕ) → Whole r → (c : ℕ) → Whole (componentOf d r c)
   unfolding componentOf
-  whole-component r W c = whole-nth (d .component) (p .c-in) r W (c - 1)
+  whole-component r W c = whole-nth (d .component) (p .component) r W (c - 1)
 
   whole-first : (r : List ℕ) → Whole r → Whole (firstRepetition d r)
   unfolding firstRepetition
-  whole-first r W = whole-nth (d .repetition) (p .r-in) r W 0
+  whole-first r W = whole-nth (d .repetition) (p .repetition) r W 0
 
   fairs : (r : List ℕ) → Whole r → (qs : List Place) → judgeAll d (map (seenIn d r) qs) ≡ 0 → Fairs d r qs
   unfolding judgeAll seenIn

@@ -17,13 +17,13 @@ use Rattle.rules.specs.View.{fieldOf, componentOf, firstRepetition}
 use Rattle.rules.specs.Judge.{faultOr23, unescapedOr, plainOf, judge, firstMarked, kanji, kana, nameFault, namesFault, isSN, rawFour, beside, unjoined, partsFault, valueFault, agrees}
 use Rattle.rules.specs.Row.{lines}
 use Rattle.rules.proofs.Logic.{cases, never, not-false, then-none, when-none}
-use Rattle.rules.proofs.Lists.{empty-is, same-eq, from}
-use Rattle.returns.proofs.General.{one-word}
-use Rattle.returns.proofs.Escaped.{Proper}
+use Rattle.rules.proofs.Lists.{empty-is, same-eq, from, one-word}
+use Rattle.rules.proofs.Header.{Proper}
+use Rattle.rules.proofs.Measures.{sum, pieces-fit, piece-there, nth-short, split-sum}
 use Rattle.returns.proofs.Groups.{must-may, must-filled, meets-rule}
 use Rattle.returns.proofs.Closed.{fourOf}
 use Rattle.returns.proofs.Whole.{Whole, whole-nth, whole-nil, Fair, fair}
-use Rattle.returns.proofs.Measures.{sum, pieces-fit, piece-there, nth-short, split-sum, lines-size}
+use Rattle.returns.proofs.Measures.{lines-size}
 use Rattle.returns.proofs.Accepted.{Zeros, whole-field, whole-component, GoodSeg, sources, seg, readings, component-short}
 
 -- a filled text has a byte
@@ -90,7 +90,7 @@ module _ (d : Delims) (p : Proper d) where
       (fair d p true (text 48) (componentOf d r 1) (whole-component d p r W 1) (z .0), fair d p false (text 48) (componentOf d r 2) (whole-component d p r W 2) (z .1))
 
   marked-whole : (m raw : List ℕ) → Whole raw → Whole (firstMarked d m (split (d .repetition) raw))
-  marked-whole m raw W = let f = found d m (split (d .repetition) raw) in rw (f .is) (whole-nth (d .repetition) (p .r-in) raw W (f .i))
+  marked-whole m raw W = let f = found d m (split (d .repetition) raw) in rw (f .is) (whole-nth (d .repetition) (p .repetition) raw W (f .i))
 
   two-short : (r : List ℕ) → length (componentOf d r 1) + length (componentOf d r 2) ≤ length r
   unfolding componentOf sum from
@@ -191,7 +191,7 @@ module _ (d : Delims) (p : Proper d) where
   four-good type raw W h =
       let rules = valueRules type in
       let r = rawFour d type raw in
-      let w : (i : ℕ) → Whole (nth (split (d .component) raw) i) = whole-nth (d .component) (p .c-in) raw W in
+      let w : (i : ℕ) → Whole (nth (split (d .component) raw) i) = whole-nth (d .component) (p .component) raw W in
       let parts = then-none (23 when ltb (cond (isSN type) 4 1) (length (split (d .component) raw))) _ (then-none (22 when has (d .repetition) raw) _ h .1) .1 in
       let z0 = then-none (judge d false (rules .compare) (r .compare)) _ parts in
       let z1 = then-none (judge d (beside r) (rules .value) (r .value)) _ (z0 .1) in

@@ -19,7 +19,7 @@ use Rattle.rules.specs.Sheet.{valid}
 use Rattle.rules.specs.Message.{Piece, pieces, segmentText, written, messageOf, messageTold}
 use Rattle.rules.proofs.Logic.{neither, guard}
 use Rattle.rules.proofs.Lists.{all-cons}
-use Rattle.returns.proofs.Escaped.{proper}
+use Rattle.rules.proofs.Header.{proper}
 use Rattle.returns.proofs.Segments.{Said, none, more}
 use Rattle.returns.proofs.Messages.{Tidy, name-ok, segments-are, all-ended, message-keeps, counted, front, delims-are, header-is, all-said, view-accepted}
 use Rattle.returns.proofs.Sizes.{Short, short}

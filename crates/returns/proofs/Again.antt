@@ -1,33 +1,33 @@
 -- An accepted message: its rows are those of a sheet that is accepted, under 57,000 bytes. Assumes nothing.
 use mathlib.Core.Path.{_≡_, refl, sym, ap, _∙_}
-use mathlib.Core.Bool.{true, false, cond, not, _&&_}
+use mathlib.Core.Bool.{true, false, cond}
 use mathlib.Core.List.{List, [], _∷_, _++_, map}
 use Prim.Native.Nat.{ℕ, suc, _+_, _*_, _≤_, _<_}
 use native.Mathlib.Omega.{arith}
-use borrow.Author.Tests.{ltb-false, eqb-true}
-use lib.Dec.{eqb, ltb, leb}
-use lib.ListN.{length, getD, drop, length-append}
+use borrow.Author.Tests.{eqb-true}
+use lib.Dec.{eqb}
+use lib.ListN.{length, drop, length-append}
 use Rattle.rules.specs.declared.Delims.{Delims}
 use Rattle.rules.specs.declared.Counts.{Counts}
 use Rattle.rules.specs.declared.Mode.the-variants.{One}
 use Rattle.rules.specs.declared.Name.{Name}
 use Rattle.rules.specs.declared.Name.the-variants.{Msh, Pid, Pv1, Spm, Obr, Orc, Obx, Other}
 use Rattle.rules.specs.Told.{Told, gives, refused, accepted, _>>_}
-use Rattle.rules.specs.Lists.{bytes, empty, nth, starts, all, any, count, has, split, last, ended}
-use Rattle.rules.specs.Shift.{step, isOne, walk, mark, marks, keeps, met}
-use Rattle.rules.specs.Frame.{delimsOk, headerOk, delimsOf, segments, segmentsOk, knownNames, spelling, nameAmong, nameOf, is, knownFrom, known, after, orderFault}
+use Rattle.rules.specs.Lists.{bytes, nth, any, count, has, split, ended}
+use Rattle.rules.specs.Shift.{met}
+use Rattle.rules.specs.Frame.{delimsOf, segments, spelling, nameOf, is, knownFrom, known, after, orderFault}
 use Rattle.rules.specs.Places.{places}
 use Rattle.rules.specs.View.{partOf, Segment, segmentOf, View, view}
 use Rattle.rules.specs.Check.{partsTold, orderAfter, placesTold, namesOf, countsTold, viewTold, frameTold, checkTold}
 use Rattle.rules.specs.Row.{lines, Row, rowOf, rowsFrom, rowsOf}
 use Rattle.rules.specs.Sheet.{linesText, rowLines, sheetOf, nextGroups, valid}
-use Rattle.rules.proofs.Logic.{cases, never, both, not-true, not-false, guard}
-use Rattle.rules.proofs.Lists.{starts-eq}
-use Rattle.rules.proofs.Split.{frees, split-free, ended-append, ended-lines}
-use Rattle.rules.proofs.Modes.{length-marks, met-append}
-use Rattle.returns.proofs.General.{inNames, name-is, in-all, not-given, split-frees, butLast-frees}
-use Rattle.returns.proofs.Clean.{Clean, Cleans, clean-keeps, end-0D, ended-cleans}
-use Rattle.returns.proofs.Escaped.{twelve, Delim, Proper, proper}
+use Rattle.rules.proofs.Logic.{cases, never, not-given}
+use Rattle.rules.proofs.Split.{ended-append, front}
+use Rattle.rules.proofs.Modes.{length-marks}
+use Rattle.rules.proofs.Names.{inNames, name-is, spelling-of, name-split}
+use Rattle.rules.proofs.Header.{Delim, Proper, proper, header}
+use Rattle.rules.proofs.Clean.{Clean, Cleans, end-0D, ended-cleans}
+use Rattle.rules.proofs.Where.{passes, framed, ended-segments, segments-free}
 use Rattle.returns.proofs.Groups.{facts-good}
 use Rattle.returns.proofs.Messages.{Tidy, counted}
 use Rattle.returns.proofs.Sheets.{row-of}
@@ -35,35 +35,11 @@ use Rattle.returns.proofs.Whole.{Whole}
 use Rattle.returns.proofs.Accepted.{Zeros, zeros, GoodSeg, sources, seg, spm-good, pv1-good, obr-good, msh-good}
 use Rattle.returns.proofs.AcceptedClosed.{pid-good, obx-good}
 
--- ---- a known segment's first piece is its name, of three bytes
-name-starts : (ns : List Name) (s : List ℕ) → is (nameAmong ns s) Other ≡ false → starts (spelling (nameAmong ns s)) s ≡ true
-unfolding nameAmong
-name-starts [] s h = never h
-name-starts (n ∷ ns) s h = cases (starts (spelling n) s) (λ e. rw (e, nameAmong) e) (λ e. rw (e, nameAmong) (name-starts ns s (rw (e, nameAmong) at h)))
-
-no-delim : (x : ℕ) (v : List ℕ) → Delim x → all (λ (b : ℕ). not (has b twelve)) v ≡ true → has x v ≡ false
-no-delim x v i h = cases (has x v) (λ e. never (sym i ∙ not-true (has x twelve) (in-all (λ (b : ℕ). not (has b twelve)) x v e h))) (λ e. e)
-
--- three bytes of one-byte mode, and no delimiter
-abbrev Spelled : Name → Type 0
-Spelled n = (length (spelling n) ≡ 3) × Clean (spelling n) × (met (spelling n) ≡ spelling n) × (all (λ (b : ℕ). not (has b twelve)) (spelling n) ≡ true)
-
-spelled : (n : Name) → is n Other ≡ false → Spelled n
-unfolding spelling bytes walk step isOne met marks mark all has any
-spelled n =
-    inNames (λ n. is n Other ≡ false → Spelled n)
-    (λ h. (refl, refl, refl, refl)) (λ h. (refl, refl, refl, refl)) (λ h. (refl, refl, refl, refl)) (λ h. (refl, refl, refl, refl))
-    (λ h. (refl, refl, refl, refl)) (λ h. (refl, refl, refl, refl)) (λ h. (refl, refl, refl, refl)) (λ h. never h) n
-
+-- ---- a known segment's first piece has its name, of three bytes
 named : (x : ℕ) → Delim x → (s : List ℕ) → is (nameOf s) Other ≡ false → 3 ≤ length (nth (split x (met s)) 0)
-unfolding nameOf
 named x i s h =
-    let n = spelling (nameOf s) in
-    let S = spelled (nameOf s) h in
-    let t = drop (length n) s in
-    let e : s ≡ n ++ t = starts-eq n s (name-starts knownNames s h) in
-    let m : met s ≡ n ++ met t = ap met e ∙ met-append n t (clean-keeps 0x0D n (S .1)) ∙ rw (S .2) in
-    rw (m, split-free x n (met t) (no-delim x n i (S .3)), length-append) (omega (arith, S .0))
+    let t = front x (met (drop 3 s)) in
+    rw (name-split x i s h) (omega (arith, length-append (spelling (nameOf s)) t, spelling-of (nameOf s) h .three))
 
 -- ---- one segment
 seg-good : (d : Delims) → Proper d → (ord : List ℕ) (at : ℕ) (body : List ℕ) → Whole body → (n : Name) → 3 ≤ length (nth (split (d .field) body) 0)
@@ -175,7 +151,7 @@ module _ (d : Delims) (p : Proper d) where
       let k = seg (nameOf s) at (met s) in
       let z = both-told (partsTold d ord i (segmentOf d k) (map (partOf d k) (places (nameOf s)))) (placesTold d (orderAfter d ord (segmentOf d k)) (suc i) l) tt P in
       let W : Whole (met s) = record { text = s; is = refl; clean = h } in
-      (seg-good d p ord at (met s) W (nameOf s) (named (d .field) (p .f-in) s t) (zeros d p ord i k (places (nameOf s)) W (z .0)), z .1)
+      (seg-good d p ord at (met s) W (nameOf s) (named (d .field) (p .field) s t) (zeros d p ord i k (places (nameOf s)) W (z .0)), z .1)
 
   one-order : (a : Name) (at n : ℕ) (s : List ℕ) (l : List Segment) → orderFault a (suc n) (names (segAt at s ∷ l)) ≡ 0
       → (any (is (nameOf s)) (after a) ≡ true) × (orderFault (nameOf s) (suc (suc n)) (names l) ≡ 0)
@@ -220,31 +196,6 @@ module _ (d : Delims) (p : Proper d) where
       (more-room a _ _ _ _ (omega arith) (seg-step a (nameOf s) _ (sources d (seg (nameOf s) at (met s))) _ at _ (met s) (w .0) t (z .0) r)))
 
 -- ---- 10 to 15 of an accepted message
-record Framed (m : List ℕ) : Type 0 where
-  short : length m ≤ 32768
-  delims : delimsOk (delimsOf m) ≡ true
-  shifts : keeps 0x0D m ≡ true
-  ends : ended 0x0D (segments m) ≡ m
-  few : length (segments m) ≤ 512
-
-framed : (m : List ℕ) → frameTold m ≡ gives tt → Framed m
-unfolding frameTold segmentsOk segments headerOk
-framed m h =
-    let g0 = guard 10 0 0 (ltb 32768 (length m)) _ tt h in
-    let g1 = guard 11 0 0 (not (headerOk m)) _ tt (g0 .1) in
-    let g2 = guard 12 0 0 (not (keeps 0x0D m)) _ tt (g1 .1) in
-    let g3 = guard 13 0 0 (not (segmentsOk (delimsOf m .field) m)) _ tt (g2 .1) in
-    let g4 = guard 14 0 0 (ltb 512 (length (segments m))) _ tt (g3 .1) in
-    let b = both (empty (last (split 0x0D m))) _ (not-false (segmentsOk (delimsOf m .field) m) (g3 .0)) in
-    let c = both (leb 9 (length m) && starts (bytes "MSH") m && delimsOk (delimsOf m)) (eqb (getD m 8 0) (delimsOf m .field)) (not-false (headerOk m) (g1 .0)) in
-    record {
-      short = ltb-false 32768 (length m) (g0 .0);
-      delims = both (leb 9 (length m) && starts (bytes "MSH") m) (delimsOk (delimsOf m)) (c .0) .1;
-      shifts = not-false (keeps 0x0D m) (g2 .0);
-      ends = ended-lines 0x0D m (b .0);
-      few = ltb-false 512 (length (segments m)) (g4 .0);
-    }
-
 view-passes : (v : View) (c : Counts) → viewTold v ≡ gives c
     → (orderFault Other 1 (namesOf v) ≡ 0) × (placesTold (v .delims) [] 1 (v .segs) ≡ gives tt) × (countsTold (namesOf v) ≡ gives c)
 unfolding viewTold
@@ -266,15 +217,15 @@ pub rows-of-accepted : (m : List ℕ) (c : Counts) → checkTold m ≡ gives c �
 unfolding checkTold view known rowsOf countsTold
 rows-of-accepted m c h =
     let z = both-told (frameTold m) (viewTold (view m)) c h in
-    let F = framed m (z .0) in
+    let F = passes m (z .0) in
+    let e = ended-segments m (framed m (z .0)) in
     let w = view-passes (view m) c (z .1) in
-    let p = proper (delimsOf m) (F .delims) in
-    let f : frees 0x0D (segments m) ≡ true = unfold segments in butLast-frees 0x0D (split 0x0D m) (split-frees 0x0D m) in
-    let k : keeps 0x0D (ended 0x0D (segments m)) ≡ true = rw (F .ends) (F .shifts) in
-    let R = rows-ok (delimsOf m) p (segments m) (ended-cleans 0x0D end-0D (segments m) f k) 0 1 0 Other [] (w .1) (w .0) in
+    let p = header m (F .headed) .proper in
+    let c = ended-cleans 0x0D end-0D (segments m) (segments-free m) (rw e (F .kept)) in
+    let R = rows-ok (delimsOf m) p (segments m) c 0 1 0 Other [] (w .1) (w .0) in
     record {
       ok = R .ok;
       tidy = R .tidy;
-      size = omega (arith, R .size, F .short, F .few, ap length (F .ends));
+      size = omega (arith, R .size, F .short, F .few, ap length e);
       counts = rw (R .counts Spm refl, R .counts Obr refl, R .counts Obx refl) (w .2);
     }

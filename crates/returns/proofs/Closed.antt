@@ -17,12 +17,13 @@ use Rattle.rules.specs.Judge.{unescapedOr, plainOf, faultOr23, judge, firstMark
 use Rattle.rules.specs.Row.{lines, patient, result}
 use Rattle.rules.specs.Message.{nameText, namesText, valueText, piecesOf}
 use Rattle.rules.proofs.Logic.{cases, never, both, neither, not-true, not-false}
-use Rattle.rules.proofs.Lists.{empty-is}
+use Rattle.rules.proofs.Lists.{empty-is, has-neither}
 use Rattle.rules.proofs.Split.{split-none, split-next}
 use Rattle.rules.proofs.Modes.{met-append}
-use Rattle.returns.proofs.Clean.{Clean, Cleans, clean-keeps, clean-append}
-use Rattle.returns.proofs.Escaped.{Proper, plainByte, escaped-back, escaped-empty, escaped-null}
-use Rattle.returns.proofs.Fields.{Ok, last, next, also, end, FieldIs, escaped, plain, nothing, single, several, value-in, judge-in, component-is, field-at, ok-cons, has-neither}
+use Rattle.rules.proofs.Header.{Proper}
+use Rattle.rules.proofs.Clean.{Clean, Cleans, clean-keeps, clean-append}
+use Rattle.rules.proofs.Escaped.{plainByte, escaped-back, escaped-empty, escaped-null}
+use Rattle.returns.proofs.Fields.{Ok, last, next, also, end, FieldIs, escaped, plain, nothing, single, several, value-in, judge-in, component-is, field-at, ok-cons}
 use Rattle.returns.proofs.Groups.{Keeps, no-fault, filled-must, Facts}
 use Rattle.returns.proofs.Segments.{tables, Says, seen, pieceAt, read-value, wordOk, countOk, blankOk}
 
@@ -112,7 +113,7 @@ module _ (d : Delims) (p : Proper d) where
         let y = kana-field in
         let A = nameText d f g (bytes "I") in
         let B = nameText d kf kg (bytes "P") in
-        let oB = ok-cons d p (d .repetition) B (p .r-in) (p .r-f) (y .ok) in
+        let oB = ok-cons d p (d .repetition) B (p .repetition) (p .repetition-field) (y .ok) in
         let a = met-append A (d .repetition ∷ B) (clean-keeps 0x0D A (x .ok .clean)) in
         let o : Ok d (A ++ (d .repetition ∷ B)) =
         record {

@@ -20,11 +20,10 @@ use Rattle.rules.specs.Check.{checkTold}
 use Rattle.rules.specs.Row.{line, lines, Row, header, patient, visit, specimen, order, result, groupOf, values, rowsOf}
 use Rattle.rules.specs.Sheet.{keyOf, linesText, rowLines, sheetOf, readSheet, sheetTold, toSheet}
 use Rattle.rules.specs.Message.{base, written, messageOf, messageTold, toMessage}
-use Rattle.rules.proofs.Logic.{cases, toldCases, guard}
+use Rattle.rules.proofs.Logic.{cases, toldCases, guard, not-given}
 use Rattle.rules.proofs.Lists.{take-own}
 use Rattle.rules.proofs.Unique.{length-unique}
 use Rattle.returns.specs.Demand2.{toMessageBy, linesWith, countsOf, Only44Or45, given, overflow, short, SheetIsWritten, SheetReturns, MessageReturns, Call, SheetCalls, MessageCalls}
-use Rattle.returns.proofs.General.{not-given}
 use Rattle.returns.proofs.Messages.{counted, rows-return}
 use Rattle.returns.proofs.Sheets.{SheetIs, sheet-is, sheet-read}
 use Rattle.returns.proofs.Accepts.{wrote, segments-short, message-accepted}

@@ -1,24 +1,24 @@
 -- Components, fields and segments as they are written, and what is seen of them. Assumes nothing.
 use mathlib.Core.Path.{_≡_, refl, _∙_}
-use mathlib.Core.Bool.{Bool, true, false, not}
+use mathlib.Core.Bool.{Bool, true, false}
 use mathlib.Core.List.{List, [], _∷_, _++_, map}
 use mathlib.Core.Option.{some}
 use Prim.Native.Nat.{ℕ, zero, suc, _-_}
 use lib.Dec.{eqb}
 use Rattle.rules.specs.declared.Delims.{Delims}
 use Rattle.rules.specs.declared.Name.{Name}
-use Rattle.rules.specs.Lists.{bytes, empty, same, has, all, split, led, join, nth}
+use Rattle.rules.specs.Lists.{bytes, empty, same, has, all, split, join, nth}
 use Rattle.rules.specs.Shift.{met}
 use Rattle.rules.specs.Escape.{unescape, escape}
 use Rattle.rules.specs.Value.{Rule, fault}
 use Rattle.rules.specs.View.{pieceOf, fieldOf, componentOf, firstRepetition}
 use Rattle.rules.specs.Judge.{unescapedOr, plainOf, faultOr23, judge}
 use Rattle.rules.specs.Message.{composed, blanks}
-use Rattle.rules.proofs.Logic.{both, not-true}
-use Rattle.rules.proofs.Lists.{has-nil, has-there, has-append}
-use Rattle.rules.proofs.Split.{frees, split-none, split-join}
-use Rattle.returns.proofs.Clean.{Clean, Cleans, clean-cons, clean-join, met-cons, met-join, nth-met}
-use Rattle.returns.proofs.Escaped.{Delim, Proper, Separator, by-field, by-component, by-repetition, plainByte, word, delim-one, escaped-clean, escaped-back, escaped-free, escaped-empty, escaped-null}
+use Rattle.rules.proofs.Lists.{has-there}
+use Rattle.rules.proofs.Split.{frees, split-none, split-join, has-join}
+use Rattle.rules.proofs.Header.{Delim, Proper, delim-one}
+use Rattle.rules.proofs.Clean.{Clean, Cleans, clean-cons, clean-join, met-cons, met-join, nth-met}
+use Rattle.rules.proofs.Escaped.{Separator, by-field, by-component, by-repetition, plainByte, word, escaped-clean, escaped-back, escaped-free, escaped-empty, escaped-null}
 
 -- ---- a component as it is written, and what it says
 pub record Comp (d : Delims) (c v : List ℕ) : Type 0 where
@@ -40,23 +40,6 @@ pub record Ok (d : Delims) (f : List ℕ) : Type 0 where
 pub data Oks (d : Delims) : List (List ℕ) → Type 0 where
   last : Oks d []
   next : {f : List ℕ} {fs : List (List ℕ)} → Ok d f → Oks d fs → Oks d (f ∷ fs)
-
-pub has-neither : (x : ℕ) (a b : List ℕ) → has x a ≡ false → has x b ≡ false → has x (a ++ b) ≡ false
-has-neither x a b h k = rw (has-append x a b, h, k)
-
-has-led : (x y : ℕ) → eqb y x ≡ false → (ps : List (List ℕ)) → frees x ps ≡ true → has x (led y ps) ≡ false
-unfolding led frees
-has-led x y n [] h = has-nil x
-has-led x y n (p ∷ ps) h =
-    let q = both (not (has x p)) (frees x ps) h in
-    has-there x y (p ++ led y ps) n ∙ has-neither x p (led y ps) (not-true (has x p) (q .0)) (has-led x y n ps (q .1))
-
-has-join : (x y : ℕ) → eqb y x ≡ false → (ps : List (List ℕ)) → frees x ps ≡ true → has x (join y ps) ≡ false
-unfolding join frees
-has-join x y n [] h = has-nil x
-has-join x y n (p ∷ ps) h =
-    let q = both (not (has x p)) (frees x ps) h in
-    has-neither x p (led y ps) (not-true (has x p) (q .0)) (has-led x y n ps (q .1))
 
 -- a field of some components: none repeats, and it is cut into them
 pub record FieldIs (d : Delims) (f : List ℕ) (cs vs : List (List ℕ)) : Type 0 where
@@ -108,14 +91,14 @@ module _ (d : Delims) (p : Proper d) where
   unfolding composed
   several {c} {v} {cs} {vs} x y =
       let z = also x y in
-      let o = delim-one (d .component) (p .c-in) in
+      let o = delim-one (d .component) (p .component) in
       let m = met-join (d .component) o (c ∷ cs) (comps-clean z) in
       record {
         ok = record {
           clean = clean-join (d .component) o (c ∷ cs) (comps-clean z);
-          free = rw m (has-join (d .field) (d .component) (p .c-f) (map met (c ∷ cs)) (comps-free (d .field) (by-field d p) z));
+          free = rw m (has-join (d .field) (d .component) (p .component-field) (map met (c ∷ cs)) (comps-free (d .field) (by-field d p) z));
         };
-        once = rw m (has-join (d .repetition) (d .component) (p .c-r) (map met (c ∷ cs)) (comps-free (d .repetition) (by-repetition d p) z));
+        once = rw m (has-join (d .repetition) (d .component) (p .component-repetition) (map met (c ∷ cs)) (comps-free (d .repetition) (by-repetition d p) z));
         says = z;
         cut = rw m (split-join (d .component) (met c) (map met cs) (comps-free (d .component) (by-component d p) z));
       }
@@ -164,11 +147,11 @@ module _ (d : Delims) (p : Proper d) where
   oks-free (next x y) = cc (x .free, oks-free y)
 
   pub segment-clean : {fs : List (List ℕ)} → Oks d fs → Clean (join (d .field) fs)
-  segment-clean {fs} x = clean-join (d .field) (delim-one (d .field) (p .f-in)) fs (oks-clean x)
+  segment-clean {fs} x = clean-join (d .field) (delim-one (d .field) (p .field)) fs (oks-clean x)
 
   segment-cut : {f : List ℕ} {fs : List (List ℕ)} → Oks d (f ∷ fs) → split (d .field) (met (join (d .field) (f ∷ fs))) ≡ map met (f ∷ fs)
   segment-cut {f} {fs} x =
-      rw (met-join (d .field) (delim-one (d .field) (p .f-in)) (f ∷ fs) (oks-clean x)) (split-join (d .field) (met f) (map met fs) (oks-free x))
+      rw (met-join (d .field) (delim-one (d .field) (p .field)) (f ∷ fs) (oks-clean x)) (split-join (d .field) (met f) (map met fs) (oks-free x))
 
   pub field-at : {f : List ℕ} {fs : List (List ℕ)} → Oks d (f ∷ fs) → (n : Name) (at i : ℕ)
       → fieldOf d (record { name = n; start = at; body = met (join (d .field) (f ∷ fs)) }) i ≡ nth (map met (f ∷ fs)) (pieceOf n i)

@@ -1,7 +1,3 @@
-pub mod General
-pub mod Clean
-pub mod Escaped
-pub mod Plain
 pub mod Fields
 pub mod Groups
 pub mod Segments

@@ -21,9 +21,9 @@ use Rattle.rules.specs.Sheet.{nextGroups, good, valid}
 use Rattle.rules.specs.Message.{blanks, encoding, Piece, piece, piecesOf, specimens, results, pieces, segmentText, written, messageOf}
 use Rattle.rules.proofs.Logic.{cases, never, both, or-true, eqb-self}
 use Rattle.rules.proofs.Split.{split-ended, butLast-snoc, last-snoc}
-use Rattle.returns.proofs.General.{inNames, name-is}
-use Rattle.returns.proofs.Clean.{Cleans, cleans-free, cleans-ended, end-0D}
-use Rattle.returns.proofs.Escaped.{Proper, proper}
+use Rattle.rules.proofs.Names.{inNames, name-is}
+use Rattle.rules.proofs.Header.{Proper, proper}
+use Rattle.rules.proofs.Clean.{Cleans, cleans-free, cleans-ended, end-0D}
 use Rattle.returns.proofs.Fields.{segment-clean}
 use Rattle.returns.proofs.Groups.{Facts, facts}
 use Rattle.returns.proofs.Segments.{Said, none, more, knownAs, meets, spm, pv1, obr, orc, msh}

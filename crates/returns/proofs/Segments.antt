@@ -23,11 +23,11 @@ use Rattle.rules.specs.Check.{ownFault, laterFault, partFault, numberOf, faultT
 use Rattle.rules.specs.Row.{Line, line, lines, fourAt, Row, header, visit, specimen, order, rowOf}
 use Rattle.rules.specs.Message.{blanks, decimal, decimalTo, encoding, Piece, piece, piecesOf, segmentText}
 use Rattle.rules.proofs.Logic.{cases}
-use Rattle.rules.proofs.Lists.{same-self}
-use Rattle.returns.proofs.General.{in-range, all-append}
-use Rattle.returns.proofs.Clean.{Cleans}
-use Rattle.returns.proofs.Escaped.{Proper, plainByte}
-use Rattle.returns.proofs.Plain.{bytewise}
+use Rattle.rules.proofs.Lists.{same-self, in-range, all-append}
+use Rattle.rules.proofs.Header.{Proper}
+use Rattle.rules.proofs.Clean.{Cleans}
+use Rattle.rules.proofs.Escaped.{plainByte}
+use Rattle.rules.proofs.Plain.{bytewise}
 use Rattle.returns.proofs.Fields.{Ok, Oks, last, next, also, end, FieldIs, escaped, plain, nothing, comp-ok, single, several, value-at, judge-at, field-at, oks-blanks, ok-cons}
 use Rattle.returns.proofs.Groups.{Keeps, no-fault, Facts}
 
@@ -200,11 +200,11 @@ module _ (d : Delims) (p : Proper d) where
       let x10 = single d p (escaped d p control (C .1 .1 .1 .0)) in
       let x11 = single d p (escaped d p mode (C .1 .0)) in
       let x12 = single d p (plain d p (bytes "2.5") refl) in
-      let o2 = ok-cons d p (d .sub) [] (p .s-in) (p .s-f) blankOk in
-      let o2 = ok-cons d p (d .escape) _ (p .e-in) (p .e-f) (o2 .0) in
-      let o2 = ok-cons d p (d .repetition) _ (p .r-in) (p .r-f) (o2 .0) in
-      let o2 = ok-cons d p (d .component) _ (p .c-in) (p .c-f) (o2 .0) in
-      let o18 = ok-cons d p (d .repetition) (bytes "ISO IR87") (p .r-in) (p .r-f) (wordOk (bytes "ISO IR87") refl) in
+      let o2 = ok-cons d p (d .sub) [] (p .sub) (p .sub-field) blankOk in
+      let o2 = ok-cons d p (d .escape) _ (p .escape) (p .escape-field) (o2 .0) in
+      let o2 = ok-cons d p (d .repetition) _ (p .repetition) (p .repetition-field) (o2 .0) in
+      let o2 = ok-cons d p (d .component) _ (p .component) (p .component-field) (o2 .0) in
+      let o18 = ok-cons d p (d .repetition) (bytes "ISO IR87") (p .repetition) (p .repetition-field) (wordOk (bytes "ISO IR87") refl) in
       let o =
       next (wordOk (bytes "MSH") refl) (next (o2 .0) (oks-blanks d p 4 (next (x7 .ok) (next blankOk (next (x9 .ok) (next (x10 .ok) (next (x11 .ok) (next (x12 .ok)
       (oks-blanks d p 5 (next (o18 .0) (next blankOk (next (wordOk (bytes "ISO 2022-1994") refl) last)))))))))))) in

@@ -16,11 +16,11 @@ use Rattle.rules.specs.Frame.{is, rank}
 use Rattle.rules.specs.Value.{holds, words}
 use Rattle.rules.specs.Row.{Line, line, lines, Row, header, patient, visit, specimen, order, result, groupOf, values, rowOf}
 use Rattle.rules.specs.Sheet.{keyOf, linesText, rowLines, sheetOf, lineOk, lineTold, nextGroups, opens, openedBy, rowsTold, linesOf, readSheet, good, valid}
-use Rattle.rules.proofs.Logic.{cases, toldCases, never, both, not-false, guard, eqb-sym, eqb-self}
-use Rattle.rules.proofs.Lists.{any-cons, starts-eq, starts-own, drop-own, from, exactly}
-use Rattle.rules.proofs.Split.{frees, ended-lines, split-ended, butLast-snoc, last-snoc}
-use Rattle.returns.proofs.General.{inNames, name-is, listCases, not-given, one-word, split-frees, butLast-frees}
-use Rattle.returns.proofs.Clean.{Cleans, clean-append, clean-rest, cleans-append, cleans-parts, end-0A, cleans-free, ended-cleans, cleans-ended}
+use Rattle.rules.proofs.Logic.{cases, toldCases, never, both, not-false, guard, eqb-sym, eqb-self, listCases, not-given}
+use Rattle.rules.proofs.Lists.{any-cons, starts-eq, starts-own, drop-own, from, exactly, one-word}
+use Rattle.rules.proofs.Split.{frees, ended-lines, split-ended, butLast-snoc, last-snoc, split-frees, butLast-frees}
+use Rattle.rules.proofs.Names.{inNames, name-is}
+use Rattle.rules.proofs.Clean.{Cleans, clean-append, clean-rest, cleans-append, cleans-parts, end-0A, cleans-free, ended-cleans, cleans-ended}
 use Rattle.returns.proofs.Groups.{facts, must-filled, meets-rule}
 use Rattle.returns.proofs.Messages.{first, Tidy}
 

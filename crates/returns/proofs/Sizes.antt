@@ -22,13 +22,13 @@ use Rattle.rules.specs.Row.{line, lines, fourAt, Row, header, patient, visit, s
 use Rattle.rules.specs.Sheet.{valid}
 use Rattle.rules.specs.Message.{composed, blanks, encoding, decimal, decimalTo, nameText, namesText, valueText, Piece, piecesOf, specimens, results, pieces, segmentText}
 use Rattle.rules.proofs.Logic.{cases, both}
-use Rattle.rules.proofs.Lists.{empty-is}
-use Rattle.returns.proofs.General.{one-of}
-use Rattle.returns.proofs.Clean.{Clean, Cleans}
-use Rattle.returns.proofs.Escaped.{Proper, plainByte, word, escaped-length}
-use Rattle.returns.proofs.Plain.{bytewise, number-plain, digits-plain, capitals-plain}
+use Rattle.rules.proofs.Lists.{empty-is, one-of}
+use Rattle.rules.proofs.Header.{Proper}
+use Rattle.rules.proofs.Clean.{Clean, Cleans}
+use Rattle.rules.proofs.Measures.{total, join-total}
+use Rattle.rules.proofs.Escaped.{plainByte, word, escaped-length}
+use Rattle.rules.proofs.Plain.{bytewise, number-plain, digits-plain, capitals-plain}
 use Rattle.returns.proofs.Groups.{Facts, facts, meets-rule}
-use Rattle.returns.proofs.Measures.{total, join-total}
 use Rattle.returns.proofs.Segments.{pieceAt}
 use Rattle.returns.proofs.Messages.{first, Tidy}
 

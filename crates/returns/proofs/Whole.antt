@@ -2,9 +2,9 @@
 -- the piece is. Assumes nothing.
 use mathlib.Core.Path.{_≡_, refl, sym, ap, _∙_}
 use mathlib.Core.Bool.{Bool, true, false}
-use mathlib.Core.List.{List, [], _∷_, map}
+use mathlib.Core.List.{List, [], _∷_}
 use mathlib.Core.Option.{Option, none, some}
-use Prim.Native.Nat.{ℕ, zero, suc, _≤_}
+use Prim.Native.Nat.{ℕ, _≤_}
 use native.Mathlib.Omega.{arith}
 use borrow.Author.Tests.{eqb-true, eq-eqb}
 use lib.Dec.{eqb}
@@ -13,18 +13,19 @@ use Rattle.rules.specs.declared.Delims.{Delims}
 use Rattle.rules.specs.declared.Mode.{Mode}
 use Rattle.rules.specs.declared.Mode.the-variants.{One, Bad}
 use Rattle.rules.specs.Told.{_when_}
-use Rattle.rules.specs.Lists.{bytes, empty, same, has, any, split, onto, nth}
+use Rattle.rules.specs.Lists.{bytes, empty, same, has, any, split, nth}
 use Rattle.rules.specs.Shift.{walk, isOne, step, mark, marks, met, byteOf}
 use Rattle.rules.specs.Value.{Rule, fault}
 use Rattle.rules.specs.Escape.{Letter, letters, meaning, At, plain, opened, named, push, unescapeAt, unescape}
 use Rattle.rules.specs.Judge.{unescapedOr, plainOf, faultOr23, judge}
-use Rattle.rules.proofs.Logic.{cases, optionCases, never, then-none, when-none}
+use Rattle.rules.proofs.Logic.{cases, optionCases, never, then-none, when-none, nothing-some}
 use Rattle.rules.proofs.Lists.{same-eq, same-self}
-use Rattle.rules.proofs.Split.{split-nil, split-here, split-there}
-use Rattle.rules.proofs.Modes.{one-is, marks-nil, length-marks, met-one}
-use Rattle.returns.proofs.General.{nothing-some}
-use Rattle.returns.proofs.Clean.{Clean, Cleans, not-bad, agree, nth-met}
-use Rattle.returns.proofs.Escaped.{twelve, Delim, Proper, delim-one, delim-small, small-one, byte-far, byte-near}
+use Rattle.rules.proofs.Modes.{one-is, length-marks, met-one}
+use Rattle.rules.proofs.Header.{twelve, Delim, Proper, delim-one, delim-small}
+use Rattle.rules.proofs.Clean.{Clean, not-bad, agree, clean-keeps, keeps-clean, clean-free, end-0D}
+use Rattle.rules.proofs.Pieces.{piece-bytes}
+use Rattle.rules.proofs.Escaped.{small-one, byte-far, byte-near}
+use Rattle.rules.proofs.Where.{cut}
 use Rattle.returns.proofs.Groups.{Keeps}
 
 -- a text as it is met that begins in one-byte mode and ends there
@@ -33,60 +34,15 @@ pub record Whole (r : List ℕ) : Type 0 where
   pub is : r ≡ met text
   pub clean : Clean text
 
--- ---- cut at a delimiter
-record Cut (x : ℕ) (m : Mode) (s : List ℕ) : Type 0 where
-  p : List ℕ
-  ps : List (List ℕ)
-  is : split x (marks 0x0D m s) ≡ marks 0x0D m p ∷ map met ps
-  walks : walk 0x20 m p ≡ One
-  rest : Cleans ps
-
-marks-on : (m : Mode) (b : ℕ) (s : List ℕ) → (step 0x20 m b ≡ Bad → ⊥) → marks 0x0D m (b ∷ s) ≡ mark m b ∷ marks 0x0D (step 0x20 m b) s
-unfolding marks
-marks-on m b s n = rw (agree 0x0D m b n)
-
-cut-on : (x : ℕ) → Delim x → (m : Mode) (b : ℕ) (s : List ℕ) → (step 0x20 m b ≡ Bad → ⊥) → Cut x (step 0x20 m b) s → Cut x m (b ∷ s)
-unfolding met walk onto
-cut-on x i m b s n c =
-    cases (eqb (mark m b) x)
-    (λ t.
-    let q = met-one m b x (delim-small x i) t in
-    let o : step 0x20 m b ≡ One = rw (q .0, q .1) (delim-one x i) in
-    let z : split x (marks 0x0D (step 0x20 m b) s) ≡ marks 0x0D One (c .p) ∷ map met (c .ps) = c .is ∙ (rw o) in
-    record {
-      p = [];
-      ps = c .p ∷ c .ps;
-      is = rw (marks-on m b s n, split-here x (mark m b) (marks 0x0D (step 0x20 m b) s) t, z, marks-nil 0x0D m);
-      walks = q .0;
-      rest = (rw o at (c .walks), c .rest);
-    })
-    (λ t.
-    record {
-      p = b ∷ c .p;
-      ps = c .ps;
-      is = rw (marks-on m b s n, marks-on m b (c .p) n, split-there x (mark m b) (marks 0x0D (step 0x20 m b) s) t, c .is);
-      walks = c .walks;
-      rest = c .rest;
-    })
-
-cut : (x : ℕ) → Delim x → (m : Mode) (s : List ℕ) → walk 0x20 m s ≡ One → Cut x m s
-unfolding walk
-cut x i m [] h = record { p = []; ps = []; is = rw (marks-nil 0x0D m) (split-nil x); walks = h; rest = tt }
-cut x i m (b ∷ s) h = cut-on x i m b s (not-bad 0x20 (step 0x20 m b) s h) (cut x i (step 0x20 m b) s h)
-
-clean-nth : (ps : List (List ℕ)) (i : ℕ) → Cleans ps → Clean (nth ps i)
-clean-nth [] i h = unfold walk in refl
-clean-nth (p ∷ ps) zero h = h .0
-clean-nth (p ∷ ps) (suc i) h = clean-nth ps i (h .1)
-
 -- a piece of such a text is one
 pub whole-nth : (x : ℕ) → Delim x → (r : List ℕ) → Whole r → (i : ℕ) → Whole (nth (split x r) i)
-unfolding met
 whole-nth x h r w i =
-    let c = cut x h One (w .text) (w .clean) in
-    let ps = c .p ∷ c .ps in
-    let e : split x r ≡ map met ps = rw (w .is) (c .is) in
-    record { text = nth ps i; is = rw e (nth-met ps i); clean = clean-nth ps i (c .walks, c .rest) }
+    let c = cut x i (w .text) h (clean-keeps 0x0D (w .text) (w .clean)) in
+    record {
+      text = c .own;
+      is = ap (λ (t : List ℕ). nth (split x t) i) (w .is) ∙ sym (c .is);
+      clean = keeps-clean 0x0D (c .own) (c .own-kept) (piece-bytes c 0x0D (clean-free 0x0D end-0D One (w .text) (w .clean)) .1);
+    }
 
 pub whole-nil : Whole []
 whole-nil = record { text = []; is = unfold met marks in refl; clean = unfold walk in refl }
@@ -122,11 +78,11 @@ meaning-first r rs l x h f g = cases (eqb l (r .letter)) (λ e. f (sym (eqb-true
 means : (d : Delims) → Proper d → (l x : ℕ) → meaning (letters d) l ≡ some x → Delim x × (step 0x20 One l ≡ One)
 unfolding letters step
 means d p l x h =
-    meaning-first _ _ l x h (λ e f. (rw f at (p .f-in), rw (← e)))
-    (λ h. meaning-first _ _ l x h (λ e f. (rw f at (p .c-in), rw (← e)))
-    (λ h. meaning-first _ _ l x h (λ e f. (rw f at (p .s-in), rw (← e)))
-    (λ h. meaning-first _ _ l x h (λ e f. (rw f at (p .r-in), rw (← e)))
-    (λ h. meaning-first _ _ l x h (λ e f. (rw f at (p .e-in), rw (← e)))
+    meaning-first _ _ l x h (λ e f. (rw f at (p .field), rw (← e)))
+    (λ h. meaning-first _ _ l x h (λ e f. (rw f at (p .component), rw (← e)))
+    (λ h. meaning-first _ _ l x h (λ e f. (rw f at (p .sub), rw (← e)))
+    (λ h. meaning-first _ _ l x h (λ e f. (rw f at (p .repetition), rw (← e)))
+    (λ h. meaning-first _ _ l x h (λ e f. (rw f at (p .escape), rw (← e)))
     (λ h. let z : none ≡ some x = unfold meaning in h in nothing-some z)))))
 
 module _ (d : Delims) (b : ℕ) (s v : List ℕ) {P : Type 0} where
@@ -164,8 +120,8 @@ module _ (d : Delims) (p : Proper d) where
       let g = agree 0x0D m b n in
       plain-step d (mark m b) (marks 0x0D (step 0x0D m b) c) v u
       (λ e u′.
-      let q = met-one m b (d .escape) (delim-small (d .escape) (p .e-in)) e in
-      let o : step 0x20 m b ≡ One = rw (q .0, q .1) (delim-one (d .escape) (p .e-in)) in
+      let q = met-one m b (d .escape) (delim-small (d .escape) (p .escape)) e in
+      let o : step 0x20 m b ≡ One = rw (q .0, q .1) (delim-one (d .escape) (p .escape)) in
       let r = unescaped-law c opened (step 0x20 m b) v o h (rw g at u′) in
       (cc (r .0), omega (arith, r .1)))
       (λ w e u′ k.
@@ -186,8 +142,8 @@ module _ (d : Delims) (p : Proper d) where
       let g = agree 0x0D m b n in
       named-step d (mark m b) (marks 0x0D (step 0x0D m b) c) v x u
       (λ w e u′ k.
-      let q = met-one m b (d .escape) (delim-small (d .escape) (p .e-in)) e in
-      let o : step 0x20 m b ≡ One = rw (q .0, q .1) (delim-one (d .escape) (p .e-in)) in
+      let q = met-one m b (d .escape) (delim-small (d .escape) (p .escape)) e in
+      let o : step 0x20 m b ≡ One = rw (q .0, q .1) (delim-one (d .escape) (p .escape)) in
       let o′ : step 0x20 m x ≡ One = rw (q .0) (delim-one x (f .1)) in
       let r = unescaped-law c plain (step 0x20 m b) w tt h (rw g at u′) in
       (rw (k, o′) (rw o at (r .0)), rw k (omega (arith, r .1))))

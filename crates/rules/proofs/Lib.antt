@@ -1,5 +1,13 @@
 pub mod Logic
 pub mod Lists
 pub mod Split
+pub mod Measures
 pub mod Modes
+pub mod Clean
+pub mod Header
+pub mod Names
+pub mod Pieces
+pub mod Escaped
+pub mod Plain
+pub mod Where
 pub mod Unique

@@ -1,16 +1,16 @@
 -- Laws of plain lists of bytes. Assumes nothing.
 use mathlib.Core.Path.{_≡_, refl, sym, ap, _∙_}
-use mathlib.Core.Bool.{Bool, true, false, cond, not, _&&_, _||_, false≢true}
-use mathlib.Core.List.{List, [], _∷_, _++_, append-assoc, append-nil}
+use mathlib.Core.Bool.{Bool, true, false, _&&_, _||_, false≢true}
+use mathlib.Core.List.{List, [], _∷_, _++_, append-assoc}
 use Prim.Native.Nat.{ℕ, zero, suc, _+_, _-_, _≤_, _<_}
 use native.Mathlib.Numerals.{add-one}
 use native.Mathlib.Omega.{arith}
-use borrow.Author.Tests.{eqb-true}
+use borrow.Author.Tests.{eqb-true, eqb-false}
 use lib.Dec.{eqb}
 use lib.ListN.{length, getD, take, drop, drop-of-length-le, length-drop}
 use lib.Seq.{drop-cons, take-all, take-suc, length-take-le}
 use Rattle.rules.specs.Lists.{empty, nth, same, starts, all, any, has}
-use Rattle.rules.proofs.Logic.{cases, never, eqb-self}
+use Rattle.rules.proofs.Logic.{cases, never, eqb-self, neither}
 
 -- ---- a walk by an index
 pub here : {A : Type 0} (d : A) (s : List A) (i : ℕ) → i < length s → drop i s ≡ getD s i d ∷ drop (i + 1) s
@@ -52,6 +52,13 @@ pub starts-own : (k w : List ℕ) → starts k (k ++ w) ≡ true
 unfolding starts
 starts-own [] w = refl
 starts-own (b ∷ k) w = cc (eqb-self b, starts-own k w)
+
+-- only the first bytes count
+pub starts-prefix : (k p x : List ℕ) → length k ≤ length p → starts k (p ++ x) ≡ starts k p
+unfolding starts
+starts-prefix [] p x h = refl
+starts-prefix (b ∷ k) [] x h = absurd (omega arith)
+starts-prefix (b ∷ k) (a ∷ p) x h = cases (eqb a b) (λ e. rw (e, starts) (starts-prefix k p x (omega arith))) (λ e. rw (e, starts))
 
 pub drop-own : {A : Type 0} (k w : List A) → drop (length k) (k ++ w) ≡ w
 drop-own [] w = refl
@@ -122,6 +129,58 @@ has-append x (y ∷ a) b =
     (λ e. cc (has-here x y a e, has-here x y (a ++ b) e))
     (λ e. cc (has-there x y a e, has-there x y (a ++ b) e, has-append x a b))
 
+pub one-free : (x b : ℕ) → eqb b x ≡ false → has x (b ∷ []) ≡ false
+one-free x b e = has-there x b [] e ∙ has-nil x
+
+pub has-neither : (x : ℕ) (a b : List ℕ) → has x a ≡ false → has x b ≡ false → has x (a ++ b) ≡ false
+has-neither x a b h k = rw (has-append x a b, h, k)
+
+pub has-parts : (x : ℕ) (a b c : List ℕ) → has x (a ++ (b ++ c)) ≡ false → (has x a ≡ false) × (has x b ≡ false)
+has-parts x a b c h =
+    let p = neither (has x a) (has x (b ++ c)) (sym (has-append x a (b ++ c)) ∙ h) in
+    (p .0, neither (has x b) (has x c) (sym (has-append x b c) ∙ p .1) .0)
+
+-- ---- what holds of each, of one
+pub in-all : (p : ℕ → Bool) (x : ℕ) (s : List ℕ) → has x s ≡ true → all p s ≡ true → p x ≡ true
+in-all p x [] h k = never (sym h ∙ has-nil x)
+in-all p x (b ∷ s) h k =
+    let q = all-first p b s k in
+    cases (eqb b x) (λ e. rw (eqb-true b x e) at (q .0)) (λ e. in-all p x s (sym (has-there x b s e) ∙ h) (q .1))
+
+pub all-append : (p : ℕ → Bool) (s t : List ℕ) → all p s ≡ true → all p t ≡ true → all p (s ++ t) ≡ true
+unfolding all
+all-append p [] t h k = k
+all-append p (x ∷ s) t h k = let q = all-first p x s h in cc (all-append p s t (q .1) k)
+
+pub all-each : (p q : ℕ → Bool) → ((b : ℕ) → p b ≡ true → q b ≡ true) → (s : List ℕ) → all p s ≡ true → all q s ≡ true
+unfolding all
+all-each p q f [] h = refl
+all-each p q f (b ∷ s) h = let r = all-first p b s h in cc (f b (r .0), all-each p q f s (r .1))
+
+-- one of some words
+pub one-of : (p : List ℕ → Bool) (v : List ℕ) (ps : List (List ℕ)) → any (same v) ps ≡ true → all p ps ≡ true → p v ≡ true
+unfolding any
+one-of p v [] h k = never (sym h)
+one-of p v (q ∷ ps) h k =
+    let r = all-first p q ps k in
+    cases (same v q) (λ e. rw (same-eq v q e) (r .0)) (λ e. one-of p v ps (rw (e, any) at h) (r .1))
+
+pub one-word : (v w : List ℕ) → any (same v) (w ∷ []) ≡ true → v ≡ w
+unfolding any
+one-word v w h = cases (same v w) (λ e. same-eq v w e) (λ e. cc)
+
+-- what holds for each number of a range
+unfoldable pub range : ℕ → ℕ → List ℕ
+range low zero = []
+range low (suc n) = low ∷ range (suc low) n
+
+pub in-range : (p : ℕ → Bool) (low n : ℕ) → all p (range low n) ≡ true → (b : ℕ) → low ≤ b → b < low + n → p b ≡ true
+unfolding range
+in-range p low zero h b l u = absurd (omega arith)
+in-range p low (suc n) h b l u =
+    let q = all-first p low (range (suc low) n) h in
+    cases (eqb low b) (λ e. rw (eqb-true low b e) at (q .0)) (λ e. in-range p (suc low) n (q .1) b (omega (arith, eqb-false low b e)) (omega arith))
+
 -- ---- the n-th of some texts
 -- where another is altered; where empty ones are put last
 pub nth-other : (ps : List (List ℕ)) (x y : List ℕ) (r : List (List ℕ)) (j : ℕ) → (j ≡ length ps → ⊥) → nth (ps ++ (x ∷ r)) j ≡ nth (ps ++ (y ∷ r)) j
@@ -134,6 +193,19 @@ pub nth-more : (ps xs : List (List ℕ)) (j : ℕ) → ((i : ℕ) → j ≡ leng
 nth-more [] xs j h = h j (omega arith)
 nth-more (p ∷ ps) xs zero h = refl
 nth-more (p ∷ ps) xs (suc j) h = nth-more ps xs j (λ i e. h i (omega arith))
+
+-- where it is the one
+pub nth-at : (ps : List (List ℕ)) (x : List ℕ) (r : List (List ℕ)) → nth (ps ++ (x ∷ r)) (length ps) ≡ x
+nth-at [] x r = refl
+nth-at (p ∷ ps) x r = nth-at ps x r
+
+pub nth-zero : (ps : List (List ℕ)) (x : List ℕ) (r : List (List ℕ)) → length ps ≡ 0 → nth (ps ++ (x ∷ r)) 0 ≡ x
+nth-zero [] x r h = refl
+nth-zero (p ∷ ps) x r h = absurd (omega arith)
+
+pub nth-first : (ps : List (List ℕ)) (x y : List ℕ) (r s : List (List ℕ)) → 0 < length ps → nth (ps ++ (x ∷ r)) 0 ≡ nth (ps ++ (y ∷ s)) 0
+nth-first [] x y r s h = absurd (omega arith)
+nth-first (p ∷ ps) x y r s h = refl
 
 -- a list of a known length is the list of its elements
 unfoldable pub from : List (List ℕ) → ℕ → ℕ → List (List ℕ)

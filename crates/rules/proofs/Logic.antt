@@ -1,13 +1,13 @@
 -- Going by cases, and the laws of tests: what every proof of the library stands on. Assumes nothing.
 use mathlib.Core.Path.{_≡_, refl, sym}
 use mathlib.Core.Bool.{Bool, true, false, cond, not, _&&_, _||_, false≢true}
-use mathlib.Core.List.{List}
+use mathlib.Core.List.{List, [], _∷_}
 use mathlib.Core.Option.{Option, none, some}
 use Prim.Native.Nat.{ℕ, zero, suc}
 use borrow.Author.Tests.{eqb-true, eqb-false, eq-eqb, ne-eqb}
 use native.Mathlib.Omega.{arith}
 use lib.Dec.{eqb}
-use Rattle.rules.specs.Told.{Told, gives, refused, _>>_, _>>=_, _then_, _when_}
+use Rattle.rules.specs.Told.{Told, gives, refused, _>>_, _then_, _when_}
 
 -- ---- by cases, with the equation
 pub cases : {P : Type 0} (t : Bool) → (t ≡ true → P) → (t ≡ false → P) → P
@@ -17,6 +17,10 @@ cases false f g = g refl
 pub optionCases : {A P : Type 0} (o : Option A) → ((v : A) → o ≡ some v → P) → (o ≡ none → P) → P
 optionCases none f g = g refl
 optionCases (some v) f g = f v refl
+
+pub listCases : {A P : Type 0} (s : List A) → (s ≡ [] → P) → ((x : A) (r : List A) → s ≡ x ∷ r → P) → P
+listCases [] f g = f refl
+listCases (x ∷ r) f g = g x r refl
 
 pub toldCases : {A P : Type 0} (t : Told A) → ((a : A) → t ≡ gives a → P) → ((n s f : ℕ) → t ≡ refused n s f → P) → P
 toldCases (gives a) f g = f a refl
@@ -29,6 +33,13 @@ zeroCases (suc n) f g = g n refl
 -- what is both so and not so is nowhere
 pub never : {P : Type 0} → true ≡ false → P
 never h = absurd (false≢true (sym h))
+
+-- a refusal gives nothing
+pub not-given : {A P : Type 0} {n s f : ℕ} {a : A} → refused n s f ≡ gives a → P
+not-given h = let z : _≡_ {A = ℕ} 0 1 = cc in absurd (omega arith)
+
+pub nothing-some : {A P : Type 0} {a : A} → none ≡ some a → P
+nothing-some h = let z : _≡_ {A = ℕ} 0 1 = cc in absurd (omega arith)
 
 -- ---- tests
 pub both : (a b : Bool) → (a && b) ≡ true → (a ≡ true) × (b ≡ true)
@@ -47,6 +58,11 @@ pub not-false : (a : Bool) → not a ≡ false → a ≡ true
 not-false true h = refl
 not-false false h = never h
 
+-- one of two tests
+pub either : (x y : Bool) {P : Type 0} → (x || y) ≡ true → (x ≡ true → P) → (y ≡ true → P) → P
+either true y h f g = f refl
+either false y h f g = g h
+
 pub and-true : (a : Bool) → (a && true) ≡ a
 and-true true = refl
 and-true false = refl
@@ -58,6 +74,11 @@ and-false false = refl
 pub and-assoc : (a b c : Bool) → (a && (b && c)) ≡ ((a && b) && c)
 and-assoc true b c = refl
 and-assoc false b c = refl
+
+pub and-swap : (a b c : Bool) → ((a && b) && c) ≡ ((a && c) && b)
+and-swap true true c = sym (and-true c)
+and-swap true false c = sym (and-false c)
+and-swap false b c = refl
 
 pub or-true : (a : Bool) → (a || true) ≡ true
 or-true true = refl

@@ -1,17 +1,28 @@
 -- Laws of the shift modes and of bytes as they are met. Assumes nothing.
-use mathlib.Core.Path.{_≡_, refl, sym, ap, _∙_}
-use mathlib.Core.Bool.{Bool, true, false, cond, not, _&&_, _||_}
+use mathlib.Core.Path.{_≡_, refl, ap, _∙_}
+use mathlib.Core.Bool.{true, cond, _&&_}
 use mathlib.Core.List.{List, [], _∷_, _++_}
 use Prim.Native.Nat.{ℕ, zero, suc, _+_, _-_, _<_, _≤_}
 use native.Mathlib.Omega.{arith}
 use borrow.Author.Tests.{eqb-true, ne-eqb, lt-ltb, le-ltb, le-leb}
-use lib.Dec.{eqb, leb, ltb}
+use lib.Dec.{eqb}
 use lib.ListN.{length, getD, take, drop}
 use Rattle.rules.specs.declared.Mode.{Mode}
 use Rattle.rules.specs.declared.Mode.the-variants.{One, Esc1, Esc2, Two, Second, Back1, Back2, Bad}
-use Rattle.rules.specs.Shift.{step, isOne, walk, keeps, mark, marks, met, byteOf, within}
+use Rattle.rules.specs.Shift.{step, isOne, walk, keeps, mark, marks, met, byteOf}
 use Rattle.rules.proofs.Logic.{cases, or-true}
 use Rattle.rules.proofs.Lists.{here, over}
+
+-- ---- what holds in each mode
+pub inModes : (P : Mode → Type 0) → P One → P Esc1 → P Esc2 → P Two → P Second → P Back1 → P Back2 → P Bad → (m : Mode) → P m
+inModes P a b c d e f g h One = a
+inModes P a b c d e f g h Esc1 = b
+inModes P a b c d e f g h Esc2 = c
+inModes P a b c d e f g h Two = d
+inModes P a b c d e f g h Second = e
+inModes P a b c d e f g h Back1 = f
+inModes P a b c d e f g h Back2 = g
+inModes P a b c d e f g h Bad = h
 
 pub one-is : (m : Mode) → isOne m ≡ true → m ≡ One
 unfolding isOne
@@ -62,10 +73,37 @@ pub met-append : (a b : List ℕ) → keeps 0x0D a ≡ true → met (a ++ b) ≡
 unfolding met keeps
 met-append a b h = marks-append 0x0D One a b ∙ rw (one-is (walk 0x0D One a) h)
 
+pub met-three : (s v r : List ℕ) → keeps 0x0D s ≡ true → keeps 0x0D v ≡ true → met (s ++ (v ++ r)) ≡ met s ++ (met v ++ met r)
+met-three s v r hs hv = cc (met-append s (v ++ r) hs, met-append v r hv)
+
 pub length-marks : (end : ℕ) (m : Mode) (a : List ℕ) → length (marks end m a) ≡ length a
 unfolding marks
 length-marks end m [] = refl
 length-marks end m (x ∷ a) = ap suc (length-marks end (step end m x) a)
+
+pub length-met : (s : List ℕ) → length (met s) ≡ length s
+unfolding met
+length-met s = length-marks 0x0D One s
+
+mark-unique : (m : Mode) (x y : ℕ) → mark m x ≡ mark m y → x ≡ y
+unfolding mark
+mark-unique m x y e =
+    cases (isOne m) (λ o. rw o at e) (λ o. let z : 256 + x ≡ 256 + y = rw o at e in omega arith)
+
+marks-unique : (m : Mode) (a b : List ℕ) → marks 0x0D m a ≡ marks 0x0D m b → a ≡ b
+unfolding marks
+marks-unique m [] [] e = refl
+marks-unique m [] (y ∷ b) e = cc
+marks-unique m (x ∷ a) [] e = cc
+marks-unique m (x ∷ a) (y ∷ b) e =
+    let q = mark-unique m x y (cc) in
+    let r : marks 0x0D (step 0x0D m y) a ≡ marks 0x0D (step 0x0D m y) b = cc in
+    cc (q, marks-unique (step 0x0D m y) a b r)
+
+-- two texts that are met the same are the same
+pub met-unique : (a b : List ℕ) → met a ≡ met b → a ≡ b
+unfolding met
+met-unique a b e = marks-unique One a b e
 
 -- what a walk by an index sees at i, and at the end
 pub marks-here : (end : ℕ) (s : List ℕ) (i : ℕ) (m : Mode) → i < length s

@@ -1,15 +1,14 @@
 -- Laws of splitting at a separator, of joining, and of lines that are each ended. Assumes nothing.
 use mathlib.Core.Path.{_≡_, refl, sym, ap, _∙_}
-use mathlib.Core.Bool.{Bool, true, false, cond, not, _&&_, _||_}
+use mathlib.Core.Bool.{Bool, true, false, not, _&&_}
 use mathlib.Core.List.{List, [], _∷_, _++_, append-nil, append-assoc}
-use Prim.Native.Nat.{ℕ, zero, suc, _+_, _-_, _<_, _≤_}
-use native.Mathlib.Omega.{arith}
+use Prim.Native.Nat.{ℕ, suc, _+_}
 use borrow.Author.Tests.{eqb-true}
 use lib.Dec.{eqb}
-use lib.ListN.{length, getD, take, drop}
+use lib.ListN.{length, drop}
 use Rattle.rules.specs.Lists.{empty, nth, has, onto, split, allButLast, last, led, join, ended}
 use Rattle.rules.proofs.Logic.{cases, both, not-true, eqb-self}
-use Rattle.rules.proofs.Lists.{empty-is, has-first, has-nil}
+use Rattle.rules.proofs.Lists.{empty-is, has-first, has-nil, has-there, one-free, has-neither}
 
 -- the first piece of s, and the pieces after it
 unfoldable pub front : ℕ → List ℕ → List ℕ
@@ -17,6 +16,17 @@ front sep s = nth (split sep s) 0
 
 unfoldable pub later : ℕ → List ℕ → List (List ℕ)
 later sep s = drop 1 (split sep s)
+
+-- how many separators stand in s, and what stands after the last of them
+unfoldable pub before : ℕ → List ℕ → ℕ
+before sep s = length (allButLast (split sep s))
+
+unfoldable pub since : ℕ → List ℕ → List ℕ
+since sep s = last (split sep s)
+
+-- the bytes so far of the segment
+abbrev pub here : List ℕ → List ℕ
+here p = since 0x0D p
 
 -- ---- one byte on
 pub split-nil : (sep : ℕ) → split sep [] ≡ [] ∷ []
@@ -67,6 +77,13 @@ split-none sep (b ∷ v) h = let g = has-first sep b v h in cc (split-there sep 
 pub split-at : (sep : ℕ) (q : List ℕ) → split sep (sep ∷ q) ≡ [] ∷ split sep q
 split-at sep q = split-here sep sep q (eqb-self sep)
 
+pub front-here : (sep : ℕ) (q : List ℕ) → front sep (sep ∷ q) ≡ []
+unfolding front
+front-here sep q = cc (split-at sep q)
+
+pub front-there : (sep b : ℕ) (q : List ℕ) → eqb b sep ≡ false → front sep (b ∷ q) ≡ b ∷ front sep q
+front-there sep b q e = front-free sep (b ∷ []) q (one-free sep b e)
+
 pub split-next : (sep : ℕ) (p s : List ℕ) → has sep p ≡ false → split sep (p ++ (sep ∷ s)) ≡ p ∷ split sep s
 unfolding onto
 split-next sep [] s h = split-at sep s
@@ -95,6 +112,12 @@ split-glue sep (b ∷ p) q =
     cases (eqb b sep)
     (λ e. let g = glue-cons [] (split sep p) (front sep p) (later sep p) (split-cons sep p) in cc (split-here sep b p e, split-here sep b (p ++ q) e, split-glue sep p q, g .0, g .1))
     (λ e. cc (split-there sep b p e, split-there sep b (p ++ q) e, split-glue sep p q, onto-glue b (split sep p) (front sep q) (later sep q)))
+
+-- the pieces of a v r, with v without separators
+pub split-three : (sep : ℕ) (a v r : List ℕ) → has sep v ≡ false
+    → split sep (a ++ (v ++ r)) ≡ allButLast (split sep a) ++ ((since sep a ++ (v ++ front sep r)) ∷ later sep r)
+unfolding since
+split-three sep a v r h = cc (split-glue sep a (v ++ r), front-free sep v r h, later-free sep v r h)
 
 pub butLast-glue : (a : List (List ℕ)) (x : List ℕ) (r : List (List ℕ)) → allButLast (a ++ (x ∷ r)) ≡ a ++ allButLast (x ∷ r)
 unfolding allButLast
@@ -170,6 +193,59 @@ unfoldable pub frees : ℕ → List (List ℕ) → Bool
 frees sep [] = true
 frees sep (p ∷ ps) = not (has sep p) && frees sep ps
 
+pub frees-first : (sep : ℕ) (p : List ℕ) (ps : List (List ℕ)) → has sep p ≡ false → frees sep ps ≡ true → frees sep (p ∷ ps) ≡ true
+unfolding frees
+frees-first sep p ps h k = rw (h, k)
+
+pub frees-both : (sep : ℕ) (p : List ℕ) (ps : List (List ℕ)) → frees sep (p ∷ ps) ≡ true → (has sep p ≡ false) × (frees sep ps ≡ true)
+unfolding frees
+frees-both sep p ps h = let a = both (not (has sep p)) (frees sep ps) h in (not-true (has sep p) (a .0), a .1)
+
+pub frees-left : (sep : ℕ) (ps qs : List (List ℕ)) → frees sep (ps ++ qs) ≡ true → frees sep ps ≡ true
+frees-left sep [] qs h = unfold frees in refl
+frees-left sep (p ∷ ps) qs h =
+    let a = frees-both sep p (ps ++ qs) h in
+    frees-first sep p ps (a .0) (frees-left sep ps qs (a .1))
+
+pub frees-right : (sep : ℕ) (ps qs : List (List ℕ)) → frees sep (ps ++ qs) ≡ true → frees sep qs ≡ true
+frees-right sep [] qs h = h
+frees-right sep (p ∷ ps) qs h = frees-right sep ps qs (frees-both sep p (ps ++ qs) h .1)
+
+onto-frees : (x b : ℕ) (ps : List (List ℕ)) → eqb b x ≡ false → frees x ps ≡ true → frees x (onto b ps) ≡ true
+unfolding onto frees
+onto-frees x b [] e h = cc (has-there x b [] e, has-nil x)
+onto-frees x b (p ∷ ps) e h = cc (has-there x b p e)
+
+pub split-frees : (x : ℕ) (s : List ℕ) → frees x (split x s) ≡ true
+unfolding frees
+split-frees x [] = rw (split-nil x, has-nil x)
+split-frees x (b ∷ s) =
+    cases (eqb b x)
+    (λ e. rw (split-here x b s e, has-nil x) (split-frees x s))
+    (λ e. rw (split-there x b s e) (onto-frees x b (split x s) e (split-frees x s)))
+
+pub butLast-frees : (x : ℕ) (ps : List (List ℕ)) → frees x ps ≡ true → frees x (allButLast ps) ≡ true
+unfolding frees allButLast
+butLast-frees x [] h = refl
+butLast-frees x (p ∷ []) h = refl
+butLast-frees x (p ∷ q ∷ ps) h =
+    let r = both (not (has x p)) (frees x (q ∷ ps)) h in
+    cc (r .0, butLast-frees x (q ∷ ps) (r .1))
+
+pub has-led : (x y : ℕ) → eqb y x ≡ false → (ps : List (List ℕ)) → frees x ps ≡ true → has x (led y ps) ≡ false
+unfolding led frees
+has-led x y n [] h = has-nil x
+has-led x y n (p ∷ ps) h =
+    let q = both (not (has x p)) (frees x ps) h in
+    has-there x y (p ++ led y ps) n ∙ has-neither x p (led y ps) (not-true (has x p) (q .0)) (has-led x y n ps (q .1))
+
+pub has-join : (x y : ℕ) → eqb y x ≡ false → (ps : List (List ℕ)) → frees x ps ≡ true → has x (join y ps) ≡ false
+unfolding join frees
+has-join x y n [] h = has-nil x
+has-join x y n (p ∷ ps) h =
+    let q = both (not (has x p)) (frees x ps) h in
+    has-neither x p (led y ps) (not-true (has x p) (q .0)) (has-led x y n ps (q .1))
+
 pub split-join : (sep : ℕ) (p : List ℕ) (ps : List (List ℕ)) → frees sep (p ∷ ps) ≡ true → split sep (join sep (p ∷ ps)) ≡ p ∷ ps
 unfolding frees join led
 split-join sep p [] h =
@@ -191,11 +267,13 @@ ended-last sep p [] = sym (append-nil p)
 ended-last sep p (q ∷ ps) =
     append-assoc p (sep ∷ ended sep (allButLast (q ∷ ps))) (last (q ∷ ps)) ∙ ap (λ (r : List ℕ). p ++ (sep ∷ r)) (ended-last sep q ps)
 
+-- a text is its ended lines, and what stands after the last
+pub ended-split : (sep : ℕ) (s : List ℕ) → ended sep (allButLast (split sep s)) ++ last (split sep s) ≡ s
+ended-split sep s = cc (split-cons sep s, ended-last sep (front sep s) (later sep s), join-split sep s)
+
 -- a text that is cut at its ends and ended again
 pub ended-lines : (sep : ℕ) (s : List ℕ) → empty (last (split sep s)) ≡ true → ended sep (allButLast (split sep s)) ≡ s
-ended-lines sep s h =
-    sym (append-nil (ended sep (allButLast (split sep s))))
-    ∙ cc (empty-is (last (split sep s)) h, split-cons sep s, ended-last sep (front sep s) (later sep s), join-split sep s)
+ended-lines sep s h = sym (append-nil (ended sep (allButLast (split sep s)))) ∙ cc (empty-is (last (split sep s)) h, ended-split sep s)
 
 pub split-ended : (sep : ℕ) (ps : List (List ℕ)) → frees sep ps ≡ true → split sep (ended sep ps) ≡ ps ++ ([] ∷ [])
 unfolding frees ended
@@ -203,3 +281,30 @@ split-ended sep [] h = split-nil sep
 split-ended sep (p ∷ ps) h =
     let q = both (not (has sep p)) (frees sep ps) h in
     cc (split-next sep p (ended sep ps) (not-true (has sep p) (q .0)), split-ended sep ps (q .1))
+
+-- ---- how many separators, and what stands after the last: one separator more; more bytes without one
+pub before-next : (sep : ℕ) (p s : List ℕ) → has sep p ≡ false → before sep (p ++ (sep ∷ s)) ≡ suc (before sep s)
+unfolding before
+before-next sep p s h = rw (split-next sep p s h, butLast-split sep p s)
+
+pub since-next : (sep : ℕ) (p s : List ℕ) → has sep p ≡ false → since sep (p ++ (sep ∷ s)) ≡ since sep s
+unfolding since
+since-next sep p s h = rw (split-next sep p s h, last-split sep p s)
+
+pub split-end : (sep : ℕ) (a b : List ℕ) → has sep b ≡ false → split sep (a ++ b) ≡ allButLast (split sep a) ++ ((since sep a ++ b) ∷ [])
+unfolding since front later
+split-end sep a b h = split-glue sep a b ∙ rw (split-none sep b h)
+
+pub last-end : (ps : List (List ℕ)) (x : List ℕ) → last (ps ++ (x ∷ [])) ≡ x
+unfolding last
+last-end [] x = refl
+last-end (p ∷ []) x = refl
+last-end (p ∷ q ∷ ps) x = last-end (q ∷ ps) x
+
+pub before-more : (sep : ℕ) (a b : List ℕ) → has sep b ≡ false → before sep (a ++ b) ≡ before sep a
+unfolding before
+before-more sep a b h =
+    rw (split-end sep a b h, butLast-glue (allButLast (split sep a)) (since sep a ++ b) []) (unfold allButLast in rw (append-nil (allButLast (split sep a))))
+
+pub since-more : (sep : ℕ) (a b : List ℕ) → has sep b ≡ false → since sep (a ++ b) ≡ since sep a ++ b
+since-more sep a b h = unfold since in (ap last (split-end sep a b h) ∙ last-end (allButLast (split sep a)) (since sep a ++ b))

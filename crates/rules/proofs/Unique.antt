@@ -1,6 +1,6 @@
 -- The paper's numbers tell the answers apart: two answers that are told the same are the same. Assumes nothing.
 use mathlib.Core.Path.{_≡_, refl, sym, ap, _∙_}
-use mathlib.Core.Bool.{Bool, true, false}
+use mathlib.Core.Bool.{true, false}
 use mathlib.Core.List.{List, [], _∷_}
 use Prim.Native.Nat.{ℕ}
 use lib.Dec.{eqb}
@@ -13,7 +13,7 @@ use Rattle.rules.specs.declared.Fetched.{Fetched}
 use Rattle.rules.specs.declared.Fetched.the-variants.{At, NotFetched}
 use Rattle.rules.specs.declared.Written.{Written}
 use Rattle.rules.specs.declared.Written.the-variants.{Wrote, NotWritten}
-use Rattle.rules.specs.Told.{Told, gives, refused, number, refusal, told, toldSpan, toldLength}
+use Rattle.rules.specs.Told.{number, refusal, told, toldSpan, toldLength}
 
 -- the kind that has a number: the first of some with it
 unfoldable kinds : List Kind

@@ -7,14 +7,13 @@ use native.Mathlib.Omega.{arith}
 use borrow.Author.Tests.{leb-true, eqb-true}
 use lib.Dec.{eqb, leb}
 use lib.ListN.{length}
 use Rattle.rules.specs.Lists.{bytes, has, any, all, count}
 use Rattle.rules.specs.Shift.{within, step, isOne}
 use Rattle.rules.specs.Frame.{digit, capital, capitalOrDigit}
 use Rattle.rules.specs.Value.{digitsOk, point, unsigned, spelled}
-use Rattle.rules.proofs.Logic.{cases, both}
-use Rattle.rules.proofs.Lists.{all-cons}
-use Rattle.returns.proofs.General.{range, in-range, either, all-each}
-use Rattle.returns.proofs.Escaped.{plainByte}
+use Rattle.rules.proofs.Logic.{cases, both, either}
+use Rattle.rules.proofs.Lists.{all-cons, range, in-range, all-each}
+use Rattle.rules.proofs.Escaped.{plainByte}
 
 -- to unfold this name is to see whether a given byte is plain
 unfoldable pub bytewise : Unit {0}

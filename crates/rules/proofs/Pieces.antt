@@ -1,118 +1,29 @@
--- Where the pieces of a text stand, by their bytes and in which mode: the n-th piece between separators that act. Of general use. Assumes
--- nothing.
+-- Where the pieces of a text stand, by their bytes and in which mode: the n-th piece between separators that act.
+-- Assumes nothing.
 use mathlib.Core.Path.{_≡_, refl, sym, ap, _∙_}
 use mathlib.Core.Bool.{true, false}
 use mathlib.Core.Logic.{_⊎_, inl, inr}
 use mathlib.Core.List.{List, [], _∷_, _++_, append-nil, append-assoc}
 use Prim.Native.Nat.{ℕ, zero, suc, _+_, _<_, _≤_}
 use native.Mathlib.Omega.{arith}
-use borrow.Author.Tests.{leb-true, ltb-true, ltb-false, lt-ltb, le-ltb}
-use lib.Dec.{eqb, leb, ltb}
+use borrow.Author.Tests.{ltb-true, ltb-false, lt-ltb, le-ltb}
+use lib.Dec.{eqb, ltb}
 use lib.ListN.{length, take, drop, length-append}
 use Rattle.rules.specs.declared.Mode.{Mode}
-use Rattle.rules.specs.declared.Mode.the-variants.{One, Esc1, Esc2, Two, Second, Back1, Back2, Bad}
-use Rattle.rules.specs.Lists.{nth, all, has, split, allButLast, last, join, led, ended}
-use Rattle.rules.specs.Shift.{within, step, isOne, walk, keeps, mark, marks, met}
+use Rattle.rules.specs.declared.Mode.the-variants.{One}
+use Rattle.rules.specs.Lists.{nth, has, split, allButLast, last}
+use Rattle.rules.specs.Shift.{step, isOne, walk, keeps, mark, marks, met}
 use Rattle.rules.specs.Fetch.{span, startOf}
-use Rattle.rules.proofs.Logic.{cases, both, never}
-use Rattle.rules.proofs.Lists.{all-first, has-nil, has-there}
-use Rattle.rules.proofs.Split.{front, later, split-cons, split-none, split-next, split-glue, butLast-glue, butLast-split, last-split, join-split}
-use Rattle.rules.proofs.Modes.{one-is, walk-append, walk-step, walk-bad, marks-nil, marks-cons, met-append, length-marks, met-one, still-one}
-use Rattle.demands.specs.Edits.{before, since, here}
-
--- ---- a text and its marks
-mark-unique : (m : Mode) (x y : ℕ) → mark m x ≡ mark m y → x ≡ y
-unfolding mark
-mark-unique m x y e =
-    cases (isOne m) (λ o. rw o at e) (λ o. let z : 256 + x ≡ 256 + y = rw o at e in omega arith)
-
-marks-unique : (m : Mode) (a b : List ℕ) → marks 0x0D m a ≡ marks 0x0D m b → a ≡ b
-unfolding marks
-marks-unique m [] [] e = refl
-marks-unique m [] (y ∷ b) e = cc
-marks-unique m (x ∷ a) [] e = cc
-marks-unique m (x ∷ a) (y ∷ b) e =
-    let q = mark-unique m x y (cc) in
-    let r : marks 0x0D (step 0x0D m y) a ≡ marks 0x0D (step 0x0D m y) b = cc in
-    cc (q, marks-unique (step 0x0D m y) a b r)
-
--- two texts that are met the same are the same
-pub met-unique : (a b : List ℕ) → met a ≡ met b → a ≡ b
-unfolding met
-met-unique a b e = marks-unique One a b e
-
-pub length-met : (s : List ℕ) → length (met s) ≡ length s
-unfolding met
-length-met s = length-marks 0x0D One s
-
--- printable bytes are met as they are
-plain-marks : (s : List ℕ) → all (within 0x20 0x7E) s ≡ true → (marks 0x0D One s ≡ s) × (walk 0x0D One s ≡ One)
-unfolding marks walk mark isOne
-plain-marks [] h = (refl, refl)
-plain-marks (b ∷ s) h =
-    let a = all-first (within 0x20 0x7E) b s h in
-    let c = both (leb 0x20 b) (leb b 0x7E) (a .0) in
-    let o = still-one 0x0D b (leb-true 0x20 b (c .0)) (leb-true b 0x7E (c .1)) in
-    let i = plain-marks s (a .1) in
-    (cc (o, i .0), cc (o, i .1))
-
-pub plain-met : (s : List ℕ) → all (within 0x20 0x7E) s ≡ true → met s ≡ s
-unfolding met
-plain-met s h = plain-marks s h .0
-
-pub plain-kept : (s : List ℕ) → all (within 0x20 0x7E) s ≡ true → keeps 0x0D s ≡ true
-unfolding keeps isOne
-plain-kept s h = rw (plain-marks s h .1)
-
--- ---- 0D outside one-byte mode breaks the rule
-quiet : (m : Mode) → isOne m ≡ false → step 0x0D m 0x0D ≡ Bad
-unfolding step isOne
-quiet One e = never (e)
-quiet Esc1 e = refl
-quiet Esc2 e = refl
-quiet Two e = refl
-quiet Second e = refl
-quiet Back1 e = refl
-quiet Back2 e = refl
-quiet Bad e = refl
-
-pub keeps-parts : (a b : List ℕ) → keeps 0x0D (a ++ (0x0D ∷ b)) ≡ true → (keeps 0x0D a ≡ true) × (keeps 0x0D b ≡ true)
-unfolding keeps walk step
-keeps-parts a b h =
-    let w = rw (walk-append 0x0D One a (0x0D ∷ b)) at h in
-    cases (isOne (walk 0x0D One a))
-    (λ o. (o, rw (one-is (walk 0x0D One a) o) at w))
-    (λ o. never (sym w ∙ rw (quiet (walk 0x0D One a) o, walk-bad 0x0D b) (unfold isOne in refl)))
-
-pub keeps-joined : (a b : List ℕ) → keeps 0x0D a ≡ true → keeps 0x0D b ≡ true → keeps 0x0D (a ++ (0x0D ∷ b)) ≡ true
-unfolding keeps walk step
-keeps-joined a b h k = rw (walk-append 0x0D One a (0x0D ∷ b), one-is (walk 0x0D One a) h) k
-
--- a text is its ended segments, and what stands after the last
-ended-last : (sep : ℕ) (p : List ℕ) (ps : List (List ℕ)) → ended sep (allButLast (p ∷ ps)) ++ last (p ∷ ps) ≡ join sep (p ∷ ps)
-unfolding ended allButLast last join led
-ended-last sep p [] = sym (append-nil p)
-ended-last sep p (q ∷ ps) =
-    append-assoc p (sep ∷ ended sep (allButLast (q ∷ ps))) (last (q ∷ ps)) ∙ ap (λ (r : List ℕ). p ++ (sep ∷ r)) (ended-last sep q ps)
-
-pub ended-split : (sep : ℕ) (s : List ℕ) → ended sep (allButLast (split sep s)) ++ last (split sep s) ≡ s
-ended-split sep s = cc (split-cons sep s, ended-last sep (front sep s) (later sep s), join-split sep s)
-
-keeps-last : (ss : List (List ℕ)) (z : List ℕ) → keeps 0x0D (ended 0x0D ss ++ z) ≡ true → keeps 0x0D z ≡ true
-unfolding ended
-keeps-last [] z h = h
-keeps-last (s ∷ ss) z h = keeps-last ss z (keeps-parts s (ended 0x0D ss ++ z) (rw append-assoc at h) .1)
-
--- what stands after the last end of a segment keeps the rule, where the whole does
-pub here-keeps : (p : List ℕ) → keeps 0x0D p ≡ true → keeps 0x0D (here p) ≡ true
-unfolding since
-here-keeps p h = keeps-last (allButLast (split 0x0D p)) (last (split 0x0D p)) (rw (ended-split 0x0D p) h)
+use Rattle.rules.proofs.Logic.{cases}
+use Rattle.rules.proofs.Lists.{has-nil, has-there, has-parts}
+use Rattle.rules.proofs.Split.{later, before, since, split-cons, split-none, split-next, before-next, since-next}
+use Rattle.rules.proofs.Modes.{one-is, walk-append, walk-step, marks-nil, marks-cons, met-append, length-met, met-one, still-one, met-three}
+use Rattle.rules.proofs.Clean.{met-cons}
 
 -- ---- one separator after another
 module _ (sep : ℕ) (low : 0x20 ≤ sep) (high : sep ≤ 0x7E) where
   pub met-sep : (a b : List ℕ) → keeps 0x0D a ≡ true → met (a ++ (sep ∷ b)) ≡ met a ++ (sep ∷ met b)
-  unfolding met mark isOne
-  met-sep a b h = met-append a (sep ∷ b) h ∙ ap (λ (t : List ℕ). met a ++ t) (marks-cons 0x0D One sep b ∙ rw (still-one 0x0D sep low high))
+  met-sep a b h = met-append a (sep ∷ b) h ∙ ap (λ (t : List ℕ). met a ++ t) (met-cons sep (still-one 0x20 sep low high) b)
 
   pub keeps-sep : (a b : List ℕ) → keeps 0x0D a ≡ true → keeps 0x0D (a ++ (sep ∷ b)) ≡ keeps 0x0D b
   unfolding keeps walk
@@ -154,39 +65,11 @@ start-over : (sep n : ℕ) (s : List ℕ) → has sep s ≡ false → startOf se
 unfolding startOf
 start-over sep n s h = rw (split-none sep s h, le-ltb (suc n) 1 (omega arith))
 
--- one separator more
-before-next : (sep : ℕ) (p s : List ℕ) → has sep p ≡ false → before sep (p ++ (sep ∷ s)) ≡ suc (before sep s)
-unfolding before
-before-next sep p s h = rw (split-next sep p s h, butLast-split sep p s)
-
-since-next : (sep : ℕ) (p s : List ℕ) → has sep p ≡ false → since sep (p ++ (sep ∷ s)) ≡ since sep s
-unfolding since
-since-next sep p s h = rw (split-next sep p s h, last-split sep p s)
-
 -- the n-th begins after those before it
 pub start-past : (sep n : ℕ) (s x : List ℕ) (ps : List (List ℕ)) → split sep s ≡ x ∷ ps → suc n < length (split sep s)
     → startOf sep (suc n) s ≡ suc (length x) + span (take n ps)
 unfolding startOf
 start-past sep n s x ps e l = rw (lt-ltb (suc n) (length (split sep s)) l, e) (unfold span in refl)
-
--- a text put on that has none
-split-end : (sep : ℕ) (a b : List ℕ) → has sep b ≡ false → split sep (a ++ b) ≡ allButLast (split sep a) ++ ((since sep a ++ b) ∷ [])
-unfolding since front later
-split-end sep a b h = split-glue sep a b ∙ rw (split-none sep b h)
-
-last-end : (ps : List (List ℕ)) (x : List ℕ) → last (ps ++ (x ∷ [])) ≡ x
-unfolding last
-last-end [] x = refl
-last-end (p ∷ []) x = refl
-last-end (p ∷ q ∷ ps) x = last-end (q ∷ ps) x
-
-pub before-more : (sep : ℕ) (a b : List ℕ) → has sep b ≡ false → before sep (a ++ b) ≡ before sep a
-unfolding before
-before-more sep a b h =
-    rw (split-end sep a b h, butLast-glue (allButLast (split sep a)) (since sep a ++ b) []) (unfold allButLast in rw (append-nil (allButLast (split sep a))))
-
-pub since-more : (sep : ℕ) (a b : List ℕ) → has sep b ≡ false → since sep (a ++ b) ≡ since sep a ++ b
-since-more sep a b h = unfold since in (ap last (split-end sep a b h) ∙ last-end (allButLast (split sep a)) (since sep a ++ b))
 
 -- The n-th piece of s, from 0: its bytes, with what stands before and after it. Where there are fewer it is empty, at the end.
 pub record Piece (sep n : ℕ) (s : List ℕ) : Type 0 where
@@ -204,6 +87,16 @@ pub record Piece (sep n : ℕ) (s : List ℕ) : Type 0 where
   pub free : has sep (met own) ≡ false
   -- a separator comes next, or the end
   pub next : (right ≡ []) ⊎ (right ≡ sep ∷ drop 1 right)
+
+-- what it does not hold
+module _ {sep n : ℕ} {s : List ℕ} (c : Piece sep n s) (x : ℕ) where
+  pub piece-bytes : has x s ≡ false → (has x (c .left) ≡ false) × (has x (c .own) ≡ false)
+  piece-bytes h = has-parts x (c .left) (c .own) (c .right) (ap (has x) (sym (c .whole)) ∙ h)
+
+  pub piece-marks : has x (met s) ≡ false → (has x (met (c .left)) ≡ false) × (has x (met (c .own)) ≡ false)
+  piece-marks h =
+      has-parts x (met (c .left)) (met (c .own)) (met (c .right))
+      (ap (has x) (sym (ap met (c .whole) ∙ met-three (c .left) (c .own) (c .right) (c .left-kept) (c .own-kept))) ∙ h)
 
 module _ (sep : ℕ) (low : 0x20 ≤ sep) (high : sep ≤ 0x7E) where
   -- the first piece of a text with one; with more

@@ -1,21 +1,20 @@
 -- Texts that keep the shift rule by themselves: the rule with an end that is allowed anyway (20) allows no other byte. Assumes nothing.
-use mathlib.Core.Path.{_≡_, refl, _∙_}
+use mathlib.Core.Path.{_≡_, refl, sym, ap, _∙_}
 use mathlib.Core.Bool.{true, false, cond, not}
-use mathlib.Core.List.{List, [], _∷_, _++_, map}
+use mathlib.Core.List.{List, [], _∷_, _++_, map, append-assoc}
 use Prim.Native.Nat.{ℕ}
 use native.Mathlib.Omega.{arith}
-use borrow.Author.Tests.{eqb-true}
-use lib.Dec.{eqb}
+use borrow.Author.Tests.{eqb-true, leb-true}
+use lib.Dec.{eqb, leb}
 use lib.ListN.{List·getD-map}
 use Rattle.rules.specs.declared.Mode.{Mode}
 use Rattle.rules.specs.declared.Mode.the-variants.{One, Bad}
-use Rattle.rules.specs.Lists.{nth, has, led, join, ended}
+use Rattle.rules.specs.Lists.{nth, all, has, split, allButLast, last, led, join, ended}
 use Rattle.rules.specs.Shift.{within, step, isOne, walk, keeps, mark, marks, met}
 use Rattle.rules.proofs.Logic.{cases, both, not-true}
-use Rattle.rules.proofs.Lists.{has-nil, has-first, has-there}
-use Rattle.rules.proofs.Split.{frees}
-use Rattle.rules.proofs.Modes.{one-is, walk-append, walk-step, walk-bad, marks-cons, met-append}
-use Rattle.returns.proofs.General.{inModes}
+use Rattle.rules.proofs.Lists.{all-first, has-nil, has-first, has-there}
+use Rattle.rules.proofs.Split.{since, here, frees, ended-split}
+use Rattle.rules.proofs.Modes.{inModes, one-is, walk-append, walk-step, walk-bad, marks-cons, met-append, still-one}
 
 abbrev pub Clean : List ℕ → Type 0
 Clean s = walk 0x20 One s ≡ One
@@ -89,7 +88,7 @@ end-0D =
       never = inModes (λ m. step 0x20 m 0x0D ≡ Bad) refl refl refl refl refl refl refl refl;
     }
 
-clean-free : (x : ℕ) → End x → (m : Mode) (s : List ℕ) → walk 0x20 m s ≡ One → has x s ≡ false
+pub clean-free : (x : ℕ) → End x → (m : Mode) (s : List ℕ) → walk 0x20 m s ≡ One → has x s ≡ false
 unfolding walk
 clean-free x n m [] h = has-nil x
 clean-free x n m (b ∷ s) h =
@@ -115,6 +114,11 @@ walk-free : (end : ℕ) (m : Mode) (s : List ℕ) → has end s ≡ false → wa
 unfolding walk
 walk-free end m [] h = refl
 walk-free end m (b ∷ s) h = let g = has-first end b s h in rw (other end m b (g .0)) (walk-free end (step 0x20 m b) s (g .1))
+
+-- what keeps the rule with an end that it does not hold
+pub keeps-clean : (end : ℕ) (s : List ℕ) → keeps end s ≡ true → has end s ≡ false → Clean s
+unfolding keeps
+keeps-clean end s h f = sym (walk-free end One s f) ∙ one-is (walk end One s) h
 
 after-end : (end : ℕ) → End end → (m : Mode) (s : List ℕ) → walk end (step end m end) s ≡ One → (m ≡ One) × (walk end One s ≡ One)
 after-end end E m s h =
@@ -144,6 +148,31 @@ cleans-walk end E (p ∷ ps) h =
 pub cleans-ended : (end : ℕ) → End end → (ps : List (List ℕ)) → Cleans ps → keeps end (ended end ps) ≡ true
 unfolding keeps isOne
 cleans-ended end E ps h = rw (cleans-walk end E ps h)
+
+-- an end between two texts, a list of ended lines before one
+pub keeps-parts : (a b : List ℕ) → keeps 0x0D (a ++ (0x0D ∷ b)) ≡ true → (keeps 0x0D a ≡ true) × (keeps 0x0D b ≡ true)
+unfolding keeps walk isOne
+keeps-parts a b h =
+    let w = one-is (walk 0x0D One (a ++ (0x0D ∷ b))) h in
+    let r = after-end 0x0D end-0D (walk 0x0D One a) b (rw (walk-append 0x0D One a (0x0D ∷ b)) at w) in
+    (rw (r .0), rw (r .1))
+
+pub keeps-joined : (a b : List ℕ) → keeps 0x0D a ≡ true → keeps 0x0D b ≡ true → keeps 0x0D (a ++ (0x0D ∷ b)) ≡ true
+unfolding keeps walk step
+keeps-joined a b h k = rw (walk-append 0x0D One a (0x0D ∷ b), one-is (walk 0x0D One a) h) k
+
+pub ended-keeps : (ss : List (List ℕ)) (z : List ℕ) → keeps 0x0D (ended 0x0D ss ++ z) ≡ true → (keeps 0x0D (ended 0x0D ss) ≡ true) × (keeps 0x0D z ≡ true)
+unfolding ended
+ended-keeps [] z h = (unfold keeps walk isOne in refl, h)
+ended-keeps (s ∷ ss) z h =
+    let a = keeps-parts s (ended 0x0D ss ++ z) (rw append-assoc at h) in
+    let b = ended-keeps ss z (a .1) in
+    (keeps-joined s (ended 0x0D ss) (a .0) (b .0), b .1)
+
+-- what stands after the last end of a segment keeps the rule, where the whole does
+pub here-keeps : (p : List ℕ) → keeps 0x0D p ≡ true → keeps 0x0D (here p) ≡ true
+unfolding since
+here-keeps p h = ended-keeps (allButLast (split 0x0D p)) (last (split 0x0D p)) (rw (ended-split 0x0D p) h) .1
 
 -- ---- pieces as they are met
 pub nth-met : (ps : List (List ℕ)) (i : ℕ) → nth (map met ps) i ≡ met (nth ps i)
@@ -183,3 +212,22 @@ module _ (x : ℕ) (t : step 0x20 One x ≡ One) where
   unfolding join
   met-join [] h = unfold met marks in refl
   met-join (p ∷ ps) h = met-append p (led x ps) (clean-keeps 0x0D p (h .0)) ∙ rw (met-led ps (h .1))
+
+-- ---- printable bytes keep the rule and are met as they are
+plain : (s : List ℕ) → all (within 0x20 0x7E) s ≡ true → Clean s × (met s ≡ s)
+plain [] h = (unfold walk in refl, unfold met marks in refl)
+plain (b ∷ s) h =
+    let a = all-first (within 0x20 0x7E) b s h in
+    let c = both (leb 0x20 b) (leb b 0x7E) (a .0) in
+    let o = still-one 0x20 b (leb-true 0x20 b (c .0)) (leb-true b 0x7E (c .1)) in
+    let i = plain s (a .1) in
+    (clean-cons b o s (i .0), met-cons b o s ∙ ap (λ (t : List ℕ). b ∷ t) (i .1))
+
+pub plain-clean : (s : List ℕ) → all (within 0x20 0x7E) s ≡ true → Clean s
+plain-clean s h = plain s h .0
+
+pub plain-met : (s : List ℕ) → all (within 0x20 0x7E) s ≡ true → met s ≡ s
+plain-met s h = plain s h .1
+
+pub plain-kept : (s : List ℕ) → all (within 0x20 0x7E) s ≡ true → keeps 0x0D s ≡ true
+plain-kept s h = clean-keeps 0x0D s (plain-clean s h)

@@ -6,92 +6,20 @@ use mathlib.Core.List.{List, [], _∷_}
 use mathlib.Core.Option.{none, some}
 use Prim.Native.Nat.{ℕ, _+_, _-_, _*_, _≤_, _<_}
 use native.Mathlib.Omega.{arith}
-use borrow.Author.Tests.{eqb-true, ne-eqb, leb-true, ltb-true, le-ltb, lt-ltb}
-use lib.Dec.{eqb, ltb, leb}
+use borrow.Author.Tests.{eqb-true, leb-true, le-ltb, lt-ltb}
+use lib.Dec.{eqb, leb}
 use lib.ListN.{length}
 use Rattle.rules.specs.declared.Delims.{Delims}
 use Rattle.rules.specs.declared.Mode.{Mode}
 use Rattle.rules.specs.declared.Mode.the-variants.{One, Bad}
-use Rattle.rules.specs.Lists.{bytes, empty, same, has, any, all, distinct}
+use Rattle.rules.specs.Lists.{bytes, empty, same, has, any, all}
 use Rattle.rules.specs.Shift.{step, isOne, walk, mark, marks, met, byteOf}
-use Rattle.rules.specs.Frame.{fiveOf, delimsOk}
 use Rattle.rules.specs.Escape.{Letter, letters, meaning, letterFor, plain, push, unescapeAt, unescape, escapeMet, escape}
-use Rattle.rules.proofs.Logic.{cases, optionCases, never, both, not-true, eqb-self, eqb-sym}
-use Rattle.rules.proofs.Lists.{same-eq, same-self, all-first, has-first}
+use Rattle.rules.proofs.Logic.{cases, optionCases, both, not-true, eqb-self}
+use Rattle.rules.proofs.Lists.{same-eq, same-self, all-first}
 use Rattle.rules.proofs.Modes.{one-is, walk-step, length-marks}
-use Rattle.returns.proofs.General.{in-all}
-use Rattle.returns.proofs.Clean.{Clean, not-bad, agree, stays, met-cons, clean-cons}
-
--- ---- a delimiter: "one of `! # % & * ; ? @ \\ ^ | ~`"
-abbrev pub twelve : List ℕ
-twelve = bytes "!#%&*;?@\\^|~"
-
-abbrev pub Delim : ℕ → Type 0
-Delim x = has x twelve ≡ true
-
-module _ (x : ℕ) (h : Delim x) where
-  pub delim-one : step 0x20 One x ≡ One
-  delim-one = one-is (step 0x20 One x) (in-all (λ (b : ℕ). isOne (step 0x20 One b)) x twelve h (unfold all bytes isOne step in refl))
-
-  pub delim-small : x < 256
-  delim-small = ltb-true x 256 (in-all (λ (b : ℕ). ltb b 256) x twelve h (unfold all bytes in refl))
-
-  -- no other byte is one
-  delim-ne : (b : ℕ) → has b twelve ≡ false → eqb b x ≡ false
-  delim-ne b n = ne-eqb b x (λ e. never (cc (ap (λ (y : ℕ). has y twelve) e)))
-
-  delim-far : (b : ℕ) → eqb (256 + b) x ≡ false
-  delim-far b = ne-eqb (256 + b) x (λ e. omega (arith, delim-small))
-
--- ---- "five different delimiters": what the laws use of them
-pub record Proper (d : Delims) : Type 0 where
-  pub f-in : Delim (d .field)
-  pub c-in : Delim (d .component)
-  pub r-in : Delim (d .repetition)
-  pub e-in : Delim (d .escape)
-  pub s-in : Delim (d .sub)
-  pub c-f : eqb (d .component) (d .field) ≡ false
-  pub r-f : eqb (d .repetition) (d .field) ≡ false
-  pub e-f : eqb (d .escape) (d .field) ≡ false
-  pub s-f : eqb (d .sub) (d .field) ≡ false
-  pub c-r : eqb (d .component) (d .repetition) ≡ false
-  pub e-c : eqb (d .escape) (d .component) ≡ false
-  pub e-r : eqb (d .escape) (d .repetition) ≡ false
-
-distinct-first : (x : ℕ) (s : List ℕ) → distinct (x ∷ s) ≡ true → (has x s ≡ false) × (distinct s ≡ true)
-unfolding distinct
-distinct-first x s h = let p = both (not (has x s)) (distinct s) h in (not-true (has x s) (p .0), p .1)
-
-pub proper : (d : Delims) → delimsOk d ≡ true → Proper d
-unfolding delimsOk
-proper d h =
-    let p : ℕ → Bool = λ b. has b twelve in
-    let b = both (all p (fiveOf d)) (distinct (fiveOf d)) h in
-    let a0 = all-first p (d .field) _ (b .0) in
-    let a1 = all-first p (d .component) _ (a0 .1) in
-    let a2 = all-first p (d .repetition) _ (a1 .1) in
-    let a3 = all-first p (d .escape) _ (a2 .1) in
-    let d0 = distinct-first (d .field) _ (b .1) in
-    let d1 = distinct-first (d .component) _ (d0 .1) in
-    let d2 = distinct-first (d .repetition) _ (d1 .1) in
-    let f0 = has-first (d .field) (d .component) _ (d0 .0) in
-    let f1 = has-first (d .field) (d .repetition) _ (f0 .1) in
-    let f2 = has-first (d .field) (d .escape) _ (f1 .1) in
-    let c0 = has-first (d .component) (d .repetition) _ (d1 .0) in
-    record {
-      f-in = a0 .0;
-      c-in = a1 .0;
-      r-in = a2 .0;
-      e-in = a3 .0;
-      s-in = all-first p (d .sub) _ (a3 .1) .0;
-      c-f = f0 .0;
-      r-f = f1 .0;
-      e-f = f2 .0;
-      s-f = has-first (d .field) (d .sub) _ (f2 .1) .0;
-      c-r = eqb-sym (d .component) (d .repetition) ∙ c0 .0;
-      e-c = has-first (d .component) (d .escape) _ (c0 .1) .0;
-      e-r = has-first (d .repetition) (d .escape) _ (d2 .0) .0;
-    }
+use Rattle.rules.proofs.Clean.{Clean, not-bad, agree, stays, met-cons, clean-cons}
+use Rattle.rules.proofs.Header.{twelve, Delim, delim-one, delim-ne, delim-far, Proper}
 
 -- a byte that is written as itself: allowed in one-byte mode, and no delimiter
 unfoldable pub plainByte : ℕ → Bool
@@ -133,13 +61,13 @@ pub record Separator (d : Delims) (x : ℕ) : Type 0 where
 
 module _ (d : Delims) (p : Proper d) where
   pub by-field : Separator d (d .field)
-  by-field = record { is = p .f-in; escape = p .e-f; apart = λ b a. a .f }
+  by-field = record { is = p .field; escape = p .escape-field; apart = λ b a. a .f }
 
   pub by-component : Separator d (d .component)
-  by-component = record { is = p .c-in; escape = p .e-c; apart = λ b a. a .c }
+  by-component = record { is = p .component; escape = p .escape-component; apart = λ b a. a .c }
 
   pub by-repetition : Separator d (d .repetition)
-  by-repetition = record { is = p .r-in; escape = p .e-r; apart = λ b a. a .r }
+  by-repetition = record { is = p .repetition; escape = p .escape-repetition; apart = λ b a. a .r }
 
 -- a letter stands for a delimiter, means it, and is itself written plainly
 record Coded (d : Delims) (b l : ℕ) : Type 0 where
@@ -151,16 +79,16 @@ module _ (d : Delims) (p : Proper d) where
   -- a byte other than the twelve, or outside one-byte mode, has no letter
   no-letter : (y : ℕ) → ((x : ℕ) → Delim x → eqb y x ≡ false) → letterFor (letters d) y ≡ none
   unfolding letterFor letters
-  no-letter y n = cc (n (d .field) (p .f-in), n (d .component) (p .c-in), n (d .sub) (p .s-in), n (d .repetition) (p .r-in), n (d .escape) (p .e-in))
+  no-letter y n = cc (n (d .field) (p .field), n (d .component) (p .component), n (d .sub) (p .sub), n (d .repetition) (p .repetition), n (d .escape) (p .escape))
 
   coded-is : (b l : ℕ) → letterFor (letters d) b ≡ some l → Coded d b l
   unfolding letterFor letters meaning plainByte bytes has any isOne step
   coded-is b l h =
-      cases (eqb b (d .field)) (λ e0. is 70 (d .field) (cc) e0 refl (p .f-in) refl)
-      (λ e0. cases (eqb b (d .component)) (λ e1. is 83 (d .component) (cc) e1 refl (p .c-in) refl)
-      (λ e1. cases (eqb b (d .sub)) (λ e2. is 84 (d .sub) (cc) e2 refl (p .s-in) refl)
-      (λ e2. cases (eqb b (d .repetition)) (λ e3. is 82 (d .repetition) (cc) e3 refl (p .r-in) refl)
-      (λ e3. cases (eqb b (d .escape)) (λ e4. is 69 (d .escape) (cc) e4 refl (p .e-in) refl)
+      cases (eqb b (d .field)) (λ e0. is 70 (d .field) (cc) e0 refl (p .field) refl)
+      (λ e0. cases (eqb b (d .component)) (λ e1. is 83 (d .component) (cc) e1 refl (p .component) refl)
+      (λ e1. cases (eqb b (d .sub)) (λ e2. is 84 (d .sub) (cc) e2 refl (p .sub) refl)
+      (λ e2. cases (eqb b (d .repetition)) (λ e3. is 82 (d .repetition) (cc) e3 refl (p .repetition) refl)
+      (λ e3. cases (eqb b (d .escape)) (λ e4. is 69 (d .escape) (cc) e4 refl (p .escape) refl)
       (λ e4. let z : _≡_ {A = ℕ} 0 1 = cc in absurd (omega arith))))))
     where
       is : (k x : ℕ) → k ≡ l → eqb b x ≡ true → meaning (letters d) k ≡ some x → Delim x → plainByte k ≡ true → Coded d b l
@@ -201,11 +129,11 @@ module _ (d : Delims) (p : Proper d) where
 
   three-marks : (l : ℕ) (w : List ℕ) → step 0x20 One l ≡ One → marks 0x0D One (d .escape ∷ l ∷ d .escape ∷ w) ≡ d .escape ∷ l ∷ d .escape ∷ marks 0x0D One w
   unfolding marks mark isOne
-  three-marks l w h = simp (stays (d .escape) (delim-one (d .escape) (p .e-in)), stays l h)
+  three-marks l w h = simp (stays (d .escape) (delim-one (d .escape) (p .escape)), stays l h)
 
   three-walk : (l : ℕ) (w : List ℕ) → step 0x20 One l ≡ One → walk 0x20 One (d .escape ∷ l ∷ d .escape ∷ w) ≡ walk 0x20 One w
   unfolding walk
-  three-walk l w h = simp (delim-one (d .escape) (p .e-in), h)
+  three-walk l w h = simp (delim-one (d .escape) (p .escape), h)
 
   -- the text as it is written from a mode on
   abbrev wrote : Mode → List ℕ → List ℕ
@@ -268,7 +196,7 @@ module _ (d : Delims) (p : Proper d) where
   esc-unescaped : {r v : List ℕ} → Esc d r v → unescapeAt d plain r ≡ some v
   unfolding unescapeAt push
   esc-unescaped done = refl
-  esc-unescaped (far {b} x) = cc (delim-far (d .escape) (p .e-in) b, delim-far (d .sub) (p .s-in) b, byte-far b, esc-unescaped x)
+  esc-unescaped (far {b} x) = cc (delim-far (d .escape) (p .escape) b, delim-far (d .sub) (p .sub) b, byte-far b, esc-unescaped x)
   esc-unescaped (near {b} h l x) = let a = apart d b h in cc (a .e, a .s, byte-near b l, esc-unescaped x)
   esc-unescaped (coded {b} {l} c x) = cc (eqb-self (d .escape), c .means, esc-unescaped x)
 
@@ -323,8 +251,8 @@ module _ (d : Delims) (p : Proper d) where
         cases (same (met (escape d v)) (bytes "\"\""))
         (λ e.
         let q = same-eq (met (escape d v)) (bytes "\"\"") e in
-        let e1 = delim-ne (d .escape) (p .e-in) 34 (unfold has any bytes in refl) in
-        let e2 = delim-ne (d .sub) (p .s-in) 34 (unfold has any bytes in refl) in
+        let e1 = delim-ne (d .escape) (p .escape) 34 (unfold has any bytes in refl) in
+        let e2 = delim-ne (d .sub) (p .sub) 34 (unfold has any bytes in refl) in
         let u : unescape d (bytes "\"\"") ≡ some (bytes "\"\"") = unfold unescape unescapeAt bytes push in cc in
         let w : v ≡ bytes "\"\"" = cc (escaped-back) in
         cc (same-self (bytes "\"\"")))

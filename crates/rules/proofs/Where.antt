@@ -1,109 +1,92 @@
 -- Where a known segment, its fields and their components stand in a message that keeps rules 10 to 14: at the stretches that fetch gives.
 -- Assumes nothing.
 use mathlib.Core.Path.{_≡_, refl, sym, ap, _∙_}
-use mathlib.Core.Bool.{true, false, not, false≢true}
+use mathlib.Core.Bool.{true, false, not}
 use mathlib.Core.List.{List, [], _∷_, _++_, append-assoc}
 use mathlib.Core.Logic.{_⊎_, inl, inr}
-use mathlib.Core.Option.{none, some}
+use mathlib.Core.Option.{some}
 use Prim.Native.Nat.{ℕ, zero, suc, _+_, _-_, _≤_}
 use native.Mathlib.Omega.{arith}
-use borrow.Author.Tests.{leb-true}
-use lib.Dec.{eqb, leb, ltb}
+use borrow.Author.Tests.{ltb-false}
+use lib.Dec.{ltb}
 use lib.ListN.{length, getElem?, length-append}
 use Rattle.rules.specs.declared.Delims.{Delims}
 use Rattle.rules.specs.declared.Name.the-variants.{Other}
 use Rattle.rules.specs.Told.{gives}
-use Rattle.rules.specs.Lists.{bytes, empty, all, has, onto, split, allButLast, last, ended}
-use Rattle.rules.specs.Shift.{within, isOne, walk, keeps, met}
+use Rattle.rules.specs.Lists.{empty, nth, has, split, last, ended}
+use Rattle.rules.specs.Shift.{keeps, met}
 use Rattle.rules.specs.Frame.{headerOk, delimsOf, segments, segmentsOk, nameOf, is, Known, knownFrom, known}
 use Rattle.rules.specs.Frame as Frame
 use Rattle.rules.specs.View.{pieceOf, fieldOf, componentOf, firstRepetition}
 use Rattle.rules.specs.Check.{frameTold}
 use Rattle.rules.specs.Fetch.{stretch, startOf, bytesAt}
-use Rattle.rules.proofs.Logic.{cases, both, not-true, not-false, guard}
-use Rattle.rules.proofs.Lists.{has-nil, has-there, drop-own, take-own}
-use Rattle.rules.proofs.Split.{frees, split-nil, split-cons, split-here, split-there, split-ended, last-snoc, ended-append, ended-lines, front, later}
-use Rattle.demands.specs.Edits.{since, here}
-use Rattle.demands.specs.Covered.{Framed, repetitionOf, fieldPlace, repetitionPlace, componentPlace}
-use Rattle.demands.proofs.Header.{has-all, allowed, Header, header, nine}
-use Rattle.demands.proofs.Pieces.{keeps-parts, keeps-joined, length-met, Piece, piece, start-first}
-
--- ---- general: the pieces of a split have no separator
-pub frees-first : (sep : ℕ) (p : List ℕ) (ps : List (List ℕ)) → has sep p ≡ false → frees sep ps ≡ true → frees sep (p ∷ ps) ≡ true
-unfolding frees
-frees-first sep p ps h k = rw (h, k)
-
-pub frees-both : (sep : ℕ) (p : List ℕ) (ps : List (List ℕ)) → frees sep (p ∷ ps) ≡ true → (has sep p ≡ false) × (frees sep ps ≡ true)
-unfolding frees
-frees-both sep p ps h = let a = both (not (has sep p)) (frees sep ps) h in (not-true (has sep p) (a .0), a .1)
-
-pub frees-split : (sep : ℕ) (s : List ℕ) → frees sep (split sep s) ≡ true
-unfolding onto
-frees-split sep [] = rw (split-nil sep) (frees-first sep [] [] (has-nil sep) (unfold frees in refl))
-frees-split sep (x ∷ s) =
-    cases (eqb x sep)
-    (λ e. rw (split-here sep x s e) (frees-first sep [] (split sep s) (has-nil sep) (frees-split sep s)))
-    (λ e. let a = frees-both sep (front sep s) (later sep s) (rw (split-cons sep s) at (frees-split sep s)) in
-    rw (split-there sep x s e, split-cons sep s)
-    (frees-first sep (x ∷ front sep s) (later sep s) (has-there sep x (front sep s) e ∙ a .0) (a .1)))
-
-frees-butLast : (sep : ℕ) (ps : List (List ℕ)) → frees sep ps ≡ true → frees sep (allButLast ps) ≡ true
-unfolding allButLast
-frees-butLast sep [] h = h
-frees-butLast sep (p ∷ []) h = unfold frees in refl
-frees-butLast sep (p ∷ q ∷ ps) h =
-    let a = frees-both sep p (q ∷ ps) h in
-    frees-first sep p (allButLast (q ∷ ps)) (a .0) (frees-butLast sep (q ∷ ps) (a .1))
-
-pub frees-left : (sep : ℕ) (ps qs : List (List ℕ)) → frees sep (ps ++ qs) ≡ true → frees sep ps ≡ true
-frees-left sep [] qs h = unfold frees in refl
-frees-left sep (p ∷ ps) qs h =
-    let a = frees-both sep p (ps ++ qs) h in
-    frees-first sep p ps (a .0) (frees-left sep ps qs (a .1))
-
-pub frees-right : (sep : ℕ) (ps qs : List (List ℕ)) → frees sep (ps ++ qs) ≡ true → frees sep qs ≡ true
-frees-right sep [] qs h = h
-frees-right sep (p ∷ ps) qs h = frees-right sep ps qs (frees-both sep p (ps ++ qs) h .1)
+use Rattle.rules.proofs.Logic.{cases, both, not-false, guard, nothing-some}
+use Rattle.rules.proofs.Lists.{drop-own, take-own}
+use Rattle.rules.proofs.Split.{since, here, frees, frees-both, frees-left, frees-right, split-frees, butLast-frees, split-ended, last-snoc, ended-append, ended-lines, butLast-snoc}
+use Rattle.rules.proofs.Modes.{length-met}
+use Rattle.rules.proofs.Header.{Delim, printable, Header, header, nine}
+use Rattle.rules.proofs.Clean.{keeps-parts, ended-keeps}
+use Rattle.rules.proofs.Pieces.{Piece, piece, start-first}
 
 -- a stretch within a stretch
 pub nested : (s a x z b y w : List ℕ) → s ≡ a ++ (x ++ z) → x ≡ b ++ (y ++ w) → s ≡ (a ++ b) ++ (y ++ (w ++ z))
 nested s a x z b y w e f = rw (e, f, append-assoc b (y ++ w) z, append-assoc y w z, append-assoc a b (y ++ (w ++ z)))
 
--- ---- a message and its segments, each ended
-pub framed : (m : List ℕ) → frameTold m ≡ gives tt → Framed m
-unfolding frameTold segmentsOk
-framed m h =
+-- ---- what rules 10 to 14 say of a message
+pub record Passes (m : List ℕ) : Type 0 where
+  pub short : length m ≤ 32768
+  pub headed : headerOk m ≡ true
+  pub kept : keeps 0x0D m ≡ true
+  pub cut : segmentsOk (delimsOf m .field) m ≡ true
+  pub few : length (segments m) ≤ 512
+
+pub passes : (m : List ℕ) → frameTold m ≡ gives tt → Passes m
+unfolding frameTold
+passes m h =
     let a = guard 10 0 0 (ltb 32768 (length m)) _ tt h in
     let b = guard 11 0 0 (not (headerOk m)) _ tt (a .1) in
     let c = guard 12 0 0 (not (keeps 0x0D m)) _ tt (b .1) in
     let e = guard 13 0 0 (not (segmentsOk (delimsOf m .field) m)) _ tt (c .1) in
+    let f = guard 14 0 0 (ltb 512 (length (segments m))) _ tt (e .1) in
     record {
+      short = ltb-false 32768 (length m) (a .0);
       headed = not-false (headerOk m) (b .0);
       kept = not-false (keeps 0x0D m) (c .0);
-      ends = both (empty (last (split 0x0D m))) _ (not-false (segmentsOk (delimsOf m .field) m) (e .0)) .0;
+      cut = not-false (segmentsOk (delimsOf m .field) m) (e .0);
+      few = ltb-false 512 (length (segments m)) (f .0);
     }
 
+-- a message with a header, that keeps the byte and shift rule and ends in 0D: one that keeps rules 10 to 14, or one on the way between two
+-- such, which may be too long
+pub record Framed (m : List ℕ) : Type 0 where
+  pub headed : headerOk m ≡ true
+  pub kept : keeps 0x0D m ≡ true
+  pub ends : empty (last (split 0x0D m)) ≡ true
+
+pub framed : (m : List ℕ) → frameTold m ≡ gives tt → Framed m
+unfolding segmentsOk
+framed m h =
+    let p = passes m h in
+    record { headed = p .headed; kept = p .kept; ends = both (empty (last (split 0x0D m))) _ (p .cut) .0 }
+
+-- ---- a message and its segments, each ended
 pub ended-segments : (m : List ℕ) → Framed m → ended 0x0D (segments m) ≡ m
 unfolding segments
 ended-segments m g = ended-lines 0x0D m (g .ends)
 
+pub segments-ended : (ss : List (List ℕ)) (h : frees 0x0D ss ≡ true) → segments (ended 0x0D ss) ≡ ss
+unfolding segments
+segments-ended ss h = rw (split-ended 0x0D ss h) (butLast-snoc ss)
+
 -- no segment has 0D in it
 pub segments-free : (m : List ℕ) → frees 0x0D (segments m) ≡ true
 unfolding segments
-segments-free m = frees-butLast 0x0D (split 0x0D m) (frees-split 0x0D m)
+segments-free m = butLast-frees 0x0D (split 0x0D m) (split-frees 0x0D m)
 
--- after ended segments one starts; they keep the rule, where they and more do
+-- after ended segments one starts
 pub starts-fresh : (ss : List (List ℕ)) → frees 0x0D ss ≡ true → here (ended 0x0D ss) ≡ []
 unfolding since
 starts-fresh ss h = rw (split-ended 0x0D ss h) (last-snoc ss)
-
-pub ended-keeps : (ss : List (List ℕ)) (z : List ℕ) → keeps 0x0D (ended 0x0D ss ++ z) ≡ true → (keeps 0x0D (ended 0x0D ss) ≡ true) × (keeps 0x0D z ≡ true)
-unfolding ended
-ended-keeps [] z h = (unfold keeps walk isOne in refl, h)
-ended-keeps (s ∷ ss) z h =
-    let a = keeps-parts s (ended 0x0D ss ++ z) (rw append-assoc at h) in
-    let b = ended-keeps ss z (a .1) in
-    (keeps-joined s (ended 0x0D ss) (a .0) (b .0), b .1)
 
 -- ---- a known segment is one of the segments
 record Among (at : ℕ) (ss : List (List ℕ)) (k : Known) : Type 0 where
@@ -132,10 +115,7 @@ further at s ss k a =
 
 among : (at : ℕ) (ss : List (List ℕ)) (i : ℕ) (k : Known) → getElem? (knownFrom at ss) i ≡ some k → Among at ss k
 unfolding knownFrom ended
-among at [] i k e = absurd (none-some e)
-  where
-    none-some : none ≡ some k → ⊥
-    none-some q = false≢true (ap (elim [ none ↦ false | some x ↦ true ]) q)
+among at [] i k e = nothing-some e
 among at (s ∷ ss) i k e =
     cases (is (nameOf s) Other)
     (λ t. further at s ss k (among (at + suc (length s)) ss i k (rw t at e)))
@@ -207,16 +187,22 @@ stands-known m g i k e =
     }
 
 -- ---- its fields and their components
-pub in-range : (b : ℕ) → allowed b ≡ true → within 0x20 0x7E b ≡ true
-unfolding all bytes
-in-range b h = has-all (within 0x20 0x7E) (bytes "!#%&*;?@\\^|~") b refl h
-
-pub printable : (b : ℕ) → allowed b ≡ true → (0x20 ≤ b) × (b ≤ 0x7E)
-printable b h = let a = both (leb 0x20 b) (leb b 0x7E) (in-range b h) in (leb-true 0x20 b (a .0), leb-true b 0x7E (a .1))
-
 -- a piece of a text with its place, cut at a delimiter
-pub cut : (b n : ℕ) (s : List ℕ) → allowed b ≡ true → keeps 0x0D s ≡ true → Piece b n s
+pub cut : (b n : ℕ) (s : List ℕ) → Delim b → keeps 0x0D s ≡ true → Piece b n s
 cut b n s h k = let a = printable b h in piece b (a .0) (a .1) n s k
+
+-- places in a message, as fetch counts them: repetitions from 0, fields and components from 1
+abbrev pub repetitionOf : Delims → Known → ℕ → ℕ → List ℕ
+repetitionOf d k f r = nth (split (d .repetition) (fieldOf d k f)) r
+
+abbrev pub fieldPlace : Delims → Known → ℕ → ℕ
+fieldPlace d k f = k .start + startOf (d .field) (pieceOf (k .name) f) (k .body)
+
+abbrev pub repetitionPlace : Delims → Known → ℕ → ℕ → ℕ
+repetitionPlace d k f r = fieldPlace d k f + startOf (d .repetition) r (fieldOf d k f)
+
+abbrev pub componentPlace : Delims → Known → ℕ → ℕ → ℕ → ℕ
+componentPlace d k f r c = repetitionPlace d k f r + startOf (d .component) (c - 1) (repetitionOf d k f r)
 
 -- the field f, its r-th repetition from 0, and the component c of that; what stands before each and after it
 module _ (m : List ℕ) (g : Header m) (k : Known) (s : Stands m k) (f : ℕ) where
@@ -224,7 +210,7 @@ module _ (m : List ℕ) (g : Header m) (k : Known) (s : Stands m k) (f : ℕ) wh
   d = delimsOf m
 
   pub fieldPiece : Piece (d .field) (pieceOf (k .name) f) (s .raw)
-  fieldPiece = cut (d .field) (pieceOf (k .name) f) (s .raw) (g .field) (s .raw-kept)
+  fieldPiece = cut (d .field) (pieceOf (k .name) f) (s .raw) (g .proper .field) (s .raw-kept)
 
   abbrev pub fieldLeft : List ℕ
   fieldLeft = s .left ++ fieldPiece .left
@@ -245,7 +231,7 @@ module _ (m : List ℕ) (g : Header m) (k : Known) (s : Stands m k) (f : ℕ) wh
 
   module _ (r : ℕ) where
     pub repetitionPiece : Piece (d .repetition) r (fieldPiece .own)
-    repetitionPiece = cut (d .repetition) r (fieldPiece .own) (g .repetition) (fieldPiece .own-kept)
+    repetitionPiece = cut (d .repetition) r (fieldPiece .own) (g .proper .repetition) (fieldPiece .own-kept)
 
     abbrev pub repetitionLeft : List ℕ
     repetitionLeft = fieldLeft ++ repetitionPiece .left
@@ -266,7 +252,7 @@ module _ (m : List ℕ) (g : Header m) (k : Known) (s : Stands m k) (f : ℕ) wh
 
     module _ (c : ℕ) where
       pub componentPiece : Piece (d .component) (c - 1) (repetitionPiece .own)
-      componentPiece = cut (d .component) (c - 1) (repetitionPiece .own) (g .component) (repetitionPiece .own-kept)
+      componentPiece = cut (d .component) (c - 1) (repetitionPiece .own) (g .proper .component) (repetitionPiece .own-kept)
 
       abbrev pub componentLeft : List ℕ
       componentLeft = repetitionLeft ++ componentPiece .left
