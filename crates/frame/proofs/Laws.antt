@@ -69,16 +69,6 @@ module _ (x : ℕ) (s : List ℕ) (i : ℕ) (inv : has x s ≡ has x (drop i s))
   pub has-over : length s ≤ i → false ≡ has x s
   has-over h = sym (inv ∙ ap (has x) (over s i h) ∙ has-nil x)
 
--- ---- 12: the mode after the bytes so far
-module _ (s : List ℕ) (i : ℕ) (mode : Mode) (inv : walk 0x0D One s ≡ walk 0x0D mode (drop i s)) where
-  pub keeps-on : (r : Mode) → i < length s → r ≡ step 0x0D mode (getD s i 0) → walk 0x0D One s ≡ walk 0x0D r (drop (i + 1) s)
-  unfolding walk
-  keeps-on r h e = cc (here 0 s i h)
-
-  pub keeps-over : (t : Bool) → length s ≤ i → t ≡ isOne mode → t ≡ keeps 0x0D s
-  unfolding keeps walk
-  keeps-over t h e = cc (over s i h)
-
 -- ---- names
 pub named-is : (s k : List ℕ) → 3 ≤ length s → length k ≡ 3
     → ((eqb (getD s 0 0) (getD k 0 0) && eqb (getD s 1 0) (getD k 1 0)) && eqb (getD s 2 0) (getD k 2 0)) ≡ starts k s
