@@ -26,7 +26,7 @@ use Rattle.rules.specs.Frame.{delimsOf, segments, nameOf, Known, knownFrom, kno
 use Rattle.rules.specs.Frame as Frame
 use Rattle.rules.specs.View.{pieceOf, fieldOf, componentOf, firstRepetition}
 use Rattle.rules.specs.Fetch.{span, startOf, stretch, spanOf, ordinal}
-use Rattle.rules.proofs.Logic.{cases, zeroCases, both, not-true, not-false}
+use Rattle.rules.proofs.Logic.{cases, zeroCases, both, neither, not-true, not-false}
 use Rattle.rules.proofs.Lists.{here, over, rest-is}
 use Rattle.rules.proofs.Split.{split-nil, split-cons, split-here, split-there, front, later}
 use Rattle.rules.proofs.Modes.{one-is, still-one, marks-nil, marks-here, marks-over, take-marks, length-marks}
@@ -36,7 +36,7 @@ use Rattle.frame.proofs.Laws.{segments-next}
 use Rattle.fetch.specs.declared.Segment.{Segment}
 use Rattle.fetch.specs.declared.Found.{Found}
 use Rattle.fetch.specs.declared.Found.the-variants as Found
-use Rattle.fetch.specs.Place.{placeTold, knownOf, foundTold, stretchOf, Begins, PieceOf}
+use Rattle.fetch.specs.Place.{placeTold, knownOf, foundTold, partIn, stretchOf, Begins, PieceOf}
 
 -- ---- general: the n-th piece of a text, byte by byte
 until-here : (sep x : ℕ) (s : List ℕ) → eqb x sep ≡ true → until (is sep) (x ∷ s) ≡ []
@@ -328,48 +328,49 @@ undivided-one start len c e = rw (eq-eqb c 1 e)
 pub undivided-more : (start len c : ℕ) → (c ≡ 1 → ⊥) → stretch (start + len) 0 ≡ cond (eqb c 1) (stretch start len) (stretch (start + len) 0)
 undivided-more start len c e = rw (ne-eqb c 1 e)
 
--- ---- one component of a segment
-pub component-is : (d : Delims) (m : List ℕ) (start len n c from flen first : ℕ) (mode : Mode) (cs cl : ℕ) (cm : Mode)
-    → let B = take (start + len - start) (drop start m) in
-    let W = take (from + flen - from) (drop from B) in
-    PieceOf (d .field) n One B from flen mode → first ≡ length (until (is (d .repetition)) (marks 0x0D mode W))
-    → PieceOf (d .component) (c - 1) mode (take first W) cs cl cm
-    → stretch (start + from + cs) cl ≡ stretchOf d start (met (take len (drop start m))) n c
-unfolding stretchOf firstRepetition componentOf met
-component-is d m start len n c from flen first mode cs cl cm f r p =
-    let el : start + len - start ≡ len = omega arith in
-    let ef : from + flen - from ≡ flen = omega arith in
-    let B : List ℕ = take len (drop start m) in
-    let W : List ℕ = take flen (drop from B) in
-    let F : List ℕ = nth (split (d .field) (marks 0x0D One B)) n in
-    let fs : PieceOf (d .field) n One B from flen mode = rw el at f in
-    let rs : first ≡ length (until (is (d .repetition)) (marks 0x0D mode W)) = rw (el, ef) at r in
-    let ps : PieceOf (d .component) (c - 1) mode (take first W) cs cl cm = rw (el, ef) at p in
-    let R : marks 0x0D mode (take first W) ≡ nth (split (d .repetition) F) 0
-    = sym (take-marks 0x0D first mode W) ∙ rw rs (take-until (is (d .repetition)) (marks 0x0D mode W)) ∙ sym (first-until (d .repetition) (marks 0x0D mode W))
-    ∙ ap (λ l. nth (split (d .repetition) l) 0) (fs .own) in
-    rw (fs .start, ps .start, ps .long, R)
+-- ---- one component of a field
+pub in-is : (d : Delims) (f : List ℕ) (m : Mode) (c n : ℕ) (at len : ℕ) (q : Mode) → n ≡ length (until (is (d .repetition)) (marks 0x0D m f))
+    → PieceOf (d .component) (c - 1) m (take n f) at len q → stretch at len ≡ partIn d (marks 0x0D m f) c
+unfolding partIn firstRepetition componentOf
+in-is d f m c n at len q e p =
+    let r : marks 0x0D m (take n f) ≡ nth (split (d .repetition) (marks 0x0D m f)) 0
+    = sym (take-marks 0x0D n m f) ∙ rw e (take-until (is (d .repetition)) (marks 0x0D m f)) ∙ sym (first-until (d .repetition) (marks 0x0D m f)) in
+    rw (← r, p .start, p .long)
 
-pub component-within : (m : List ℕ) (start len from flen first cs cl : ℕ)
-    → let B = take (start + len - start) (drop start m) in
-    let W = take (from + flen - from) (drop from B) in
-    start + len ≤ length m → from + flen ≤ length B → first ≤ length W → cs + cl ≤ length (take first W) → start + from + cs + cl ≤ length m
-component-within m start len from flen first cs cl h f r p =
-    let el : start + len - start ≡ len = omega arith in
-    let ef : from + flen - from ≡ flen = omega arith in
-    let B : List ℕ = take len (drop start m) in
-    let W : List ℕ = take flen (drop from B) in
-    let lb : length B ≡ len = length-take-le len (drop start m) (omega (arith, length-drop start m)) in
-    let f′ : from + flen ≤ length B = rw el at f in
-    let lw : length W ≡ flen = length-take-le flen (drop from B) (omega (arith, length-drop from B)) in
-    let r′ : first ≤ length W = rw (el, ef) at r in
-    let p′ : cs + cl ≤ length (take first W) = rw (el, ef) at p in
-    omega (arith, length-take-le first W r′)
+pub in-within : (f : List ℕ) (n at len : ℕ) → n ≤ length f → at + len ≤ length (take n f) → at + len ≤ length f
+in-within f n at len h k = omega (arith, length-take-le n f h)
+
+-- ---- of a segment
+module _ (m : List ℕ) (s : Segment) (at len : ℕ) (inside : s .start + s .len ≤ length m) where
+  abbrev body : List ℕ
+  body = take (s .start + s .len - s .start) (drop (s .start) m)
+
+  abbrev field : List ℕ
+  field = take (at + len - at) (drop at body)
+
+  body-is : body ≡ take (s .len) (drop (s .start) m)
+  body-is = let e : s .start + s .len - s .start ≡ s .len = omega arith in ap (λ n. take n (drop (s .start) m)) e
+
+  field-is : field ≡ take len (drop at body)
+  field-is = let e : at + len - at ≡ len = omega arith in ap (λ n. take n (drop at body)) e
+
+  pub component-is : (d : Delims) (n c : ℕ) (q : Mode) (p : Span) → PieceOf (d .field) n One body at len q → p ≡ partIn d (marks 0x0D q field) c
+      → stretch (s .start + at + p .start) (p .len) ≡ stretchOf d (s .start) (met (take (s .len) (drop (s .start) m))) n c
+  unfolding stretchOf met
+  component-is d n c q p f e =
+      let g : marks 0x0D q field ≡ nth (split (d .field) (marks 0x0D One (take (s .len) (drop (s .start) m)))) n
+      = ap (marks 0x0D q) field-is ∙ f .own ∙ ap (λ l. nth (split (d .field) (marks 0x0D One l)) n) body-is in
+      let h : at ≡ startOf (d .field) n (marks 0x0D One (take (s .len) (drop (s .start) m))) = f .start ∙ ap (λ l. startOf (d .field) n (marks 0x0D One l)) body-is in
+      rw (e, g, ← h)
+
+  pub component-within : (p : Span) → at + len ≤ length body → p .start + p .len ≤ length field → s .start + at + p .start + p .len ≤ length m
+  component-within p h k =
+      omega (arith, ap length field-is, length-take-le len (drop at body) (omega (arith, length-drop at body)), ap length body-is, length-take-le (s .len) (drop (s .start) m) (omega (arith, length-drop (s .start) m)))
 
 -- ---- by the segment's name
 module _ (d : Delims) (m : List ℕ) (s : Segment) (f c : ℕ) (r : Span) (t : Bool) (et : t ≡ Frame.is (s .name) Msh) where
   pub part-other : not t ≡ true → r ≡ stretchOf d (s .start) (met (take (s .len) (drop (s .start) m))) f c → r ≡ spanOf d (knownOf m s) f c
-  unfolding spanOf stretchOf fieldOf pieceOf
+  unfolding spanOf stretchOf partIn fieldOf pieceOf
   part-other n e = let z : Frame.is (s .name) Msh ≡ false = sym et ∙ not-true t n in rw z e
 
   pub part-first : not t ≡ false → f ≡ 1 → r ≡ cond (eqb c 1) (stretch 3 1) (stretch (3 + 1) 0) → r ≡ spanOf d (knownOf m s) f c
@@ -381,10 +382,17 @@ module _ (d : Delims) (m : List ℕ) (s : Segment) (f c : ℕ) (r : Span) (t : B
   part-second n h e = let z : Frame.is (s .name) Msh ≡ true = sym et ∙ not-false t n in rw (z, h) e
 
   pub part-later : not t ≡ false → (f ≡ 1 → ⊥) → (f ≡ 2 → ⊥) → r ≡ stretchOf d (s .start) (met (take (s .len) (drop (s .start) m))) (f - 1) c → r ≡ spanOf d (knownOf m s) f c
-  unfolding spanOf stretchOf fieldOf pieceOf
+  unfolding spanOf stretchOf partIn fieldOf pieceOf
   part-later n h k e = let z : Frame.is (s .name) Msh ≡ true = sym et ∙ not-false t n in rw (z, ne-eqb f 1 h, ne-eqb f 2 k) e
 
 -- ---- 31, 30, or the place
+pub place-asks : (m : List ℕ) (f c : ℕ) (x : Found) (s : Segment) → (eqb f 0 || eqb c 0) ≡ false → 9 ≤ length m
+    → ((y : Segment) → x ≡ Found.At y → y .start + y .len ≤ length m) → x ≡ Found.At s
+    → (1 ≤ f) × (1 ≤ c) × (9 ≤ length m) × (s .start + s .len ≤ length m)
+place-asks m f c x s h l w e =
+    let q = neither (eqb f 0) (eqb c 0) h in
+    (omega (arith, eqb-false f 0 (q .0)), omega (arith, eqb-false c 0 (q .1)), l, w s e)
+
 module _ (m : List ℕ) (o f c : ℕ) (r : Fetched) where
   pub place-zero : (eqb f 0 || eqb c 0) ≡ true → r ≡ NotFetched (record { kind = Zero; segment = 0; field = 0 }) → toldSpan r ≡ placeTold m o f c
   unfolding placeTold

@@ -35,11 +35,14 @@ abbrev pub foundTold : List ℕ → Found → Told Known
 foundTold m (At s) = gives (knownOf m s)
 foundTold m Nothing = refused 30 0 0
 
--- the component c of the first repetition of the n-th piece of a segment that starts at `at`
+-- the component c of the first repetition of a field, by its place there; of the n-th piece of a segment that starts at `at`
+unfoldable pub partIn : Delims → List ℕ → ℕ → Span
+partIn d f c = let r = firstRepetition d f in stretch (startOf (d .component) (c - 1) r) (length (componentOf d r c))
+
 unfoldable pub stretchOf : Delims → ℕ → List ℕ → ℕ → ℕ → Span
 stretchOf d at body n c =
-    let r = firstRepetition d (nth (split (d .field) body) n) in
-    stretch (at + startOf (d .field) n body + startOf (d .component) (c - 1) r) (length (componentOf d r c))
+    let p = partIn d (nth (split (d .field) body) n) c in
+    stretch (at + startOf (d .field) n body + p .start) (p .len)
 
 -- ---- the n-th piece of s, which begins in the mode m: it begins at `at`, in the mode q
 pub record Begins (sep n : ℕ) (m : Mode) (s : List ℕ) (at : ℕ) (q : Mode) : Type 0 where

@@ -15,11 +15,11 @@ ghost use lib.Dec.{eqb};
 ghost use lib.ListN.{length, take, drop};
 ghost use Rattle.rules.specs.declared.Name.the-variants.{Other};
 ghost use Rattle.rules.specs.Told.{toldSpan, _when_};
-ghost use Rattle.rules.specs.Shift.{met};
+ghost use Rattle.rules.specs.Shift.{marks, met};
 ghost use Rattle.rules.specs.Frame.{is, known};
 ghost use Rattle.rules.specs.Fetch.{spanOf, stretch};
 ghost use Rattle.rules.specs.Fetch as Fetch;
-ghost use Rattle.fetch.specs.Place.{placeTold, knownOf, foundTold, stretchOf};
+ghost use Rattle.fetch.specs.Place.{placeTold, knownOf, foundTold, partIn, stretchOf};
 
 mod pieces;
 
@@ -148,11 +148,23 @@ fn component_of(m: &[u8], d: Delims, s: Segment, n: usize, component: usize) -> 
     let from = f.start;
     let to = from + f.len;
     let mode = f.mode;
-    let whole = &body[from..to];
-    let first = pieces::before(whole, mode, d.repetition);
-    let c = pieces::nth_piece(&whole[..first], mode, d.component, component - 1);
+    let p = part_in(&body[from..to], mode, d, component);
     Span {
-        start: start + from + c.start,
+        start: start + from + p.start,
+        len: p.len,
+    }
+}
+
+// A component of the first repetition of a field, which begins in the mode `mode`, by its place in the field.
+fn part_in(f: &[u8], mode: Mode, d: Delims, component: usize) -> Span
+    requires { ⌜ 1 ≤ component ⌝ }
+    ensures { λ r. ⌜ r ≡ partIn d (marks 0x0D mode (now (f .entry))) component ⌝ }
+    ensures within { λ r. ⌜ r .start + r .len ≤ length (now (f .entry)) ⌝ }
+{
+    let n = pieces::before(f, mode, d.repetition);
+    let c = pieces::nth_piece(&f[..n], mode, d.component, component - 1);
+    Span {
+        start: c.start,
         len: c.len,
     }
 }
