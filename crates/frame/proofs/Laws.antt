@@ -69,16 +69,6 @@ module _ (x : ℕ) (s : List ℕ) (i : ℕ) (inv : has x s ≡ has x (drop i s))
   pub has-over : length s ≤ i → false ≡ has x s
   has-over h = sym (inv ∙ ap (has x) (over s i h) ∙ has-nil x)
 
--- ---- 12: the mode after the bytes so far
-module _ (s : List ℕ) (i : ℕ) (mode : Mode) (inv : walk 0x0D One s ≡ walk 0x0D mode (drop i s)) where
-  pub keeps-on : (r : Mode) → i < length s → r ≡ step 0x0D mode (getD s i 0) → walk 0x0D One s ≡ walk 0x0D r (drop (i + 1) s)
-  unfolding walk
-  keeps-on r h e = cc (here 0 s i h)
-
-  pub keeps-over : (t : Bool) → length s ≤ i → t ≡ isOne mode → t ≡ keeps 0x0D s
-  unfolding keeps walk
-  keeps-over t h e = cc (over s i h)
-
 -- ---- names
 pub named-is : (s k : List ℕ) → 3 ≤ length s → length k ≡ 3
     → ((eqb (getD s 0 0) (getD k 0 0) && eqb (getD s 1 0) (getD k 1 0)) && eqb (getD s 2 0) (getD k 2 0)) ≡ starts k s
@@ -222,9 +212,9 @@ and-swap false true c = refl
 and-swap false false c = refl
 
 module _ (bar : ℕ) (r : List ℕ) (n : ℕ) (en : n ≡ length (until (Scan.is 0x0D) r)) where
-  pass-unended : (v : Seen) → 0 < length r → n ≡ length r → passFrom v bar r ≡ Bad
-  unfolding passFrom segmentsOk last
-  pass-unended v f h = rw (split-last 0x0D r (sym en ∙ h), filled-some r (λ q. omega arith))
+  pub ok-unended : 0 < length r → n ≡ length r → segmentsOk bar r ≡ false
+  unfolding segmentsOk last
+  ok-unended f h = rw (split-last 0x0D r (sym en ∙ h), filled-some r (λ q. omega arith))
 
   module _ (h : n < length r) where
     cut : split 0x0D r ≡ take n r ∷ split 0x0D (drop (suc n) r)
@@ -254,7 +244,8 @@ module _ (m : List ℕ) (bar at n : ℕ) (v : Seen) (inv : passFrom start bar m 
   there = en ∙ ap (λ l. length (until (Scan.is 0x0D) l)) (rest-is m at)
 
   pub pass-open : at < length m → n ≡ length (take (length m - at) (drop at m)) → Bad ≡ passFrom start bar m
-  pass-open h e = sym (inv ∙ pass-unended bar (drop at m) n there v (omega (arith, length-drop at m)) (e ∙ ap length (rest-is m at)))
+  unfolding passFrom
+  pass-open h e = sym (inv ∙ rw (ok-unended bar (drop at m) n there (omega (arith, length-drop at m)) (e ∙ ap length (rest-is m at))))
 
   module _ (k : n ≤ length (take (length m - at) (drop at m))) (ne : n ≡ length (take (length m - at) (drop at m)) → ⊥) where
     inside : n < length (drop at m)

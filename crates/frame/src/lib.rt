@@ -12,7 +12,6 @@ ghost use Rattle.frame.specs.Frame.{framedTold, frameOf, closing, Within
 pub mod header;
 pub mod names;
 mod segments;
-mod shift;
 
 // What a message that passes 10 to 15 is read with, and what the check gives in the end.
 pub struct Opened {
@@ -36,7 +35,7 @@ pub fn frame(m: &[u8]) -> Framed
     if !header::is_header(m) {
         return refused(Kind::Header, 0);
     }
-    if !shift::keeps(m) {
+    if !scan::keeps(m, 0x0D) {
         return refused(Kind::Bytes, 0);
     }
     let d = header::delims(m);
