@@ -31,6 +31,7 @@ use Rattle.rules.proofs.Lists.{here, over, rest-is}
 use Rattle.rules.proofs.Split.{split-nil, split-cons, split-here, split-there, front, later}
 use Rattle.rules.proofs.Modes.{one-is, still-one, marks-nil, marks-here, marks-over, take-marks, length-marks}
 use Rattle.scan.specs.Scan.{until, is, meetsOf}
+use Rattle.scan.proofs.Laws.{until-yes, until-no, until-nil, take-until}
 use Rattle.value.proofs.Laws.{split-last}
 use Rattle.frame.proofs.Laws.{segments-next}
 use Rattle.fetch.specs.declared.Segment.{Segment}
@@ -39,31 +40,14 @@ use Rattle.fetch.specs.declared.Found.the-variants as Found
 use Rattle.fetch.specs.Place.{placeTold, knownOf, foundTold, partIn, stretchOf, Begins, PieceOf}
 
 -- ---- general: the n-th piece of a text, byte by byte
-until-here : (sep x : ℕ) (s : List ℕ) → eqb x sep ≡ true → until (is sep) (x ∷ s) ≡ []
-unfolding until
-until-here sep x s e = cc
-
-until-there : (sep x : ℕ) (s : List ℕ) → eqb x sep ≡ false → until (is sep) (x ∷ s) ≡ x ∷ until (is sep) s
-unfolding until
-until-there sep x s e = cc
-
-until-nil : (sep : ℕ) → until (is sep) [] ≡ []
-unfolding until
-until-nil sep = refl
-
 -- the first piece ends before the first separator
 pub first-until : (sep : ℕ) (s : List ℕ) → nth (split sep s) 0 ≡ until (is sep) s
 unfolding onto
-first-until sep [] = cc (split-nil sep, until-nil sep)
+first-until sep [] = cc (split-nil sep, until-nil (is sep))
 first-until sep (x ∷ s) =
     cases (eqb x sep)
-    (λ e. cc (split-here sep x s e, until-here sep x s e))
-    (λ e. cc (split-there sep x s e, split-cons sep s, until-there sep x s e, first-until sep s))
-
-take-until : (p : ℕ → Bool) (s : List ℕ) → take (length (until p s)) s ≡ until p s
-unfolding until
-take-until p [] = refl
-take-until p (b ∷ s) = cases (p b) (λ e. cc) (λ e. cc (take-until p s))
+    (λ e. cc (split-here sep x s e, until-yes (is sep) x s e))
+    (λ e. cc (split-there sep x s e, split-cons sep s, until-no (is sep) x s e, first-until sep s))
 
 nth-nil : (sep n : ℕ) → nth (split sep []) n ≡ []
 nth-nil sep zero = ap (λ ps. nth ps 0) (split-nil sep)
@@ -136,7 +120,7 @@ module _ (sep : ℕ) (m : Mode) (s : List ℕ) (i : ℕ) (q : Mode) (inv : Befor
       let x : ℕ = mark q (getD s i 0) in
       let rest : List ℕ = marks 0x0D r (drop (i + 1) s) in
       let u : until (is sep) (marks 0x0D q (drop i s)) ≡ x ∷ until (is sep) rest
-      = ap (until (is sep)) (marks-here 0x0D s i q h ∙ ap (λ w. x ∷ marks 0x0D w (drop (i + 1) s)) (sym f)) ∙ until-there sep x rest e in
+      = ap (until (is sep)) (marks-here 0x0D s i q h ∙ ap (λ w. x ∷ marks 0x0D w (drop (i + 1) s)) (sym f)) ∙ until-no (is sep) x rest e in
       let z : length (until (is sep) (marks 0x0D m s)) ≡ i + suc (length (until (is sep) rest)) = inv .long ∙ ap (λ l. i + length l) u in
       record { long = omega arith }
 
@@ -153,10 +137,10 @@ module _ (sep : ℕ) (m : Mode) (s : List ℕ) (i : ℕ) (q : Mode) (inv : Befor
   pub before-here : (t : Bool) → i < length s → t ≡ meetsOf sep (mark q (getD s i 0)) → t ≡ true → i ≡ length (until (is sep) (marks 0x0D m s))
   unfolding meetsOf
   before-here t h e y =
-      before-done (ap (until (is sep)) (marks-here 0x0D s i q h) ∙ until-here sep (mark q (getD s i 0)) (marks 0x0D (step 0x0D q (getD s i 0)) (drop (i + 1) s)) (sym e ∙ y))
+      before-done (ap (until (is sep)) (marks-here 0x0D s i q h) ∙ until-yes (is sep) (mark q (getD s i 0)) (marks 0x0D (step 0x0D q (getD s i 0)) (drop (i + 1) s)) (sym e ∙ y))
 
   pub before-over : length s ≤ i → i ≡ length (until (is sep) (marks 0x0D m s))
-  before-over h = before-done (ap (until (is sep)) (marks-over 0x0D s i q h) ∙ until-nil sep)
+  before-over h = before-done (ap (until (is sep)) (marks-over 0x0D s i q h) ∙ until-nil (is sep))
 
 -- ---- begin: of the n-th piece, `left` separators are still to come after `at`
 pub record Seeks (sep n : ℕ) (m : Mode) (s : List ℕ) (left at : ℕ) (q : Mode) : Type 0 where
@@ -198,7 +182,7 @@ module _ (sep n : ℕ) (m : Mode) (s : List ℕ) where
     seeks-over h =
         let u : marks 0x0D q (drop at s) ≡ [] = marks-over 0x0D s at q (omega arith) in
         let z : startOf sep n (marks 0x0D m s) ≡ at + startOf sep left [] = inv .start ∙ ap (λ l. at + startOf sep left l) u in
-        record { start = omega (arith, start-nil sep left); first = inv .own ∙ ap (λ l. nth (split sep l) left) u ∙ nth-nil sep left ∙ sym (ap (until (is sep)) u ∙ until-nil sep) }
+        record { start = omega (arith, start-nil sep left); first = inv .own ∙ ap (λ l. nth (split sep l) left) u ∙ nth-nil sep left ∙ sym (ap (until (is sep)) u ∙ until-nil (is sep)) }
 
     pub seeks-there : left ≤ 0 → Begins sep n m s at q
     seeks-there h =
@@ -386,10 +370,9 @@ module _ (d : Delims) (m : List ℕ) (s : Segment) (f c : ℕ) (r : Span) (t : B
   part-later n h k e = let z : Frame.is (s .name) Msh ≡ true = sym et ∙ not-false t n in rw (z, ne-eqb f 1 h, ne-eqb f 2 k) e
 
 -- ---- 31, 30, or the place
-pub place-asks : (m : List ℕ) (f c : ℕ) (x : Found) (s : Segment) → (eqb f 0 || eqb c 0) ≡ false → 9 ≤ length m
-    → ((y : Segment) → x ≡ Found.At y → y .start + y .len ≤ length m) → x ≡ Found.At s
-    → (1 ≤ f) × (1 ≤ c) × (9 ≤ length m) × (s .start + s .len ≤ length m)
-place-asks m f c x s h l w e =
+pub place-asks : (f c n : ℕ) (x : Found) (s : Segment) → (eqb f 0 || eqb c 0) ≡ false → 9 ≤ n → ((y : Segment) → x ≡ Found.At y → y .start + y .len ≤ n)
+    → x ≡ Found.At s → (1 ≤ f) × (1 ≤ c) × (9 ≤ n) × (s .start + s .len ≤ n)
+place-asks f c n x s h l w e =
     let q = neither (eqb f 0) (eqb c 0) h in
     (omega (arith, eqb-false f 0 (q .0)), omega (arith, eqb-false c 0 (q .1)), l, w s e)
 

@@ -56,7 +56,7 @@ fn begin_of(s: &[u8], mode: Mode, sep: u8, n: usize) -> Begin
             continue;
         }
         left -= hit(here, b, sep);
-        here = scan::step(here, b);
+        here = scan::step(here, b, 0x0D);
         at += 1;
     }
     Begin { at, mode: here }
@@ -78,7 +78,7 @@ pub fn before(s: &[u8], mode: Mode, sep: u8) -> usize
         if scan::meets(here, b, sep) {
             return i;
         }
-        here = scan::step(here, b);
+        here = scan::step(here, b, 0x0D);
         i += 1;
     }
     i
