@@ -11,6 +11,10 @@ use lib.Dec.{eqb, leb, ltb}
 use lib.ListN.{length, getD, take, drop, getElem?, length-drop}
 use lib.Seq.{drop-drop, length-take-le}
 use Rattle.rules.specs.declared.Delims.{Delims}
+use Rattle.rules.specs.declared.Counts.{Counts}
+use Rattle.rules.specs.declared.Refusal.{Refusal}
+use Rattle.rules.specs.declared.Answer.{Answer}
+use Rattle.rules.specs.declared.Answer.the-variants.{Accepted, Refused}
 use Rattle.rules.specs.declared.Name.{Name}
 use Rattle.rules.specs.declared.Name.the-variants.{Msh, Other}
 use Rattle.rules.specs.declared.Span.{Span}
@@ -19,14 +23,15 @@ use Rattle.rules.specs.declared.Fetched.the-variants.{At, NotFetched}
 use Rattle.rules.specs.declared.Kind.the-variants.{NoOrdinal, Zero}
 use Rattle.rules.specs.declared.Mode.{Mode}
 use Rattle.rules.specs.declared.Mode.the-variants.{One}
-use Rattle.rules.specs.Told.{Told, gives, refused, refuse_if_else_, toldSpan, _>>=_, _>>_, _when_}
-use Rattle.rules.specs.Lists.{nth, onto, split, allButLast}
+use Rattle.rules.specs.Told.{Told, gives, refused, refuse_if_else_, told, toldSpan, _>>=_, _>>_, _when_}
+use Rattle.rules.specs.Lists.{bytes, starts, nth, onto, split, allButLast}
 use Rattle.rules.specs.Shift.{step, isOne, mark, marks, met, within}
-use Rattle.rules.specs.Frame.{delimsOf, segments, nameOf, Known, knownFrom, known}
+use Rattle.rules.specs.Frame.{delimsOf, delimsOk, headerOk, segments, nameOf, Known, knownFrom, known}
 use Rattle.rules.specs.Frame as Frame
-use Rattle.rules.specs.View.{pieceOf, fieldOf, componentOf, firstRepetition}
-use Rattle.rules.specs.Fetch.{span, startOf, stretch, spanOf, ordinal}
-use Rattle.rules.proofs.Logic.{cases, zeroCases, both, neither, not-true, not-false}
+use Rattle.rules.specs.Check.{frameTold, viewTold, checkTold}
+use Rattle.rules.specs.View.{view, pieceOf, fieldOf, componentOf, firstRepetition}
+use Rattle.rules.specs.Fetch.{span, startOf, stretch, spanOf, ordinal, fetchTold, bytesAt, partTold}
+use Rattle.rules.proofs.Logic.{cases, zeroCases, both, neither, not-true, not-false, guard}
 use Rattle.rules.proofs.Lists.{here, over, rest-is}
 use Rattle.rules.proofs.Split.{split-nil, split-cons, split-here, split-there, front, later}
 use Rattle.rules.proofs.Modes.{one-is, still-one, marks-nil, marks-here, marks-over, take-marks, length-marks}
@@ -37,7 +42,7 @@ use Rattle.frame.proofs.Laws.{segments-next}
 use Rattle.fetch.specs.declared.Segment.{Segment}
 use Rattle.fetch.specs.declared.Found.{Found}
 use Rattle.fetch.specs.declared.Found.the-variants as Found
-use Rattle.fetch.specs.Place.{placeTold, knownOf, foundTold, partIn, stretchOf, Begins, PieceOf}
+use Rattle.fetch.specs.Place.{shown, startTold, placeTold, knownOf, foundTold, partIn, stretchOf, Begins, PieceOf}
 
 -- ---- general: the n-th piece of a text, byte by byte
 -- the first piece ends before the first separator
@@ -401,3 +406,47 @@ place-at m o f c x s d p h l t n ed e = let z : ordinal (known m) o ≡ gives (k
 
 pub at-within : (m : List ℕ) (p : Span) → p .start + p .len ≤ length m → (q : Span) → At p ≡ At q → q .start + q .len ≤ length m
 at-within m p h q e = let z : q ≡ p = cc in rw z h
+
+-- ---- of an accepted message
+accepted-long : (m : List ℕ) (k : Counts) → checkTold m ≡ gives k → 9 ≤ length m
+unfolding checkTold frameTold headerOk
+accepted-long m k h =
+    let q = framed (frameTold m) (viewTold (view m)) k h in
+    let a = guard 10 0 0 (ltb 32768 (length m)) _ tt q in
+    let b = guard 11 0 0 (not (headerOk m)) _ tt (a .1) in
+    let e = both (leb 9 (length m) && starts (bytes "MSH") m && delimsOk (delimsOf m)) (eqb (getD m 8 0) (delimsOf m .field)) (not-false (headerOk m) (b .0)) in
+    let g = both (leb 9 (length m) && starts (bytes "MSH") m) (delimsOk (delimsOf m)) (e .0) in
+    leb-true 9 (length m) (both (leb 9 (length m)) (starts (bytes "MSH") m) (g .0) .0)
+  where
+    framed : (t : Told (Unit {0})) (u : Told Counts) (k : Counts) → (t >> u) ≡ gives k → t ≡ gives tt
+    framed (gives tt) u k h = refl
+    framed (refused n s f) u k h = cc
+
+pub place-accepted : (m : List ℕ) (o f c : ℕ) (k : Counts) → checkTold m ≡ gives k → placeTold m o f c ≡ fetchTold m o f c
+unfolding placeTold fetchTold
+place-accepted m o f c k h = rw (h, le-ltb (length m) 9 (accepted-long m k h))
+
+-- ---- the check first
+module _ (m : List ℕ) (o f c : ℕ) (x : Answer) (e : told x ≡ checkTold m) where
+  pub locate-refused : (r : Refusal) → x ≡ Refused r → toldSpan (NotFetched r) ≡ fetchTold m o f c
+  unfolding fetchTold
+  locate-refused r h = rw (← e, h)
+
+  pub locate-accepted : (k : Counts) (y : Fetched) → x ≡ Accepted k → toldSpan y ≡ placeTold m o f c → toldSpan y ≡ fetchTold m o f c
+  locate-accepted k y h p = p ∙ place-accepted m o f c k (rw h at (sym e))
+
+pub refused-within : (n : ℕ) (r : Refusal) (p : Span) → NotFetched r ≡ At p → p .start + p .len ≤ n
+refused-within n r p e = let z : _≡_ {A = ℕ} 0 1 = cc in absurd (omega arith)
+
+-- ---- the part
+abbrev Part : List ℕ → ℕ → ℕ → ℕ → List ℕ → ℕ × ℕ → ℕ × ℕ → Type 0
+Part m o f c r p q = (r ≡ shown (partTold m o f c)) × (q ≡ (p .0, startTold (fetchTold m o f c) + p .1))
+
+module _ (m : List ℕ) (o f c : ℕ) (x : Fetched) (e : toldSpan x ≡ fetchTold m o f c) (a b : ℕ) where
+  pub fetch-refused : (r : Refusal) → x ≡ NotFetched r → Part m o f c (take 0 m) (a, b) (a, b)
+  unfolding partTold
+  fetch-refused r h = let k : b ≡ 0 + b = omega arith in rw (← e, h) (refl, ap (λ n. (a, n)) k)
+
+  pub fetch-at : (p : Span) → x ≡ At p → Part m o f c (take (p .start + p .len - p .start) (drop (p .start) m)) (a, b) (a, p .start + b)
+  unfolding partTold bytesAt
+  fetch-at p h = let k : p .start + p .len - p .start ≡ p .len = omega arith in rw (← e, h, k) (refl, refl)

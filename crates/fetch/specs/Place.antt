@@ -1,7 +1,7 @@
 -- What fetch tells after the check, and what its routines find.
 use mathlib.Core.Path.{_≡_}
 use mathlib.Core.Bool.{_||_}
-use mathlib.Core.List.{List}
+use mathlib.Core.List.{List, []}
 use Prim.Native.Nat.{ℕ, _+_, _-_}
 use lib.Dec.{ltb, eqb}
 use lib.ListN.{length, take, drop}
@@ -18,6 +18,15 @@ use Rattle.scan.specs.Scan.{until, is}
 use Rattle.fetch.specs.declared.Segment.{Segment}
 use Rattle.fetch.specs.declared.Found.{Found}
 use Rattle.fetch.specs.declared.Found.the-variants.{At, Nothing}
+
+-- ---- a part as it is given back: its bytes, and where they start; where it is refused nothing, at the start
+abbrev pub shown : Told (List ℕ) → List ℕ
+shown (gives b) = b
+shown (refused n s f) = []
+
+abbrev pub startTold : Told Span → ℕ
+startTold (gives p) = p .start
+startTold (refused n s f) = 0
 
 -- ---- after the check: 31, then 30. Of a message that the check accepts this is what fetch tells; what is too short for a header has no
 -- segment here, so that every stretch lies in the message.

@@ -1,6 +1,7 @@
 // Fetching a part of a message: "the caller gets back the very stretch of his message, still escaped, from the first repetition".
 use frame::header;
 use frame::names;
+use rules::Answer;
 use rules::Delims;
 use rules::Fetched;
 use rules::Kind;
@@ -17,11 +18,38 @@ ghost use Rattle.rules.specs.declared.Name.the-variants.{Other};
 ghost use Rattle.rules.specs.Told.{toldSpan, _when_};
 ghost use Rattle.rules.specs.Shift.{marks, met};
 ghost use Rattle.rules.specs.Frame.{is, known};
-ghost use Rattle.rules.specs.Fetch.{spanOf, stretch};
+ghost use Rattle.rules.specs.Fetch.{spanOf, stretch, fetchTold, partTold};
 ghost use Rattle.rules.specs.Fetch as Fetch;
-ghost use Rattle.fetch.specs.Place.{placeTold, knownOf, foundTold, partIn, stretchOf};
+ghost use Rattle.fetch.specs.Place.{shown, startTold, placeTold, knownOf, foundTold, partIn, stretchOf};
 
+mod message;
 mod pieces;
+
+// Where the part stands, or the refusal: the check's own first, then 31, then 30.
+pub fn locate(m: &[u8], ordinal: usize, field: usize, component: usize) -> Fetched
+    ensures { λ r. ⌜ toldSpan r ≡ fetchTold (now (m .entry)) ordinal field component ⌝ }
+    ensures within { λ r. ⌜ ((p : Span) → r ≡ Fetched.At p → p .start + p .len ≤ length (now (m .entry))) ⌝ }
+{
+    match message::check(m) {
+        Answer::Refused(r) => Fetched::NotFetched(r),
+        Answer::Accepted(_) => place(m, ordinal, field, component),
+    }
+}
+
+// The part itself, as the part of m that it is; where it is refused an empty one, at the start.
+pub fn fetch(m: &[u8], ordinal: usize, field: usize, component: usize) -> &[u8]
+    ensures { λ r. ⌜ now r ≡ shown (partTold (now (m .entry)) ordinal field component) ⌝ }
+    ensures place { λ r. ⌜ r .ptr ≡ (m .entry .ptr .0, startTold (fetchTold (now (m .entry)) ordinal field component) + m .entry .ptr .1) ⌝ }
+{
+    match locate(m, ordinal, field, component) {
+        Fetched::NotFetched(_) => &m[..0],
+        Fetched::At(p) => {
+            let start = p.start;
+            let end = start + p.len;
+            &m[start..end]
+        }
+    }
+}
 
 // After the check: where the part stands, or 31, or 30. It takes any bytes.
 pub fn place(m: &[u8], ordinal: usize, field: usize, component: usize) -> Fetched
