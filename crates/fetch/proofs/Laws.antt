@@ -1,14 +1,13 @@
 -- Laws of fetch: one for each way through its code. Assumes nothing.
 use mathlib.Core.Path.{_≡_, refl, sym, ap, _∙_}
 use mathlib.Core.Bool.{Bool, true, false, cond, not, _&&_, _||_}
-use mathlib.Core.List.{List, [], _∷_, _++_}
-use mathlib.Core.Option.{Option, none, some}
+use mathlib.Core.List.{List, [], _∷_}
 use Prim.Native.Nat.{ℕ, zero, suc, _+_, _-_, _≤_, _<_}
 use native.Mathlib.Numerals.{add-one}
 use native.Mathlib.Omega.{arith}
-use borrow.Author.Tests.{eqb-true, eqb-false, eq-eqb, ne-eqb, leb-true, ltb-true, ltb-false, lt-ltb, le-ltb}
+use borrow.Author.Tests.{eqb-false, eq-eqb, ne-eqb, leb-true, ltb-true, ltb-false, lt-ltb, le-ltb}
 use lib.Dec.{eqb, leb, ltb}
-use lib.ListN.{length, getD, take, drop, getElem?, length-drop}
+use lib.ListN.{length, getD, take, drop, length-drop}
 use lib.Seq.{drop-drop, length-take-le}
 use Rattle.rules.specs.declared.Delims.{Delims}
 use Rattle.rules.specs.declared.Counts.{Counts}
@@ -23,7 +22,7 @@ use Rattle.rules.specs.declared.Fetched.the-variants.{At, NotFetched}
 use Rattle.rules.specs.declared.Kind.the-variants.{NoOrdinal, Zero}
 use Rattle.rules.specs.declared.Mode.{Mode}
 use Rattle.rules.specs.declared.Mode.the-variants.{One}
-use Rattle.rules.specs.Told.{Told, gives, refused, refuse_if_else_, told, toldSpan, _>>=_, _>>_, _when_}
+use Rattle.rules.specs.Told.{Told, gives, refused, told, toldSpan, _>>_, _when_}
 use Rattle.rules.specs.Lists.{bytes, starts, nth, onto, split, allButLast}
 use Rattle.rules.specs.Shift.{step, isOne, mark, marks, met, within}
 use Rattle.rules.specs.Frame.{delimsOf, delimsOk, headerOk, segments, nameOf, Known, knownFrom, known}
@@ -32,9 +31,9 @@ use Rattle.rules.specs.Check.{frameTold, viewTold, checkTold}
 use Rattle.rules.specs.View.{view, pieceOf, fieldOf, componentOf, firstRepetition}
 use Rattle.rules.specs.Fetch.{span, startOf, stretch, spanOf, ordinal, fetchTold, bytesAt, partTold}
 use Rattle.rules.proofs.Logic.{cases, zeroCases, both, neither, not-true, not-false, guard}
-use Rattle.rules.proofs.Lists.{here, over, rest-is}
-use Rattle.rules.proofs.Split.{split-nil, split-cons, split-here, split-there, front, later}
-use Rattle.rules.proofs.Modes.{one-is, still-one, marks-nil, marks-here, marks-over, take-marks, length-marks}
+use Rattle.rules.proofs.Lists.{over, rest-is}
+use Rattle.rules.proofs.Split.{split-nil, split-cons, split-here, split-there, later}
+use Rattle.rules.proofs.Modes.{one-is, still-one, marks-here, marks-over, take-marks}
 use Rattle.scan.specs.Scan.{until, is, meetsOf}
 use Rattle.scan.proofs.Laws.{until-yes, until-no, until-nil, take-until}
 use Rattle.value.proofs.Laws.{split-last}

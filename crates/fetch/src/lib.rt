@@ -22,7 +22,6 @@ ghost use Rattle.rules.specs.Fetch.{spanOf, stretch, fetchTold, partTold};
 ghost use Rattle.rules.specs.Fetch as Fetch;
 ghost use Rattle.fetch.specs.Place.{shown, startTold, placeTold, knownOf, foundTold, partIn, stretchOf};
 
-mod message;
 mod pieces;
 
 // Where the part stands, or the refusal: the check's own first, then 31, then 30.

@@ -68,17 +68,17 @@ pub fn before(s: &[u8], mode: Mode, sep: u8) -> usize
     ensures within { λ r. ⌜ r ≤ length (now (s .entry)) ⌝ }
 {
     let mut i = 0;
-    let mut here = mode;
+    let mut m = mode;
     while i < s.len() {
         let b = s[i];
-        if quiet(here, b, sep) {
+        if quiet(m, b, sep) {
             i += 1;
             continue;
         }
-        if scan::meets(here, b, sep) {
+        if scan::meets(m, b, sep) {
             return i;
         }
-        here = scan::step(here, b, 0x0D);
+        m = scan::step(m, b, 0x0D);
         i += 1;
     }
     i

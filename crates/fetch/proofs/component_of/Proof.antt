@@ -1,6 +1,6 @@
+-- `component_of` meets its contract. Assumes nothing.
 use borrow.Author.Needs.{needs}
 use Rattle.fetch.proofs.Laws.{component-is, component-within}
-use borrow.Author.Needs.{needs}
 use Rattle.fetch.proofs.component_of.Statement.{statement}
 use Rattle.fetch.proofs.component_of.Tie as tie
 

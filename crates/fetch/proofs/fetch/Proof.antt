@@ -1,6 +1,6 @@
+-- `fetch` meets its contract. Assumes nothing.
 use borrow.Author.Needs.{needs}
 use Rattle.fetch.proofs.Laws.{fetch-at, fetch-refused}
-use borrow.Author.Needs.{needs}
 use Rattle.fetch.proofs.fetch.Statement.{statement}
 use Rattle.fetch.proofs.fetch.Tie as tie
 

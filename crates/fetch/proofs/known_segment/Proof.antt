@@ -1,6 +1,7 @@
+-- `known_segment` meets its contract. Assumes nothing.
 use borrow.Author.Needs.{needs}
-use Prim.Native.Nat.{_+_, _-_, _≤_}
-use lib.ListN.{length, drop}
+use Prim.Native.Nat.{_-_, _≤_}
+use lib.ListN.{length}
 use Rattle.rules.proofs.Lists.{part-length}
 use Rattle.fetch.proofs.Laws.{Seeking, found-within, nothing-within, segment-found, segment-further, segment-on, segment-open, segment-over, segment-starts, segment-zero}
 use Rattle.fetch.proofs.known_segment.Statement.{statement}
@@ -13,13 +14,13 @@ abbrev μ-loop : tie.MeasureT-loop
 μ-loop m ordinal left₀ at₀ left at = length m - at
 
 returns : tie.Need-returns Inv-loop μ-loop
-returns c = search (segment-zero, segment-starts, segment-over, segment-open, segment-further, segment-found, segment-on, nothing-within, found-within, needs)
+returns c = search (segment-zero, nothing-within, needs)
 
 sub-left : tie.Need-sub-left Inv-loop μ-loop
 sub-left c = search needs
 
 loop-holds : tie.Need-loop-holds Inv-loop μ-loop
-loop-holds c = search (segment-zero, segment-starts, segment-over, segment-open, segment-further, segment-found, segment-on, nothing-within, found-within, needs)
+loop-holds c = search (segment-starts, needs)
 
 sub-rest : tie.Need-sub-rest Inv-loop μ-loop
 sub-rest c = search needs
@@ -34,7 +35,7 @@ before-requires : tie.Need-before-requires Inv-loop μ-loop
 before-requires c κs = search needs
 
 returns-2 : tie.Need-returns-2 Inv-loop μ-loop
-returns-2 c = search (segment-zero, segment-starts, segment-over, segment-open, segment-further, segment-found, segment-on, nothing-within, found-within, needs)
+returns-2 c = search (segment-open, nothing-within, needs)
 
 slice-aggregate-name-of : tie.Need-slice-aggregate-name-of Inv-loop μ-loop
 slice-aggregate-name-of c = search (part-length, needs)
@@ -46,22 +47,22 @@ counts-requires : tie.Need-counts-requires Inv-loop μ-loop
 counts-requires c κs = search needs
 
 returns-3 : tie.Need-returns-3 Inv-loop μ-loop
-returns-3 c = search (segment-zero, segment-starts, segment-over, segment-open, segment-further, segment-found, segment-on, nothing-within, found-within, needs)
+returns-3 c = search (segment-found, found-within, needs)
 
 add-at : tie.Need-add-at Inv-loop μ-loop
-add-at c = search (segment-zero, segment-starts, segment-over, segment-open, segment-further, segment-found, segment-on, nothing-within, found-within, needs)
+add-at c = search (segment-further, needs)
 
 add-at-2 : tie.Need-add-at-2 Inv-loop μ-loop
 add-at-2 c = search needs
 
 loop-less : tie.Need-loop-less Inv-loop μ-loop
-loop-less c = search (segment-zero, segment-starts, segment-over, segment-open, segment-further, segment-found, segment-on, nothing-within, found-within, needs)
+loop-less c = search (segment-further, needs)
 
 loop-again : tie.Need-loop-again Inv-loop μ-loop
 loop-again c = (search (segment-further, needs), segment-on _ _ _ _ _ (c .before .before .before .before .before .before .before .before .loop .inv .1) (c .before .before .before .before .before .before2 .ensures .0) (c .before .before .before .before .before .before2 .ensures .1) (c .before .before .before .before .if2 .left) _ _ (c .before .before .name-of .ensures) (c .before .counts .ensures .0) (c .if3 .left))
 
 returns-4 : tie.Need-returns-4 Inv-loop μ-loop
-returns-4 c = search (segment-zero, segment-starts, segment-over, segment-open, segment-further, segment-found, segment-on, nothing-within, found-within, needs)
+returns-4 c = search (segment-over, nothing-within, needs)
 
 pub known-segment-spec : {M : Type 1} → statement M
 known-segment-spec =

@@ -1,6 +1,6 @@
+-- `locate` meets its contract. Assumes nothing.
 use borrow.Author.Needs.{needs}
 use Rattle.fetch.proofs.Laws.{locate-accepted, locate-refused, refused-within}
-use borrow.Author.Needs.{needs}
 use Rattle.fetch.proofs.locate.Statement.{statement}
 use Rattle.fetch.proofs.locate.Tie as tie
 
@@ -17,10 +17,10 @@ place-requires : tie.Need-place-requires
 place-requires c κs = search needs
 
 returns : tie.Need-returns
-returns c = search (locate-refused, locate-accepted, refused-within, needs)
+returns c = search (locate-refused, refused-within, needs)
 
 returns-2 : tie.Need-returns-2
-returns-2 c = search (locate-refused, locate-accepted, refused-within, needs)
+returns-2 c = search (locate-accepted, needs)
 
 pub locate-spec : {M : Type 1} → statement M
 locate-spec =

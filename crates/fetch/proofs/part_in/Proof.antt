@@ -1,7 +1,7 @@
+-- `part_in` meets its contract. Assumes nothing.
 use borrow.Author.Needs.{needs}
 use Rattle.rules.proofs.Lists.{part-length}
 use Rattle.fetch.proofs.Laws.{in-is, in-within}
-use borrow.Author.Needs.{needs}
 use Rattle.fetch.proofs.part_in.Statement.{statement}
 use Rattle.fetch.proofs.part_in.Tie as tie
 

@@ -1,6 +1,7 @@
+-- `before` meets its contract. Assumes nothing.
 use borrow.Author.Needs.{needs}
-use Prim.Native.Nat.{_+_, _-_, _≤_}
-use lib.ListN.{length, drop}
+use Prim.Native.Nat.{_-_, _≤_}
+use lib.ListN.{length}
 use Rattle.fetch.proofs.Laws.{Before, before-here, before-on, before-over, before-quiet, before-starts}
 use Rattle.fetch.proofs.pieces.before.Statement.{statement}
 use Rattle.fetch.proofs.pieces.before.Tie as tie
@@ -12,7 +13,7 @@ abbrev μ-loop : tie.MeasureT-loop
 μ-loop s sep i₀ here₀ i here = length s - i
 
 loop-holds : tie.Need-loop-holds Inv-loop μ-loop
-loop-holds c = search (before-starts, before-quiet, before-on, before-here, before-over, needs)
+loop-holds c = search (before-starts, needs)
 
 shared-slice-read-b : tie.Need-shared-slice-read-b Inv-loop μ-loop
 shared-slice-read-b c = search needs
@@ -27,13 +28,13 @@ loop-less : tie.Need-loop-less Inv-loop μ-loop
 loop-less c = search needs
 
 loop-again : tie.Need-loop-again Inv-loop μ-loop
-loop-again c = search (before-starts, before-quiet, before-on, before-here, before-over, needs)
+loop-again c = search (before-quiet, needs)
 
 meets-requires : tie.Need-meets-requires Inv-loop μ-loop
 meets-requires c κs = search needs
 
 returns : tie.Need-returns Inv-loop μ-loop
-returns c = search (before-starts, before-quiet, before-on, before-here, before-over, needs)
+returns c = search (before-here, needs)
 
 step-requires : tie.Need-step-requires Inv-loop μ-loop
 step-requires c κs = search needs
@@ -45,10 +46,10 @@ loop-less-2 : tie.Need-loop-less-2 Inv-loop μ-loop
 loop-less-2 c = search needs
 
 loop-again-2 : tie.Need-loop-again-2 Inv-loop μ-loop
-loop-again-2 c = search (before-starts, before-quiet, before-on, before-here, before-over, needs)
+loop-again-2 c = search (before-on, needs)
 
 returns-2 : tie.Need-returns-2 Inv-loop μ-loop
-returns-2 c = search (before-starts, before-quiet, before-on, before-here, before-over, needs)
+returns-2 c = search (before-over, needs)
 
 pub before-spec : {M : Type 1} → statement M
 before-spec =

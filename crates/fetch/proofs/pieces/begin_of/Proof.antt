@@ -1,6 +1,7 @@
+-- `begin_of` meets its contract. Assumes nothing.
 use borrow.Author.Needs.{needs}
-use Prim.Native.Nat.{_+_, _-_, _≤_}
-use lib.ListN.{length, drop}
+use Prim.Native.Nat.{_-_, _≤_}
+use lib.ListN.{length}
 use Rattle.fetch.proofs.Laws.{Seeks, seeks-on, seeks-over, seeks-quiet, seeks-starts, seeks-there}
 use Rattle.fetch.proofs.pieces.begin_of.Statement.{statement}
 use Rattle.fetch.proofs.pieces.begin_of.Tie as tie
@@ -12,10 +13,10 @@ abbrev μ-loop : tie.MeasureT-loop
 μ-loop s sep n left₀ at₀ here₀ left at here = length s - at
 
 loop-holds : tie.Need-loop-holds Inv-loop μ-loop
-loop-holds c = search (seeks-starts, seeks-quiet, seeks-on, seeks-over, seeks-there, needs)
+loop-holds c = search (seeks-starts, needs)
 
 returns : tie.Need-returns Inv-loop μ-loop
-returns c = search (seeks-starts, seeks-quiet, seeks-on, seeks-over, seeks-there, needs)
+returns c = search (seeks-over, needs)
 
 shared-slice-read-b : tie.Need-shared-slice-read-b Inv-loop μ-loop
 shared-slice-read-b c = search needs
@@ -51,7 +52,7 @@ loop-again-2 : tie.Need-loop-again-2 Inv-loop μ-loop
 loop-again-2 c = (search needs, search (seeks-on, needs))
 
 returns-2 : tie.Need-returns-2 Inv-loop μ-loop
-returns-2 c = search (seeks-starts, seeks-quiet, seeks-on, seeks-over, seeks-there, needs)
+returns-2 c = search (seeks-there, needs)
 
 pub begin-of-spec : {M : Type 1} → statement M
 begin-of-spec =

@@ -1,6 +1,6 @@
+-- `nth_piece` meets its contract. Assumes nothing.
 use borrow.Author.Needs.{needs}
 use Rattle.fetch.proofs.Laws.{piece-is, piece-within}
-use borrow.Author.Needs.{needs}
 use Rattle.fetch.proofs.pieces.nth_piece.Statement.{statement}
 use Rattle.fetch.proofs.pieces.nth_piece.Tie as tie
 

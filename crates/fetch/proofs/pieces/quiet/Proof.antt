@@ -1,6 +1,6 @@
+-- `quiet` meets its contract. Assumes nothing.
 use borrow.Author.Needs.{needs}
 use Rattle.fetch.proofs.Laws.{quiet-is}
-use borrow.Author.Needs.{needs}
 use Rattle.fetch.proofs.pieces.quiet.Statement.{statement}
 use Rattle.fetch.proofs.pieces.quiet.Tie as tie
 
