@@ -302,14 +302,25 @@ pub part-within : (s : List ℕ) (u k : ℕ) → u ≤ length s → k ≤ length
 part-within s u k h e = omega (arith, part-long s u)
 
 pub ruleset first-of·laws = (first-later, first-stays)
+
 pub ruleset unless·laws = (unless-holds, unless-not)
+
 pub ruleset repeated·laws = (repeated-yes, repeated-no)
+
 pub ruleset judge-place·laws = (unread-is, must-is, may-is, must-small, may-small)
+
 pub ruleset component·laws = (head-raw, component-judged, part-length)
+
 pub ruleset one·laws = (one-read, one-within)
+
 pub ruleset two·laws = (led-read, rest-fits, led-within)
+
 pub ruleset three·laws = (led-read, rest-fits, led-within)
+
 pub ruleset judge-field·laws = (read-one, read-three, read-charset, read-names, small-one, small-first, small-second, small-third)
+
 pub ruleset past·laws = (past-on, past-end, one-within)
+
 pub ruleset field·laws = (field-ended, field-judged, part-within)
+
 pub ruleset value-field·laws = (value-ended, value-judged, part-within)

@@ -168,11 +168,19 @@ pub no-order : {name n : Name} {d : Delims} {s : List ℕ} {fault at len : ℕ} 
 no-order e h g = never (sym g ∙ ap (λ n. Frame.is n Obr) e ∙ h)
 
 pub ruleset msh·laws = msh-found
+
 pub ruleset pid·laws = pid-found
+
 pub ruleset pv1·laws = pv1-found
+
 pub ruleset spm·laws = spm-found
+
 pub ruleset obr·laws = (obr-found, obr-order)
+
 pub ruleset orc·laws = orc-found
+
 pub ruleset obx-value·laws = obx-valued
+
 pub ruleset obx·laws = obx-found
+
 pub ruleset segment·laws = (named-found, named-any, other-found, no-order)

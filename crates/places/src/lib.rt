@@ -340,8 +340,20 @@ pub fn msh(s: &[u8], d: Delims) -> Found
         ),
     );
     let w = field(s, d, w, 10, Form::One(Place::Must(Rule::Text(20))));
-    let w = field(s, d, w, 11, Form::One(Place::Must(Rule::OneOf(Words::Modes))));
-    let w = field(s, d, w, 12, Form::One(Place::Must(Rule::OneOf(Words::Version))));
+    let w = field(
+        s,
+        d,
+        w,
+        11,
+        Form::One(Place::Must(Rule::OneOf(Words::Modes))),
+    );
+    let w = field(
+        s,
+        d,
+        w,
+        12,
+        Form::One(Place::Must(Rule::OneOf(Words::Version))),
+    );
     let w = field(s, d, w, 18, Form::Charset);
     ended(w)
 }
@@ -354,7 +366,13 @@ pub fn pid(s: &[u8], d: Delims) -> Found
     let w = field(s, d, w, 3, Form::One(Place::Must(Rule::Text(20))));
     let w = field(s, d, w, 5, Form::Names);
     let w = field(s, d, w, 7, Form::One(Place::May(Rule::Date)));
-    let w = field(s, d, w, 8, Form::One(Place::Must(Rule::OneOf(Words::Sexes))));
+    let w = field(
+        s,
+        d,
+        w,
+        8,
+        Form::One(Place::Must(Rule::OneOf(Words::Sexes))),
+    );
     ended(w)
 }
 
@@ -363,7 +381,13 @@ pub fn pv1(s: &[u8], d: Delims) -> Found
     ensures { λ r. ⌜ ((order : List ℕ) → FoundIn Pv1 d order (met (now (s .entry))) (r .field) (faultNo (r .fault))) ⌝ }
 {
     let w = begin(0);
-    let w = field(s, d, w, 2, Form::One(Place::Must(Rule::OneOf(Words::Classes))));
+    let w = field(
+        s,
+        d,
+        w,
+        2,
+        Form::One(Place::Must(Rule::OneOf(Words::Classes))),
+    );
     ended(w)
 }
 
@@ -441,7 +465,13 @@ fn obx_value(s: &[u8], d: Delims) -> Valued
     ensures { λ r. ⌜ ResultAt d (now (s .entry)) (r .walk) (r .filled) (r .beside) ⌝ }
 {
     let w = begin(0);
-    let w = field(s, d, w, 2, Form::One(Place::Must(Rule::OneOf(Words::Types))));
+    let w = field(
+        s,
+        d,
+        w,
+        2,
+        Form::One(Place::Must(Rule::OneOf(Words::Types))),
+    );
     let at = w.start;
     let end = at + w.head;
     let kind = &s[at..end];
@@ -467,7 +497,13 @@ pub fn obx(s: &[u8], d: Delims) -> Found
     let w = v.walk;
     let w = field(s, d, w, 6, Form::One(Place::May(Rule::Text(20))));
     let w = field(s, d, w, 8, Form::One(Place::May(Rule::OneOf(Words::Flags))));
-    let w = field(s, d, w, 11, Form::One(Place::Must(Rule::OneOf(Words::Statuses))));
+    let w = field(
+        s,
+        d,
+        w,
+        11,
+        Form::One(Place::Must(Rule::OneOf(Words::Statuses))),
+    );
     let f = w.fault;
     let at = w.start;
     let end = at + w.head;

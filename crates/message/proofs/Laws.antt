@@ -1,0 +1,230 @@
+-- Laws of the check: one for each way through its code. Assumes nothing.
+use mathlib.Core.Path.{_≡_, refl, sym, ap, _∙_}
+use mathlib.Core.Bool.{Bool, true, false, cond, not, _&&_, false≢true}
+use mathlib.Core.List.{List, [], _∷_, map}
+use Prim.Native.Nat.{ℕ, zero, suc, _+_, _-_, _≤_, _<_}
+use native.Mathlib.Numerals.{add-one}
+use native.Mathlib.Omega.{arith}
+use lib.ListN.{length, take, drop, length-drop}
+use lib.Seq.{drop-drop, length-take-le}
+use Rattle.rules.specs.declared.Delims.{Delims}
+use Rattle.rules.specs.declared.Counts.{Counts}
+use Rattle.rules.specs.declared.Kind.{Kind}
+use Rattle.rules.specs.declared.Refusal.{Refusal}
+use Rattle.rules.specs.declared.Name.{Name}
+use Rattle.rules.specs.declared.Name.the-variants.{Msh, Pid, Pv1, Spm, Obr, Orc, Obx, Other}
+use Rattle.rules.specs.declared.Answer.{Answer}
+use Rattle.rules.specs.declared.Answer.the-variants.{Accepted, Refused}
+use Rattle.rules.specs.Told.{Told, gives, refused, refusal, number, told, _>>_}
+use Rattle.rules.specs.Lists.{split, allButLast}
+use Rattle.rules.specs.Shift.{met}
+use Rattle.rules.specs.Frame.{delimsOf, Known, known, segments, segmentsOk, nameOf, knownFrom, is}
+use Rattle.rules.specs.Places.{places}
+use Rattle.rules.specs.View.{fieldOf, partOf, segmentOf, Segment, view}
+use Rattle.rules.specs.Check.{faultTold, partsTold, placesTold, orderAfter, valueAt, checkTold}
+use Rattle.rules.proofs.Logic.{cases, both, not-true, not-false}
+use Rattle.rules.proofs.Lists.{over, rest-is, part-length}
+use Rattle.scan.specs.Scan.{until}
+use Rattle.scan.specs.Scan as Scan
+use Rattle.value.specs.declared.Fault.{Fault}
+use Rattle.value.specs.declared.Fault.the-variants.{Nothing, Missing, Null, Repeated, Escape, Long, Value, Status, Differs}
+use Rattle.value.specs.Rules.{faultNo, fineOf}
+use Rattle.places.proofs.Laws.{fine-zero, fault-some}
+use Rattle.places.specs.Check.{here, FoundIn, OrderAt}
+use Rattle.frame.specs.Frame.{goodOf, framedTold, frameOf, Sound}
+use Rattle.frame.specs.declared.Opened.{Opened}
+use Rattle.frame.specs.declared.Framed.{Framed}
+use Rattle.frame.specs.declared.Framed.the-variants.{Open, Not}
+use Rattle.frame.proofs.Rules.{check-refused, check-given}
+use Rattle.frame.proofs.Laws.{segments-next, ok-next, ok-unended}
+use Rattle.message.specs.Check.{readTold}
+
+-- ---- what is told of the segments of r, the rest of a message from `at` on
+unfoldable pub toldFrom : Delims → List ℕ → ℕ → ℕ → List ℕ → Told (Unit {0})
+toldFrom d order i at r = placesTold d order i (map (segmentOf d) (knownFrom at (segments r)))
+
+-- a segment's place in the message says nothing of its fields
+here-is : (d : Delims) (n : Name) (at : ℕ) (body : List ℕ) → segmentOf d (record { name = n; start = at; body = body }) ≡ segmentOf d (here n body)
+unfolding segmentOf places partOf fieldOf
+here-is d Msh at body = refl
+here-is d Pid at body = refl
+here-is d Pv1 at body = refl
+here-is d Spm at body = refl
+here-is d Obr at body = refl
+here-is d Orc at body = refl
+here-is d Obx at body = refl
+here-is d Other at body = refl
+
+-- ---- one turn, at a segment of n bytes
+module _ (d : Delims) (order : List ℕ) (i at : ℕ) (r : List ℕ) (n : ℕ) (en : n ≡ length (until (Scan.is 0x0D) r)) (h : n < length r) where
+  abbrev seg : List ℕ
+  seg = take n r
+
+  abbrev segment : Segment
+  segment = segmentOf d (here (nameOf seg) (met seg))
+
+  next : segments r ≡ seg ∷ segments (drop (suc n) r)
+  next = segments-next (d .field) r n en h
+
+  turn-skip : is (nameOf seg) Other ≡ true → toldFrom d order i at r ≡ toldFrom d order i (at + suc (length seg)) (drop (suc n) r)
+  unfolding toldFrom knownFrom
+  turn-skip e = ap (λ l. placesTold d order i (map (segmentOf d) (knownFrom at l))) next ∙ rw e
+
+  turn-known : is (nameOf seg) Other ≡ false
+      → toldFrom d order i at r ≡ (partsTold d order i segment (segment .parts) >> toldFrom d (orderAfter d order segment) (suc i) (at + suc (length seg)) (drop (suc n) r))
+  unfolding toldFrom knownFrom placesTold
+  turn-known e =
+      ap (λ l. placesTold d order i (map (segmentOf d) (knownFrom at l))) next
+      ∙ rw e (ap (λ k. partsTold d order i k (k .parts) >> placesTold d (orderAfter d order k) (suc i) (map (segmentOf d) (knownFrom (at + suc (length seg)) (segments (drop (suc n) r))))) (here-is d (nameOf seg) at (met seg)))
+
+  -- a fault that is found is the answer; where there is none, the rest is
+  turn-found : (f k : ℕ) → is (nameOf seg) Other ≡ false → FoundIn (nameOf seg) d order (met seg) f k
+      → toldFrom d order i at r ≡ (faultTold i f k >> toldFrom d (orderAfter d order segment) (suc i) (at + suc (length seg)) (drop (suc n) r))
+  turn-found f k e w =
+      turn-known e ∙ ap (λ t. t >> toldFrom d (orderAfter d order segment) (suc i) (at + suc (length seg)) (drop (suc n) r)) (sym (w .told i))
+
+-- ---- the loop over the segments: what is left to be told when those before `at` are read
+pub record Going (d : Delims) (m order : List ℕ) (i at : ℕ) : Type 0 where
+  pub inside : at ≤ length m
+  pub ordinal : i ≤ at + 1
+  pub whole : segmentsOk (d .field) (drop at m) ≡ true
+  pub told : toldFrom d [] 1 0 m ≡ toldFrom d order i at (drop at m)
+
+pub starts : (d : Delims) (m : List ℕ) → Sound m d → Going d m [] 1 0
+starts d m s = record { inside = omega arith; ordinal = omega arith; whole = s .whole; told = refl }
+
+-- what the loop tells is what is told in the end
+read-is : (d : Delims) (m : List ℕ) (c : Counts) → Sound m d → (toldFrom d [] 1 0 m >> gives c) ≡ readTold d c m
+unfolding readTold toldFrom view known
+read-is d m c s = rw (s .delims)
+
+pub ends : (d : Delims) (m order : List ℕ) (i at : ℕ) (c : Counts) → Sound m d → Going d m order i at → length m ≤ at → told (Accepted c) ≡ readTold d c m
+ends d m order i at c s g h = sym (ap (λ t. t >> gives c) (g .told ∙ none)) ∙ read-is d m c s
+  where
+    none : toldFrom d order i at (drop at m) ≡ gives tt
+    none = rw (over m at h) (unfold toldFrom segments split allButLast knownFrom placesTold in refl)
+
+obr-is : (x : Name) → is x Obr ≡ true → x ≡ Obr
+obr-is Msh e = cc
+obr-is Pid e = cc
+obr-is Pv1 e = cc
+obr-is Spm e = cc
+obr-is Obr e = refl
+obr-is Orc e = cc
+obr-is Obx e = cc
+obr-is Other e = cc
+
+-- a fault ends what is told
+stopped : {A : Type 0} (f : Fault) (i field : ℕ) (t : Told A) → fineOf f ≡ false → (faultTold i field (faultNo f) >> t) ≡ refused (faultNo f) i field
+unfolding faultTold
+stopped f i field t h = rw (fault-some f h)
+
+module _ (d : Delims) (m order : List ℕ) (i at n : ℕ) (g : Going d m order i at) (k : at < length m)
+    (en : n ≡ length (until (Scan.is 0x0D) (take (length m - at) (drop at m)))) (l : n ≤ length (take (length m - at) (drop at m))) where
+  there : n ≡ length (until (Scan.is 0x0D) (drop at m))
+  there = en ∙ ap (λ s. length (until (Scan.is 0x0D) s)) (rest-is m at)
+
+  short : n < length (drop at m)
+  short =
+      let q : length (take (length m - at) (drop at m)) ≡ length (drop at m) = ap length (rest-is m at) in
+      let e : n ≡ length (drop at m) → ⊥
+      = λ e. false≢true (sym (ok-unended (d .field) (drop at m) n there (omega (arith, length-drop at m)) e) ∙ g .whole) in
+      omega arith
+
+  pub further : at + (n + 1) ≤ length m
+  further = omega (arith, short, length-drop at m)
+
+  onward : drop (suc n) (drop at m) ≡ drop (at + (n + 1)) m
+  onward = rw (drop-drop, add-one)
+
+  rest-whole : segmentsOk (d .field) (drop (at + (n + 1)) m) ≡ true
+  rest-whole =
+      rw onward at
+      (both (goodOf (d .field) (take n (drop at m))) (segmentsOk (d .field) (drop (suc n) (drop at m)))
+      (sym (ok-next (d .field) (drop at m) n there short) ∙ g .whole) .1)
+
+  past : at + suc (length (take n (drop at m))) ≡ at + (n + 1)
+  past = let q : n ≤ length (drop at m) = omega (arith, short) in omega (arith, length-take-le n (drop at m) q)
+
+  module _ (x : Name) (ex : x ≡ nameOf (take n (take (length m - at) (drop at m)))) (t : Bool) (et : t ≡ is x Other) where
+    named : nameOf (take n (drop at m)) ≡ x
+    named = rw (rest-is m at) at (sym ex)
+
+    pub skipped : t ≡ true → Going d m order i (at + (n + 1))
+    skipped h =
+        record {
+          inside = further;
+          ordinal = omega (arith, g .ordinal);
+          whole = rest-whole;
+          told = g .told ∙ turn-skip d order i at (drop at m) n there short (rw named (sym et ∙ h)) ∙ rw (past, onward);
+        }
+
+    module _ (f : Fault) (field : ℕ) (found : FoundIn x d order (met (take n (take (length m - at) (drop at m)))) field (faultNo f)) (ht : t ≡ false) (u : Bool) (eu : u ≡ fineOf f) where
+      unfoldable tail : List ℕ → Told (Unit {0})
+      tail o = toldFrom d o (suc i) (at + (n + 1)) (drop (at + (n + 1)) m)
+
+      after : List ℕ
+      after = orderAfter d order (segmentOf d (here x (met (take n (drop at m)))))
+
+      turned : toldFrom d [] 1 0 m ≡ (faultTold i field (faultNo f) >> tail after)
+      unfolding tail after
+      turned =
+          g .told ∙ turn-found d order i at (drop at m) n there short field (faultNo f) (rw named (sym et ∙ ht)) (rw named (rw (rest-is m at) at found))
+          ∙ rw (named, past, onward)
+
+      pub refuses : (c : Counts) (kind : Kind) → Sound m d → not u ≡ true → number kind ≡ faultNo f
+          → told (Refused (record { kind = kind; segment = i; field = field })) ≡ readTold d c m
+      refuses c kind s hu ek =
+          let r : toldFrom d [] 1 0 m ≡ refused (faultNo f) i field = turned ∙ stopped f i field (tail after) (sym eu ∙ not-true u hu) in
+          ap (λ k. refused k i field) ek ∙ sym (ap (λ t. t >> gives c) r) ∙ read-is d m c s
+
+      fine : not u ≡ false → faultNo f ≡ 0
+      fine hu = fine-zero f (sym eu ∙ not-false u hu)
+
+      pub passes : (w : Bool) → not u ≡ false → w ≡ is x Obr → w ≡ false → Going d m order (i + 1) (at + (n + 1))
+      unfolding orderAfter segmentOf tail after faultTold
+      passes w hu ew hw =
+          record { inside = further; ordinal = omega (arith, g .ordinal); whole = rest-whole; told = turned ∙ rw (fine hu, ← ew, hw, add-one i) }
+
+      pub orders : (w : Bool) (a len : ℕ) → not u ≡ false → w ≡ is x Obr → w ≡ true
+          → (is x Obr ≡ true → OrderAt d (take n (take (length m - at) (drop at m))) (faultNo f) a len)
+          → Going d m (take len (take (length (take n (take (length m - at) (drop at m))) - a) (drop a (take n (take (length m - at) (drop at m)))))) (i + 1) (at + (n + 1))
+      unfolding orderAfter segmentOf tail after faultTold
+      orders w a len hu ew hw o =
+          let ox : x ≡ Obr = obr-is x (sym ew ∙ hw) in
+          let s : List ℕ = take n (take (length m - at) (drop at m)) in
+          record {
+            inside = further;
+            ordinal = omega (arith, g .ordinal);
+            whole = rest-whole;
+            told = turned ∙ rw (fine hu, ← ew, hw, add-one i, rest-is s a, o (sym ew ∙ hw) .is (fine hu), ox, rest-is m at);
+          }
+
+-- an OBR's order number lies in its segment
+pub order-within : (d : Delims) (s : List ℕ) (x : Name) (w : Bool) (f a len : ℕ) → w ≡ is x Obr → w ≡ true → (is x Obr ≡ true → OrderAt d s f a len) → a + len ≤ length s
+order-within d s x w f a len e h o = o (sym e ∙ h) .within
+
+pub order-from : (d : Delims) (s : List ℕ) (x : Name) (w : Bool) (f a len : ℕ) → w ≡ is x Obr → w ≡ true → (is x Obr ≡ true → OrderAt d s f a len) → a ≤ length s
+order-from d s x w f a len e h o = omega (arith, o (sym e ∙ h) .within)
+
+pub count-from : (s : List ℕ) (a len : ℕ) → a + len ≤ length s → len ≡ length (take len (take (length s - a) (drop a s)))
+count-from s a len h = rw (rest-is s a) (part-length len (drop a s) (omega (arith, length-drop a s)))
+
+-- ---- the check
+pub faulty : (f : Fault) (u : Bool) → u ≡ fineOf f → not u ≡ true → fineOf f ≡ false
+faulty f u e h = sym e ∙ not-true u h
+
+pub kind-none : (f : Fault) (n : ℕ) → f ≡ Nothing → fineOf f ≡ false → n ≡ faultNo f
+unfolding fineOf faultNo
+kind-none f n e h = absurd (false≢true (sym h ∙ ap fineOf e))
+
+module _ (m : List ℕ) (p : Framed) (ep : framedTold p ≡ frameOf m) where
+  pub check-not : (r : Refusal) → p ≡ Not r → told (Refused r) ≡ checkTold m
+  check-not r e = sym (check-refused m (number (r .kind)) (r .segment) (r .field) (sym ep ∙ ap framedTold e))
+
+  pub check-read : (o : Opened) (a : Answer) → p ≡ Open o → told a ≡ readTold (o .delims) (o .counts) m → told a ≡ checkTold m
+  unfolding readTold
+  check-read o a e h = h ∙ sym (check-given m o (sym ep ∙ ap framedTold e))
+
+pub sound-of : (m : List ℕ) (p : Framed) (o : Opened) → ((q : Opened) → p ≡ Open q → Sound m (q .delims)) → p ≡ Open o → Sound m (o .delims)
+sound-of m p o f e = f o e
