@@ -1,0 +1,58 @@
+-- `place` meets its contract. Assumes nothing.
+use borrow.Author.Needs.{needs}
+use Rattle.fetch.proofs.Laws.{at-within, place-absent, place-asks, place-at, place-none, place-short, place-zero}
+use Rattle.fetch.proofs.place.Statement.{statement}
+use Rattle.fetch.proofs.place.Tie as tie
+
+refused-requires : tie.Need-refused-requires
+refused-requires c κs = search needs
+
+returns : tie.Need-returns
+returns c = search (place-zero, place-absent, needs)
+
+refused-requires-2 : tie.Need-refused-requires-2
+refused-requires-2 c κs = search needs
+
+returns-2 : tie.Need-returns-2
+returns-2 c = search (place-short, place-absent, needs)
+
+known-segment-requires : tie.Need-known-segment-requires
+known-segment-requires c κs = search needs
+
+enum-told : tie.Need-enum-told
+enum-told c = search needs
+
+refused-requires-3 : tie.Need-refused-requires-3
+refused-requires-3 c κs = search needs
+
+enum-known-s : tie.Need-enum-known-s
+enum-known-s c = search needs
+
+delims-requires : tie.Need-delims-requires
+delims-requires c κs = search needs
+
+part-of-requires : tie.Need-part-of-requires
+part-of-requires c κs = place-asks _ _ _ _ _ (c .before .before .before .before .before .before .if1 .left) (c .before .before .before .before .before .if2 .left) (c .before .before .before .before .known-segment .ensures .1) (c .before .before .s .given .1)
+
+returns-3 : tie.Need-returns-3
+returns-3 c = search (place-none, place-absent, needs)
+
+returns-4 : tie.Need-returns-4
+returns-4 c = search (place-at, at-within, needs)
+
+pub place-spec : {M : Type 1} → statement M
+place-spec =
+    tie.close
+    (tie.spec
+    refused-requires
+    returns
+    refused-requires-2
+    returns-2
+    known-segment-requires
+    enum-told
+    refused-requires-3
+    enum-known-s
+    delims-requires
+    part-of-requires
+    returns-3
+    returns-4)

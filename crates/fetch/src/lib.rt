@@ -1,0 +1,197 @@
+// Fetching a part of a message: "the caller gets back the very stretch of his message, still escaped, from the first repetition".
+use frame::header;
+use frame::names;
+use rules::Answer;
+use rules::Delims;
+use rules::Fetched;
+use rules::Kind;
+use rules::Mode;
+use rules::Name;
+use rules::Refusal;
+use rules::Span;
+ghost use mathlib.Core.Path.{_≡_};
+ghost use mathlib.Core.Bool.{cond, not};
+ghost use Prim.Native.Nat.{_+_, _≤_};
+ghost use lib.Dec.{eqb};
+ghost use lib.ListN.{length, take, drop};
+ghost use Rattle.rules.specs.declared.Name.the-variants.{Other};
+ghost use Rattle.rules.specs.Told.{toldSpan, _when_};
+ghost use Rattle.rules.specs.Shift.{marks, met};
+ghost use Rattle.rules.specs.Frame.{is, known};
+ghost use Rattle.rules.specs.Fetch.{spanOf, stretch, fetchTold, partTold};
+ghost use Rattle.rules.specs.Fetch as Fetch;
+ghost use Rattle.fetch.specs.Place.{shown, startTold, placeTold, knownOf, foundTold, partIn, stretchOf};
+
+mod pieces;
+
+// Where the part stands, or the refusal: the check's own first, then 31, then 30.
+pub fn locate(m: &[u8], ordinal: usize, field: usize, component: usize) -> Fetched
+    ensures { λ r. ⌜ toldSpan r ≡ fetchTold (now (m .entry)) ordinal field component ⌝ }
+    ensures within { λ r. ⌜ ((p : Span) → r ≡ Fetched.At p → p .start + p .len ≤ length (now (m .entry))) ⌝ }
+{
+    match message::check(m) {
+        Answer::Refused(r) => Fetched::NotFetched(r),
+        Answer::Accepted(_) => place(m, ordinal, field, component),
+    }
+}
+
+// The part itself, as the part of m that it is; where it is refused an empty one, at the start.
+pub fn fetch(m: &[u8], ordinal: usize, field: usize, component: usize) -> &[u8]
+    ensures { λ r. ⌜ now r ≡ shown (partTold (now (m .entry)) ordinal field component) ⌝ }
+    ensures place { λ r. ⌜ r .ptr ≡ (m .entry .ptr .0, startTold (fetchTold (now (m .entry)) ordinal field component) + m .entry .ptr .1) ⌝ }
+{
+    match locate(m, ordinal, field, component) {
+        Fetched::NotFetched(_) => &m[..0],
+        Fetched::At(p) => {
+            let start = p.start;
+            let end = start + p.len;
+            &m[start..end]
+        }
+    }
+}
+
+// After the check: where the part stands, or 31, or 30. It takes any bytes.
+pub fn place(m: &[u8], ordinal: usize, field: usize, component: usize) -> Fetched
+    ensures { λ r. ⌜ toldSpan r ≡ placeTold (now (m .entry)) ordinal field component ⌝ }
+    ensures within { λ r. ⌜ ((p : Span) → r ≡ Fetched.At p → p .start + p .len ≤ length (now (m .entry))) ⌝ }
+{
+    if (field == 0) | (component == 0) {
+        return refused(Kind::Zero);
+    }
+    if m.len() < 9 {
+        return refused(Kind::NoOrdinal);
+    }
+    match known_segment(m, ordinal) {
+        Found::Nothing => refused(Kind::NoOrdinal),
+        Found::At(s) => Fetched::At(part_of(m, header::delims(m), s, field, component)),
+    }
+}
+
+fn refused(kind: Kind) -> Fetched
+    ensures { λ r. ⌜ r ≡ Fetched.NotFetched (record { kind = kind; segment = 0; field = 0 }) ⌝ }
+{
+    Fetched::NotFetched(Refusal {
+        kind,
+        segment: 0,
+        field: 0,
+    })
+}
+
+// A known segment: its name, where it starts, and how long it is without its 0D.
+pub struct Segment {
+    pub name: Name,
+    pub start: usize,
+    pub len: usize,
+}
+
+pub enum Found {
+    At(Segment),
+    Nothing,
+}
+
+// "Ordinals count known segments only, from 1."
+fn known_segment(m: &[u8], ordinal: usize) -> Found
+    ensures { λ r. ⌜ foundTold (now (m .entry)) r ≡ Fetch.ordinal (known (now (m .entry))) ordinal ⌝ }
+    ensures within { λ r. ⌜ ((s : Segment) → r ≡ Found.At s → s .start + s .len ≤ length (now (m .entry))) ⌝ }
+{
+    if ordinal == 0 {
+        return Found::Nothing;
+    }
+    let mut left = ordinal - 1;
+    let mut at = 0;
+    while at < m.len() {
+        let rest = &m[at..];
+        let n = value::before(rest, 0x0D);
+        if n == rest.len() {
+            return Found::Nothing;
+        }
+        let name = names::name_of(&rest[..n]);
+        let one = counts(name);
+        if left < one {
+            return Found::At(Segment {
+                name,
+                start: at,
+                len: n,
+            });
+        }
+        left -= one;
+        at += n + 1;
+    }
+    Found::Nothing
+}
+
+// 1 for a known name, 0 for another.
+fn counts(name: Name) -> usize
+    ensures { λ r. ⌜ r ≡ (1 when not (is name Other)) ⌝ }
+    ensures small { λ r. ⌜ r ≤ 1 ⌝ }
+{
+    if names::is(name, Name::Other) { 0 } else { 1 }
+}
+
+// A component of a field of a segment. In MSH the first separator is itself field 1.
+fn part_of(m: &[u8], d: Delims, s: Segment, field: usize, component: usize) -> Span
+    requires { ⌜ (1 ≤ field) × (1 ≤ component) × (9 ≤ length (now m)) × (s .start + s .len ≤ length (now m)) ⌝ }
+    ensures { λ r. ⌜ r ≡ spanOf d (knownOf (now (m .entry)) s) field component ⌝ }
+    ensures within { λ r. ⌜ r .start + r .len ≤ length (now (m .entry)) ⌝ }
+{
+    let name = s.name;
+    if !names::is(name, Name::Msh) {
+        return component_of(m, d, s, field, component);
+    }
+    if field == 1 {
+        return undivided(3, 1, component);
+    }
+    if field == 2 {
+        return undivided(4, 4, component);
+    }
+    component_of(m, d, s, field - 1, component)
+}
+
+// "MSH-1 is the separator byte, MSH-2 the four bytes undivided; further components of both are empty."
+fn undivided(start: usize, len: usize, component: usize) -> Span
+    requires { ⌜ start + len ≤ 9 ⌝ }
+    ensures { λ r. ⌜ r ≡ cond (eqb component 1) (stretch start len) (stretch (start + len) 0) ⌝ }
+    ensures within { λ r. ⌜ r .start + r .len ≤ 9 ⌝ }
+{
+    if component == 1 {
+        return Span { start, len };
+    }
+    Span {
+        start: start + len,
+        len: 0,
+    }
+}
+
+// A component of the first repetition of the n-th piece of a segment.
+fn component_of(m: &[u8], d: Delims, s: Segment, n: usize, component: usize) -> Span
+    requires { ⌜ (1 ≤ component) × (s .start + s .len ≤ length (now m)) ⌝ }
+    ensures { λ r. ⌜ r ≡ stretchOf d (s .start) (met (take (s .len) (drop (s .start) (now (m .entry))))) n component ⌝ }
+    ensures within { λ r. ⌜ r .start + r .len ≤ length (now (m .entry)) ⌝ }
+{
+    let start = s.start;
+    let end = start + s.len;
+    let body = &m[start..end];
+    let f = pieces::nth_piece(body, Mode::One, d.field, n);
+    let from = f.start;
+    let to = from + f.len;
+    let mode = f.mode;
+    let p = part_in(&body[from..to], mode, d, component);
+    Span {
+        start: start + from + p.start,
+        len: p.len,
+    }
+}
+
+// A component of the first repetition of a field, which begins in the mode `mode`, by its place in the field.
+fn part_in(f: &[u8], mode: Mode, d: Delims, component: usize) -> Span
+    requires { ⌜ 1 ≤ component ⌝ }
+    ensures { λ r. ⌜ r ≡ partIn d (marks 0x0D mode (now (f .entry))) component ⌝ }
+    ensures within { λ r. ⌜ r .start + r .len ≤ length (now (f .entry)) ⌝ }
+{
+    let n = pieces::before(f, mode, d.repetition);
+    let c = pieces::nth_piece(&f[..n], mode, d.component, component - 1);
+    Span {
+        start: c.start,
+        len: c.len,
+    }
+}
