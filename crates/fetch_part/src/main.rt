@@ -12,7 +12,10 @@ fn main() {
 }
 
 fn usage() {
-    io::write_all(2, b"usage: fetch_part ORDINAL FIELD COMPONENT <MESSAGE (three whole numbers below 1000000000)\n");
+    io::write_all(
+        2,
+        b"usage: fetch_part ORDINAL FIELD COMPONENT <MESSAGE (three whole numbers below 1000000000)\n",
+    );
 }
 
 // ---- the arguments
