@@ -118,8 +118,8 @@ one-read d p place t f n k more j e =
       long = omega (arith, rest-long d m, j .long);
     }
 
-pub one-within : (n k : ℕ) (t : List ℕ) → n ≤ length t → k ≤ length (take (length t - n) (drop n t)) → n + k ≤ length t
-one-within n k t h e = omega (arith, part-long t n)
+pub part-within : (t : List ℕ) (n k : ℕ) → n ≤ length t → k ≤ length (take (length t - n) (drop n t)) → n + k ≤ length t
+part-within t n k h e = omega (arith, part-long t n)
 
 met-length : (t : List ℕ) → length (met t) ≡ length t
 unfolding met
@@ -297,9 +297,6 @@ module _ (d : Delims) (s type : List ℕ) (w : Walk) (b : Ready s 5 w) (q : Bool
         low = omega (arith, part-long s u);
       }
 
-pub part-within : (s : List ℕ) (u k : ℕ) → u ≤ length s → k ≤ length (take (length s - u) (drop u s)) → u + k ≤ length s
-part-within s u k h e = omega (arith, part-long s u)
-
 pub ruleset first-of·laws = (first-later, first-stays)
 
 pub ruleset unless·laws = (unless-holds, unless-not)
@@ -310,7 +307,7 @@ pub ruleset judge-place·laws = (unread-is, must-is, may-is, must-small, may-sma
 
 pub ruleset component·laws = (head-raw, component-judged, part-length)
 
-pub ruleset one·laws = (one-read, one-within)
+pub ruleset one·laws = (one-read, part-within)
 
 pub ruleset two·laws = (led-read, rest-fits, led-within)
 
@@ -318,7 +315,7 @@ pub ruleset three·laws = (led-read, rest-fits, led-within)
 
 pub ruleset judge-field·laws = (read-one, read-three, read-charset, read-names, small-one, small-first, small-second, small-third)
 
-pub ruleset past·laws = (past-on, past-end, one-within)
+pub ruleset past·laws = (past-on, past-end, part-within)
 
 pub ruleset field·laws = (field-ended, field-judged, part-within)
 

@@ -1,3 +1,4 @@
+-- `fields::component` meets its contract. Assumes nothing.
 use borrow.Author.Needs.{needs}
 use Rattle.fields.proofs.Laws.{component·laws}
 use Rattle.fields.proofs.component.Statement.{statement}

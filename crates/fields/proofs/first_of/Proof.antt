@@ -1,3 +1,4 @@
+-- `fields::first_of` meets its contract. Assumes nothing.
 use borrow.Author.Needs.{needs}
 use Rattle.fields.proofs.Laws.{first-of·laws}
 use Rattle.fields.proofs.first_of.Statement.{statement}

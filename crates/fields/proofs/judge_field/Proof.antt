@@ -1,3 +1,4 @@
+-- `fields::judge_field` meets its contract. Assumes nothing.
 use borrow.Author.Needs.{needs}
 use Rattle.fields.proofs.Laws.{judge-field·laws}
 use Rattle.fields.proofs.judge_field.Statement.{statement}

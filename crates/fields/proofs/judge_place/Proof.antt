@@ -1,3 +1,4 @@
+-- `fields::judge_place` meets its contract. Assumes nothing.
 use borrow.Author.Needs.{needs}
 use Rattle.fields.proofs.Laws.{judge-place·laws}
 use Rattle.fields.proofs.judge_place.Statement.{statement}

@@ -1,3 +1,4 @@
+-- `fields::one` meets its contract. Assumes nothing.
 use borrow.Author.Needs.{needs}
 use Rattle.fields.proofs.Laws.{one·laws}
 use Rattle.fields.proofs.one.Statement.{statement}

@@ -1,3 +1,4 @@
+-- `fields::repeated` meets its contract. Assumes nothing.
 use borrow.Author.Needs.{needs}
 use Rattle.fields.proofs.Laws.{repeated·laws}
 use Rattle.fields.proofs.repeated.Statement.{statement}

@@ -1,3 +1,4 @@
+-- `fields::three` meets its contract. Assumes nothing.
 use borrow.Author.Needs.{needs}
 use Rattle.fields.proofs.Laws.{three·laws}
 use Rattle.fields.proofs.three.Statement.{statement}

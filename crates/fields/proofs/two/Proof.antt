@@ -1,3 +1,4 @@
+-- `fields::two` meets its contract. Assumes nothing.
 use borrow.Author.Needs.{needs}
 use Rattle.fields.proofs.Laws.{two·laws}
 use Rattle.fields.proofs.two.Statement.{statement}

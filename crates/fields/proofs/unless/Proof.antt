@@ -1,3 +1,4 @@
+-- `fields::unless` meets its contract. Assumes nothing.
 use borrow.Author.Needs.{needs}
 use Rattle.fields.proofs.Laws.{unless·laws}
 use Rattle.fields.proofs.unless.Statement.{statement}

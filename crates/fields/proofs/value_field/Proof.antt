@@ -1,3 +1,4 @@
+-- `fields::value_field` meets its contract. Assumes nothing.
 use borrow.Author.Needs.{needs}
 use Rattle.fields.proofs.Laws.{value-field·laws}
 use Rattle.fields.proofs.value_field.Statement.{statement}

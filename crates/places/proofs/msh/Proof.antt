@@ -1,3 +1,4 @@
+-- `places::msh` meets its contract. Assumes nothing.
 use borrow.Author.Needs.{needs}
 use Rattle.places.proofs.Segments.{msh·laws}
 use Rattle.fields.specs.Fields.{SmallForm}

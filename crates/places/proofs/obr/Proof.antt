@@ -1,3 +1,4 @@
+-- `places::obr` meets its contract. Assumes nothing.
 use borrow.Author.Needs.{needs}
 use Rattle.places.proofs.Segments.{obr·laws}
 use Rattle.fields.specs.Fields.{SmallForm}

@@ -1,3 +1,4 @@
+-- `places::orc` meets its contract. Assumes nothing.
 use borrow.Author.Needs.{needs}
 use Rattle.places.proofs.Segments.{orc·laws}
 use Rattle.fields.specs.Fields.{SmallForm}

@@ -1,3 +1,4 @@
+-- `places::pid` meets its contract. Assumes nothing.
 use borrow.Author.Needs.{needs}
 use Rattle.places.proofs.Segments.{pid·laws}
 use Rattle.fields.specs.Fields.{SmallForm}

@@ -1,3 +1,4 @@
+-- `places::pv1` meets its contract. Assumes nothing.
 use borrow.Author.Needs.{needs}
 use Rattle.places.proofs.Segments.{pv1·laws}
 use Rattle.fields.specs.Fields.{SmallForm}

@@ -1,3 +1,4 @@
+-- `places::segment` meets its contract. Assumes nothing.
 use borrow.Author.Needs.{needs}
 use Rattle.places.proofs.Segments.{segment·laws}
 use Rattle.places.proofs.segment.Statement.{statement}

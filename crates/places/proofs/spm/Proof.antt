@@ -1,3 +1,4 @@
+-- `places::spm` meets its contract. Assumes nothing.
 use borrow.Author.Needs.{needs}
 use Rattle.places.proofs.Segments.{spm·laws}
 use Rattle.fields.specs.Fields.{SmallForm}
