@@ -107,18 +107,18 @@ module _ (d : Delims) (b : ℕ) (ts : List (RefT (List ℕ))) (q : ℕ) where
     pub put-itself : (k : ℕ) → (b ≡ code "$" → ⊥) → (b ≡ code "#" → ⊥) → k ≡ delimiterOf d b → Put at x (k ∷ []) r y → Put at x (slotText d b (firstText (drop q ts))) r y
     put-itself k n m e p = rw (slot-itself b d (firstText (drop q ts)) n m, ← e) p
 
-  module _ (fits : sizes ts ≤ 655360) where
-    pub small-text : (z : RefT (List ℕ)) → b ≡ code "$" → q + taken b ≤ length ts → length (getD ts q z .now) ≤ 655360
+  module _ (fits : sizes ts ≤ 1000000) where
+    pub small-text : (z : RefT (List ℕ)) → b ≡ code "$" → q + taken b ≤ length ts → length (getD ts q z .now) ≤ 1000000
     small-text z e h = rw (next-is ts q z (there-text e h)) at (small)
       where
-        small : length (firstText (drop q ts)) ≤ 655360
+        small : length (firstText (drop q ts)) ≤ 1000000
         small = omega (arith, next-size ts q)
 
     module _ (r : ℕ) where
-      pub short-text : (z : RefT (List ℕ)) → b ≡ code "$" → q + taken b ≤ length ts → r ≤ 3 * length (getD ts q z .now) → r ≤ 1966080
+      pub short-text : (z : RefT (List ℕ)) → b ≡ code "$" → q + taken b ≤ length ts → r ≤ 3 * length (getD ts q z .now) → r ≤ 3000000
       short-text z e h w = omega (arith, small-text z e h)
 
-      pub short-plain : (z : RefT (List ℕ)) → (b ≡ code "$" → ⊥) → b ≡ code "#" → q + taken b ≤ length ts → r ≡ length (getD ts q z .now) → r ≤ 1966080
+      pub short-plain : (z : RefT (List ℕ)) → (b ≡ code "$" → ⊥) → b ≡ code "#" → q + taken b ≤ length ts → r ≡ length (getD ts q z .now) → r ≤ 3000000
       short-plain z n e h g = omega (arith, next-size ts q, ap length (next-is ts q z (there-plain n e h)))
 
   module _ (r : ℕ) where
@@ -187,5 +187,5 @@ module _ (r : ℕ) (x w old : List ℕ) where
   unfolding fitted
   fits n e h p = record { ends = p .ends; is = p .is ∙ rw (le-leb (length w) (length old) (omega arith)) }
 
-  pub fits-within : (n : ℕ) → n ≡ length w → n ≤ 196608000 → Wrote r x w old → r ≤ 196608000
+  pub fits-within : (n : ℕ) → n ≡ length w → n ≤ 300000000 → Wrote r x w old → r ≤ 300000000
   fits-within n e h p = omega (arith, p .ends)

@@ -124,7 +124,7 @@ fn unit_len(mode: Mode, b: u8, d: Delims) -> usize
 
 // How many bytes a text takes, escaped.
 pub fn escaped_len(text: &[u8], d: Delims) -> usize
-    requires { ⌜ length (now text) ≤ 655360 ⌝ }
+    requires { ⌜ length (now text) ≤ 1000000 ⌝ }
     ensures { λ r. ⌜ r ≡ length (escape d (now (text .entry))) ⌝ }
     ensures within { λ r. ⌜ r ≤ 3 * length (now (text .entry)) ⌝ }
 {
@@ -216,8 +216,8 @@ fn put_slot(out: &mut [u8], at: usize, slot: u8, texts: &[&[u8]], next: usize, d
 }
 
 fn slot_len(slot: u8, texts: &[&[u8]], next: usize, d: Delims) -> usize
-    requires { ⌜ (next + taken slot ≤ length (now texts)) × (sizes (now texts) ≤ 655360) ⌝ }
-    ensures { λ r. ⌜ (r ≡ length (slotText d slot (firstText (drop next (now (texts .entry)))))) × (r ≤ 1966080) ⌝ }
+    requires { ⌜ (next + taken slot ≤ length (now texts)) × (sizes (now texts) ≤ 1000000) ⌝ }
+    ensures { λ r. ⌜ (r ≡ length (slotText d slot (firstText (drop next (now (texts .entry)))))) × (r ≤ 3000000) ⌝ }
 {
     if slot == b'$' {
         return escaped_len(texts[next], d);
@@ -252,8 +252,8 @@ fn put_woven(out: &mut [u8], pattern: &[u8], texts: &[&[u8]], d: Delims) -> usiz
 }
 
 fn woven_len(pattern: &[u8], texts: &[&[u8]], d: Delims) -> usize
-    requires { ⌜ (holes (now pattern) ≤ length (now texts)) × (sizes (now texts) ≤ 655360) × (length (now pattern) ≤ 100) ⌝ }
-    ensures { λ r. ⌜ (r ≡ length (woven d (now (pattern .entry)) (now (texts .entry)))) × (r ≤ 196608000) ⌝ }
+    requires { ⌜ (holes (now pattern) ≤ length (now texts)) × (sizes (now texts) ≤ 1000000) × (length (now pattern) ≤ 100) ⌝ }
+    ensures { λ r. ⌜ (r ≡ length (woven d (now (pattern .entry)) (now (texts .entry)))) × (r ≤ 300000000) ⌝ }
 {
     let mut n: usize = 0;
     let mut next = 0;
@@ -269,9 +269,9 @@ fn woven_len(pattern: &[u8], texts: &[&[u8]], d: Delims) -> usize
 
 // Writes it where the lent tail has room, and answers its length in either case.
 pub fn fit_woven(out: &mut [u8], pattern: &[u8], texts: &[&[u8]], d: Delims) -> usize
-    requires { ⌜ (holes (now pattern) ≤ length (now texts)) × (sizes (now texts) ≤ 655360) × (length (now pattern) ≤ 100) ⌝ }
+    requires { ⌜ (holes (now pattern) ≤ length (now texts)) × (sizes (now texts) ≤ 1000000) × (length (now pattern) ≤ 100) ⌝ }
     ensures { λ r. ⌜ Fit r (now (out .exit)) (woven d (now (pattern .entry)) (now (texts .entry))) (now (out .entry)) ⌝ }
-    ensures within { λ r. ⌜ r ≤ 196608000 ⌝ }
+    ensures within { λ r. ⌜ r ≤ 300000000 ⌝ }
 {
     let n = woven_len(pattern, texts, d);
     if out.len() < n {

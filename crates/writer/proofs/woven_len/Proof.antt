@@ -10,7 +10,7 @@ use Rattle.writer.proofs.woven_len.Statement.{statement}
 use Rattle.writer.proofs.woven_len.Tie as tie
 
 abbrev Inv-loop : tie.InvT-loop
-Inv-loop pattern texts d n₀ next₀ i₀ n next i = (i ≤ length pattern) × (n ≤ 1966080 * i) × (next + holes (drop i pattern) ≤ length texts) × (n + length (woven d (drop i pattern) (drop next texts)) ≡ length (woven d pattern texts))
+Inv-loop pattern texts d n₀ next₀ i₀ n next i = (i ≤ length pattern) × (n ≤ 3000000 * i) × (next + holes (drop i pattern) ≤ length texts) × (n + length (woven d (drop i pattern) (drop next texts)) ≡ length (woven d pattern texts))
 
 abbrev μ-loop : tie.MeasureT-loop
 μ-loop pattern texts d n₀ next₀ i₀ n next i = length pattern - i
