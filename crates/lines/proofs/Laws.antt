@@ -385,10 +385,10 @@ module _ (ts : List (List ℕ)) where
   result-is kind c v j s t met also RC RV RJ RS ek ec ev ej es et em ea rc rv rj rs v0 v1 v2 v3 v4 v5 v6 v7 v8 r e0 e1 e2 e3 e4 e5 e6 e7 e8 e9 =
       let four : fourOf c v j s ≡ fourOf (drop 8 (nth ts 3)) (drop 6 (nth ts 4)) (drop 5 (nth ts 5)) (drop 7 (nth ts 6)) = rw (ec, ev, ej, es) in
       let ok : also ≡ joinedOk (fourOf (drop 8 (nth ts 3)) (drop 6 (nth ts 4)) (drop 5 (nth ts 5)) (drop 7 (nth ts 6))) = ea ∙ ap joinedOk four in
-      let fit : met ≡ agrees (drop 7 (nth ts 9)) (fourOf (drop 8 (nth ts 3)) (drop 6 (nth ts 4)) (drop 5 (nth ts 5)) (drop 7 (nth ts 6))) = em ∙ ap (agrees t) four ∙ ap (λ (u : List ℕ). agrees u _) et in
+      let fit : met ≡ agrees (drop 7 (nth ts 9)) (fourOf (drop 8 (nth ts 3)) (drop 6 (nth ts 4)) (drop 5 (nth ts 5)) (drop 7 (nth ts 6))) = em ∙ ap (agrees t) four ∙ ap (λ (u : List ℕ). agrees u (fourOf (drop 8 (nth ts 3)) (drop 6 (nth ts 4)) (drop 5 (nth ts 5)) (drop 7 (nth ts 6)))) et in
       let w3 = swap v3 v2 3 (99 ∷ 111 ∷ 109 ∷ 112 ∷ 97 ∷ 114 ∷ 101 ∷ 61 ∷ []) (drop 8 (nth ts 3)) (nth ts 3) RC _ true (rc ∙ ap (λ (k : List ℕ). valueRules k .compare) ek) e3 in
       let w4 = swap v4 v3 4 (118 ∷ 97 ∷ 108 ∷ 117 ∷ 101 ∷ 61 ∷ []) (drop 6 (nth ts 4)) (nth ts 4) RV _ true (rv ∙ ap (λ (k : List ℕ). valueRules k .value) ek) e4 in
       let w5 = swap v5 v4 5 (106 ∷ 111 ∷ 105 ∷ 110 ∷ 61 ∷ []) (drop 5 (nth ts 5)) (nth ts 5) RJ _ true (rj ∙ ap (λ (k : List ℕ). valueRules k .join) ek) e5 in
-      let w6 = swap-also v6 v5 6 (115 ∷ 101 ∷ 99 ∷ 111 ∷ 110 ∷ 100 ∷ 61 ∷ []) (nth ts 6) _ also _ ok (swap v6 v5 6 (115 ∷ 101 ∷ 99 ∷ 111 ∷ 110 ∷ 100 ∷ 61 ∷ []) (drop 7 (nth ts 6)) (nth ts 6) RS _ also (rs ∙ ap (λ (k : List ℕ). valueRules k .second) ek) e6) in
-      let w9 = swap-also r v8 9 (115 ∷ 116 ∷ 97 ∷ 116 ∷ 117 ∷ 115 ∷ 61 ∷ []) (nth ts 9) _ met _ fit e9 in
+      let w6 = swap-also v6 v5 6 (115 ∷ 101 ∷ 99 ∷ 111 ∷ 110 ∷ 100 ∷ 61 ∷ []) (nth ts 6) (fits false (valueRules (drop 5 (nth ts 2)) .second) (drop 7 (nth ts 6))) also _ ok (swap v6 v5 6 (115 ∷ 101 ∷ 99 ∷ 111 ∷ 110 ∷ 100 ∷ 61 ∷ []) (drop 7 (nth ts 6)) (nth ts 6) RS _ also (rs ∙ ap (λ (k : List ℕ). valueRules k .second) ek) e6) in
+      let w9 = swap-also r v8 9 (115 ∷ 116 ∷ 97 ∷ 116 ∷ 117 ∷ 115 ∷ 61 ∷ []) (nth ts 9) (fits true (ruleOf (OneOf Statuses)) (drop 7 (nth ts 9))) met _ fit e9 in
       link r v8 _ _ w9 (link v8 v7 _ _ e8 (link v7 v6 _ _ e7 (link v6 v5 _ _ w6 (link v5 v4 _ _ w5 (link v4 v3 _ _ w4 (link v3 v2 _ _ w3 (link v2 v1 _ _ e2 (link v1 v0 _ _ e1 e0))))))))

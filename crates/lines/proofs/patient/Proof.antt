@@ -59,7 +59,7 @@ line-requires-6 : tie.Need-line-requires-6
 line-requires-6 c κs = search needs
 
 returns : tie.Need-returns
-returns c = search (patient-is, needs)
+returns c = patient-is _ _ _ _ (c .before .before .before .before .before .before .before .before .before .before .before .before .before .before .before .before .value-at .ensures .0) (c .before .before .before .before .before .before .before .before .before .before .before .before .before .before .before .value-at2 .ensures .0) (c .before .before .before .before .before .before .before .before .before .before .before .before .before .before .kana-fits .ensures) _ _ _ _ _ _ _ (c .before .before .before .before .before .before .before .before .before .before .before .before .line .ensures) (c .before .before .before .before .before .before .before .before .before .before .line2 .ensures) (c .before .before .before .before .before .before .before .before .line3 .ensures) (c .before .before .before .before .before .before .line4 .ensures) (c .before .before .before .before .line-if .ensures) (c .before .before .line5 .ensures) (c .line6 .ensures)
 
 pub patient-spec : {M : Type 1} → statement M
 patient-spec =

@@ -104,7 +104,7 @@ line-if-requires-5 : tie.Need-line-if-requires-5
 line-if-requires-5 c κs = search needs
 
 returns : tie.Need-returns
-returns c = search (result-is, needs)
+returns c = result-is _ _ _ _ _ _ _ _ _ _ _ _ _ (c .before .before .before .before .before .before .before .before .before .before .before .before .before .before .before .before .before .before .before .before .before .before .before .before .before .before .before .before .before .before .before .value-at .ensures .0) (c .before .before .before .before .before .before .before .before .before .before .before .before .before .before .before .before .before .before .before .before .before .before .before .before .before .before .before .before .before .before .value-at2 .ensures .0) (c .before .before .before .before .before .before .before .before .before .before .before .before .before .before .before .before .before .before .before .before .before .before .before .before .before .before .before .before .before .value-at3 .ensures .0) (c .before .before .before .before .before .before .before .before .before .before .before .before .before .before .before .before .before .before .before .before .before .before .before .before .before .before .before .before .value-at4 .ensures .0) (c .before .before .before .before .before .before .before .before .before .before .before .before .before .before .before .before .before .before .before .before .before .before .before .before .before .before .before .value-at5 .ensures .0) (c .before .before .before .before .before .before .before .before .before .before .before .before .before .before .before .before .before .before .before .before .before .before .before .before .before .before .value-at6 .ensures .0) (c .before .before .before .before .before .before .before .before .before .before .before .before .before .before .before .before .before .before .before .before .before .before .before .before .before .agrees .ensures) (c .before .before .before .before .before .before .before .joined .ensures) (c .before .before .before .before .before .before .before .before .before .before .before .before .before .before .before .before .before .compare-rule .ensures) (c .before .before .before .before .before .before .before .before .before .before .before .before .before .before .value-rule .ensures) (c .before .before .before .before .before .before .before .before .before .before .before .join-rule .ensures) (c .before .before .before .before .before .before .before .before .second-rule .ensures) _ _ _ _ _ _ _ _ _ _ (c .before .before .before .before .before .before .before .before .before .before .before .before .before .before .before .before .before .before .before .before .before .before .before .line .ensures) (c .before .before .before .before .before .before .before .before .before .before .before .before .before .before .before .before .before .before .before .before .before .line2 .ensures) (c .before .before .before .before .before .before .before .before .before .before .before .before .before .before .before .before .before .before .before .line3 .ensures) (c .before .before .before .before .before .before .before .before .before .before .before .before .before .before .before .before .line-if .ensures) (c .before .before .before .before .before .before .before .before .before .before .before .before .before .line-if2 .ensures) (c .before .before .before .before .before .before .before .before .before .before .line-if3 .ensures) (c .before .before .before .before .before .before .line-if4 .ensures) (c .before .before .before .before .line4 .ensures) (c .before .before .line5 .ensures) (c .line-if5 .ensures)
 
 pub result-spec : {M : Type 1} → statement M
 result-spec =
