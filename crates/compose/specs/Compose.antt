@@ -5,6 +5,8 @@ use mathlib.Core.List.{List, [], _∷_, _++_, map}
 use Prim.Native.Nat.{ℕ, suc, _+_, _≤_}
 use lib.ListN.{length}
 use Rattle.rules.specs.declared.Delims.{Delims}
+use Rattle.rules.specs.declared.Kind.{Kind}
+use Rattle.rules.specs.declared.Refusal.{Refusal}
 use Rattle.rules.specs.declared.Name.{Name}
 use Rattle.rules.specs.declared.Name.the-variants.{Msh, Pid, Pv1, Spm, Obr, Orc, Obx, Other}
 use Rattle.rules.specs.Told.{Told, gives, refusal, _>>=_}
@@ -65,6 +67,9 @@ pub record Added (at : ℕ) (x b : List ℕ) (r : ℕ) (y : List ℕ) : Type 0 w
 abbrev pub toldSize : Passed → Told Size
 toldSize (All n) = gives n
 toldSize (Not r) = refusal r
+
+abbrev pub refusalAt : Kind → ℕ → Refusal
+refusalAt kind line = record { kind = kind; segment = line; field = 0 }
 
 abbrev pub sizeOf : Delims → List Row → Size
 sizeOf d rows = record { bytes = length (messageOf d rows); segments = length (written d rows) }

@@ -14,8 +14,10 @@ ghost use Rattle.rules.specs.Told.{toldLength, lengthOf, refusal};
 ghost use Rattle.rules.specs.Told as Told;
 ghost use Rattle.rules.specs.Sheet.{linesOf};
 ghost use Rattle.rules.specs.Message.{base, toMessage};
+ghost use Rattle.rules.specs.Frame.{is};
 ghost use Rattle.writer.specs.Over.{Fit};
-ghost use Rattle.compose.specs.Compose.{groupText, specimenText, resultText, specimensWith, resultsWith, segmentsOf, Added, toldSize, Pass};
+ghost use Rattle.lines.specs.Lines.{toldOf, indexOf};
+ghost use Rattle.compose.specs.Compose.{groupText, specimenText, resultText, specimensWith, resultsWith, segmentsOf, Added, toldSize, refusalAt, Pass};
 
 // ---- the groups written, each where there is room
 
@@ -176,4 +178,172 @@ fn result(out: &mut [u8], s: &[u8], j: usize, d: Delims) -> usize
         status,
         d,
     )
+}
+
+// A group, where i specimens and j results of its order stand before it.
+fn put_group(out: &mut [u8], name: Name, s: &[u8], i: usize, j: usize, d: Delims) -> usize
+    requires { ⌜ (length (now s) ≤ 65536) × (i ≤ 65536) × (j ≤ 65536) ⌝ }
+    ensures { λ r. ⌜ Fit r (now (out .exit)) (groupText d i j name (linesOf (now (s .entry)))) (now (out .entry)) ⌝ }
+    ensures within { λ r. ⌜ r ≤ 300000000 ⌝ }
+{
+    match name {
+        Name::Msh => header(out, s, d),
+        Name::Pid => patient(out, s, d),
+        Name::Pv1 => visit(out, s, d),
+        Name::Spm => specimen(out, s, i, d),
+        Name::Obr => order(out, s, d),
+        Name::Orc => 0,
+        Name::Obx => result(out, s, j, d),
+        Name::Other => 0,
+    }
+}
+
+// ---- a pass over the sheet
+
+// How many bytes and segments a message has.
+pub struct Size {
+    pub bytes: usize,
+    pub segments: usize,
+}
+
+pub enum Passed {
+    All(Size),
+    Not(Refusal),
+}
+
+fn least(a: usize, b: usize) -> usize
+    ensures { λ r. ⌜ (r ≤ a) × (r ≤ b) × (a ≤ b → r ≡ a) ⌝ }
+{
+    if a < b {
+        return a;
+    }
+    b
+}
+
+// A group behind the bytes that stand already, in what remains of the buffer.
+fn put_next(out: &mut [u8], at: usize, name: Name, s: &[u8], i: usize, j: usize, d: Delims) -> usize
+    requires { ⌜ (length (now s) ≤ 65536) × (i ≤ 65536) × (j ≤ 65536) × (at ≤ 1000000000000000) ⌝ }
+    ensures { λ r. ⌜ Added at (now (out .entry)) (groupText d i j name (linesOf (now (s .entry)))) r (now (out .exit)) ⌝ }
+    ensures within { λ r. ⌜ r ≤ at + 300000000 ⌝ }
+{
+    let from = least(at, out.len());
+    at + put_group(&mut out[from..], name, s, i, j, d)
+}
+
+fn specimens_with(i: usize, name: Name) -> usize
+    requires { ⌜ i ≤ 65536 ⌝ }
+    ensures { λ r. ⌜ (r ≡ specimensWith i name) × (r ≤ i + 1) ⌝ }
+{
+    match name {
+        Name::Msh => i,
+        Name::Pid => i,
+        Name::Pv1 => i,
+        Name::Spm => i + 1,
+        Name::Obr => i,
+        Name::Orc => i,
+        Name::Obx => i,
+        Name::Other => i,
+    }
+}
+
+fn results_with(j: usize, name: Name) -> usize
+    requires { ⌜ j ≤ 65536 ⌝ }
+    ensures { λ r. ⌜ (r ≡ resultsWith j name) × (r ≤ j + 1) ⌝ }
+{
+    match name {
+        Name::Msh => j,
+        Name::Pid => j,
+        Name::Pv1 => j,
+        Name::Spm => j,
+        Name::Obr => 0,
+        Name::Orc => j,
+        Name::Obx => j + 1,
+        Name::Other => j,
+    }
+}
+
+fn segments_of(name: Name) -> usize
+    ensures { λ r. ⌜ (r ≡ segmentsOf name) × (r ≤ 2) ⌝ }
+{
+    match name {
+        Name::Msh => 1,
+        Name::Pid => 1,
+        Name::Pv1 => 1,
+        Name::Spm => 1,
+        Name::Obr => 2,
+        Name::Orc => 0,
+        Name::Obx => 1,
+        Name::Other => 0,
+    }
+}
+
+fn is_result(name: Name) -> bool
+    ensures { λ r. ⌜ r ≡ is name Name.Obx ⌝ }
+{
+    match name {
+        Name::Msh => false,
+        Name::Pid => false,
+        Name::Pv1 => false,
+        Name::Spm => false,
+        Name::Obr => false,
+        Name::Orc => false,
+        Name::Obx => true,
+        Name::Other => false,
+    }
+}
+
+fn refused(kind: Kind, line: usize) -> Refusal
+    ensures { λ r. ⌜ r ≡ refusalAt kind line ⌝ }
+{
+    Refusal {
+        kind,
+        segment: line,
+        field: 0,
+    }
+}
+
+// The refusal of a group whose first line has this number.
+fn unread(v: Verdict, line: usize) -> Passed
+    requires { ⌜ (indexOf v ≤ 10) × (line ≤ 1000000) ⌝ }
+    ensures { λ r. ⌜ toldSize r ≡ toldOf v line (Told.refused 42 line 0) ⌝ }
+{
+    match v {
+        Verdict::Fine => Passed::Not(refused(Kind::Key, line)),
+        Verdict::Key(k) => Passed::Not(refused(Kind::Key, line + k)),
+        Verdict::Value(k) => Passed::Not(refused(Kind::Line, line + k)),
+    }
+}
+
+// One pass: a buffer too short for the message is left in any state, and one with room has the message over its front.
+fn pass(out: &mut [u8], sheet: &[u8], d: Delims) -> Passed
+    requires { ⌜ length (now sheet) ≤ 65536 ⌝ }
+    ensures { λ r. ⌜ Pass d (now (sheet .entry)) (now (out .entry)) r (now (out .exit)) ⌝ }
+{
+    let mut group = Name::Other;
+    let mut at = 0;
+    let mut line = 1;
+    let mut bytes = 0;
+    let mut segments = 0;
+    let mut specimens = 0;
+    let mut results = 0;
+    while lines::has_line(sheet, at) {
+        let rest = &sheet[at..];
+        let next = lines::next_group(group, rest);
+        let v = lines::group(next, rest);
+        if !lines::fine(v) {
+            return unread(v, line);
+        }
+        bytes = put_next(out, bytes, next, rest, specimens, results, d);
+        segments += segments_of(next);
+        specimens = specimens_with(specimens, next);
+        results = results_with(results, next);
+        let n = lines::lines_in(next);
+        line += n;
+        at += lines::skip_lines(rest, n);
+        group = next;
+    }
+    if !is_result(group) {
+        return Passed::Not(refused(Kind::Key, line));
+    }
+    Passed::All(Size { bytes, segments })
 }

@@ -19,7 +19,7 @@ use Rattle.rules.proofs.Logic.{cases}
 use Rattle.rules.proofs.Lists.{here, over}
 use Rattle.lines.specs.declared.Verdict.{Verdict}
 use Rattle.lines.specs.declared.Verdict.the-variants.{Fine, Key, Value}
-use Rattle.lines.specs.Lines.{andThen, isFine, toldOf, lineAs, lineVerdict, verdict, groupVerdict, valuesFrom, groupValues, nextGroup}
+use Rattle.lines.specs.Lines.{andThen, isFine, indexOf, toldOf, lineAs, lineVerdict, verdict, groupVerdict, valuesFrom, groupValues, nextGroup}
 
 -- ---- a verdict once it is not fine
 stays-key : (k n : ℕ) (ls : List Line) (vs ts : List (List ℕ)) → verdict (Key k) ls vs n ts ≡ Key k
@@ -210,3 +210,40 @@ module _ (i : ℕ) (t : List ℕ) where
     next-told Obr = alone Obr Obx _ _ refl refl
     next-told Orc = alone Orc Obx _ _ refl refl
     next-told Obx = after-result
+
+-- ---- a group's verdict names one of its lines
+index-line : (k : ℕ) (l : Line) (vs : List (List ℕ)) (t : List ℕ) → indexOf (lineVerdict k l vs t) ≤ k
+unfolding lineVerdict lineAs lineOk indexOf
+index-line k l vs t = go (starts (keyOf l) t) (lineOk l vs (drop (length (keyOf l)) t))
+  where
+    go : (a b : Bool) → indexOf (cond a (cond b Fine (Value k)) (Key k)) ≤ k
+    go true true = omega arith
+    go true false = omega arith
+    go false b = omega arith
+
+index-then : (v w : Verdict) (b : ℕ) → indexOf v ≤ b → indexOf w ≤ b → indexOf (andThen v w) ≤ b
+unfolding andThen indexOf
+index-then Fine w b h g = g
+index-then (Key k) w b h g = h
+index-then (Value k) w b h g = h
+
+index-few : (v : Verdict) (ls : List Line) (vs : List (List ℕ)) (k b : ℕ) (ts : List (List ℕ)) → indexOf v ≤ b → k + length ls ≤ b → indexOf (verdict v ls vs k ts) ≤ b
+unfolding verdict
+index-few v [] vs k b ts h g = h
+index-few v (l ∷ ls) vs k b ts h g =
+    let q = index-line k l vs (nth ts k) in
+    index-few (andThen v (lineVerdict k l vs (nth ts k))) ls _ (suc k) b ts (index-then v (lineVerdict k l vs (nth ts k)) b h (omega arith)) (omega arith)
+
+pub lines-few : (g : Name) → length (lines g) ≤ 10
+unfolding lines
+lines-few Msh = omega arith
+lines-few Pid = omega arith
+lines-few Pv1 = omega arith
+lines-few Spm = omega arith
+lines-few Obr = omega arith
+lines-few Orc = omega arith
+lines-few Obx = omega arith
+lines-few Other = omega arith
+
+pub group-index : (g : Name) (ts : List (List ℕ)) → indexOf (groupVerdict g ts) ≤ 10
+group-index g ts = index-few Fine (lines g) [] 0 10 ts (unfold indexOf in omega arith) (omega (arith, lines-few g))

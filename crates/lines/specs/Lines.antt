@@ -25,6 +25,12 @@ isFine Fine = true
 isFine (Key k) = false
 isFine (Value k) = false
 
+-- the line that it names
+unfoldable pub indexOf : Verdict → ℕ
+indexOf Fine = 0
+indexOf (Key k) = k
+indexOf (Value k) = k
+
 -- what is told of a verdict on lines whose first has the number i; t where there is no fault
 unfoldable pub toldOf : {A : Type 0} → Verdict → ℕ → Told A → Told A
 toldOf Fine i t = t
