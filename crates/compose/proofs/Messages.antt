@@ -3,7 +3,7 @@ use mathlib.Core.Path.{_≡_, refl, sym, ap, _∙_}
 use mathlib.Core.Bool.{Bool, true, false, cond}
 use mathlib.Core.List.{List, [], _∷_, _++_, map, append-assoc, append-nil}
 use Prim.Native.Nat.{ℕ, suc, _+_, _≤_, _<_}
-use native.Mathlib.Omega.{arith}
+use native.Mathlib.Numerals.{add-one}
 use lib.ListN.{length, length-append, length-map}
 use Rattle.rules.specs.declared.Delims.{Delims}
 use Rattle.rules.specs.declared.Name.{Name}
@@ -84,7 +84,7 @@ unfolding specimensIn specimens rowOf specimensWith
 specimens-in i Msh vs = refl
 specimens-in i Pid vs = refl
 specimens-in i Pv1 vs = refl
-specimens-in i Spm vs = refl
+specimens-in i Spm vs = sym (add-one i)
 specimens-in i Obr vs = refl
 specimens-in i Orc vs = refl
 specimens-in i Obx vs = refl
@@ -98,5 +98,5 @@ results-in j Pv1 vs = refl
 results-in j Spm vs = refl
 results-in j Obr vs = refl
 results-in j Orc vs = refl
-results-in j Obx vs = refl
+results-in j Obx vs = sym (add-one j)
 results-in j Other vs = refl

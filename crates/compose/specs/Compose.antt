@@ -2,7 +2,7 @@
 use mathlib.Core.Path.{_≡_}
 use mathlib.Core.Bool.{Bool, true, false, cond}
 use mathlib.Core.List.{List, [], _∷_, _++_, map}
-use Prim.Native.Nat.{ℕ, suc, _+_, _≤_}
+use Prim.Native.Nat.{ℕ, _+_, _≤_}
 use lib.ListN.{length}
 use Rattle.rules.specs.declared.Delims.{Delims}
 use Rattle.rules.specs.declared.Kind.{Kind}
@@ -17,6 +17,8 @@ use Rattle.rules.specs.Row.{Row, rowOf}
 use Rattle.rules.specs.Sheet.{rowsTold, linesOf}
 use Rattle.rules.specs.Message.{piece, composed, blanks, valueText, pieces, segmentText, written, messageOf}
 use Rattle.writer.specs.Over.{over, overAt}
+use Rattle.lines.specs.declared.Verdict.{Verdict}
+use Rattle.lines.specs.declared.Verdict.the-variants.{Fine, Key as WrongKey, Value}
 use Rattle.lines.specs.Lines.{groupValues}
 use Rattle.compose.specs.declared.Size.{Size}
 use Rattle.compose.specs.declared.Passed.{Passed}
@@ -42,10 +44,10 @@ resultText d number item name type c v j s unit flag status =
 
 -- how many specimens, and results of the order, there are with a group more; how many segments a group has
 unfoldable pub specimensWith : ℕ → Name → ℕ
-specimensWith i g = cond (is g Spm) (suc i) i
+specimensWith i g = cond (is g Spm) (i + 1) i
 
 unfoldable pub resultsWith : ℕ → Name → ℕ
-resultsWith j g = cond (is g Obx) (suc j) (cond (is g Obr) 0 j)
+resultsWith j g = cond (is g Obx) (j + 1) (cond (is g Obr) 0 j)
 
 unfoldable pub segmentsOf : Name → ℕ
 segmentsOf Msh = 1
@@ -56,6 +58,11 @@ segmentsOf Obr = 2
 segmentsOf Orc = 0
 segmentsOf Obx = 1
 segmentsOf Other = 0
+
+unfoldable pub isValue : Verdict → Bool
+isValue Fine = false
+isValue (WrongKey k) = false
+isValue (Value k) = true
 
 -- a write of b over x from at on, where there is room: it ends at r, and leaves y
 pub record Added (at : ℕ) (x b : List ℕ) (r : ℕ) (y : List ℕ) : Type 0 where

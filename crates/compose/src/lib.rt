@@ -5,19 +5,15 @@ use rules::Delims;
 use rules::Kind;
 use rules::Name;
 use rules::Refusal;
-use rules::Written;
 ghost use mathlib.Core.Path.{_≡_};
-ghost use mathlib.Core.List.{List, [], _∷_};
-ghost use Prim.Native.Nat.{ℕ, _+_, _≤_, _<_};
+ghost use Prim.Native.Nat.{_+_, _≤_};
 ghost use lib.ListN.{length};
-ghost use Rattle.rules.specs.Told.{toldLength, lengthOf, refusal};
 ghost use Rattle.rules.specs.Told as Told;
 ghost use Rattle.rules.specs.Sheet.{linesOf};
-ghost use Rattle.rules.specs.Message.{base, toMessage};
 ghost use Rattle.rules.specs.Frame.{is};
 ghost use Rattle.writer.specs.Over.{Fit};
 ghost use Rattle.lines.specs.Lines.{toldOf, indexOf};
-ghost use Rattle.compose.specs.Compose.{groupText, specimenText, resultText, specimensWith, resultsWith, segmentsOf, Added, toldSize, refusalAt, Pass};
+ghost use Rattle.compose.specs.Compose.{groupText, specimenText, resultText, specimensWith, resultsWith, segmentsOf, isValue, Added, toldSize, refusalAt, Pass};
 
 // ---- the groups written, each where there is room
 
@@ -302,16 +298,37 @@ fn refused(kind: Kind, line: usize) -> Refusal
     }
 }
 
+// The line that a verdict names, and whether its value is wrong.
+fn index(v: Verdict) -> usize
+    ensures { λ r. ⌜ r ≡ indexOf v ⌝ }
+{
+    match v {
+        Verdict::Fine => 0,
+        Verdict::Key(k) => k,
+        Verdict::Value(k) => k,
+    }
+}
+
+fn is_value(v: Verdict) -> bool
+    ensures { λ r. ⌜ r ≡ isValue v ⌝ }
+{
+    match v {
+        Verdict::Fine => false,
+        Verdict::Key(_) => false,
+        Verdict::Value(_) => true,
+    }
+}
+
 // The refusal of a group whose first line has this number.
 fn unread(v: Verdict, line: usize) -> Passed
     requires { ⌜ (indexOf v ≤ 10) × (line ≤ 1000000) ⌝ }
     ensures { λ r. ⌜ toldSize r ≡ toldOf v line (Told.refused 42 line 0) ⌝ }
 {
-    match v {
-        Verdict::Fine => Passed::Not(refused(Kind::Key, line)),
-        Verdict::Key(k) => Passed::Not(refused(Kind::Key, line + k)),
-        Verdict::Value(k) => Passed::Not(refused(Kind::Line, line + k)),
+    let at = line + index(v);
+    if is_value(v) {
+        return Passed::Not(refused(Kind::Line, at));
     }
+    Passed::Not(refused(Kind::Key, at))
 }
 
 // One pass: a buffer too short for the message is left in any state, and one with room has the message over its front.
