@@ -3,13 +3,13 @@ use rules::Delims;
 use rules::Mode;
 ghost use mathlib.Core.Path.{_≡_};
 ghost use mathlib.Core.List.{List, [], _∷_, _++_};
-ghost use Prim.Native.Nat.{ℕ, _+_, _≤_, _<_};
-ghost use lib.ListN.{length};
+ghost use Prim.Native.Nat.{ℕ, _+_, _*_, _≤_, _<_};
+ghost use lib.ListN.{length, drop};
 ghost use Rattle.rules.specs.Escape.{escape};
 ghost use Rattle.rules.specs.Message.{decimal};
 ghost use Rattle.rules.specs.Shift.{mark};
-ghost use Rattle.writer.specs.Over.{Wrote, Put};
-ghost use Rattle.writer.specs.Woven.{partText, woven};
+ghost use Rattle.writer.specs.Over.{Wrote, Put, Fit};
+ghost use Rattle.writer.specs.Woven.{delimiterOf, taken, slotText, firstText, woven, holes, sizes};
 ghost use Rattle.writer.specs.Escaping.{unitOf, letterOf};
 
 // Copies bytes to the front of the lent tail.
@@ -124,8 +124,9 @@ fn unit_len(mode: Mode, b: u8, d: Delims) -> usize
 
 // How many bytes a text takes, escaped.
 pub fn escaped_len(text: &[u8], d: Delims) -> usize
-    requires { ⌜ length (now text) ≤ 65536 ⌝ }
+    requires { ⌜ length (now text) ≤ 1000000 ⌝ }
     ensures { λ r. ⌜ r ≡ length (escape d (now (text .entry))) ⌝ }
+    ensures within { λ r. ⌜ r ≤ 3 * length (now (text .entry)) ⌝ }
 {
     let mut n: usize = 0;
     let mut i = 0;
@@ -163,31 +164,118 @@ pub fn put_escaped_at(out: &mut [u8], at: usize, text: &[u8], d: Delims) -> usiz
     at + put_escaped(&mut out[at..], text, d)
 }
 
-// ---- fixed bytes and texts in turn
+// ---- a segment by its pattern
 
-// A part: fixed bytes as they are, a text escaped.
-fn put_part(out: &mut [u8], at: usize, part: &[u8], text: bool, d: Delims) -> usize
-    requires { ⌜ at + length (partText d text (now part)) ≤ length (now out) ⌝ }
-    ensures { λ r. ⌜ Put at (now (out .entry)) (partText d text (now (part .entry))) r (now (out .exit)) ⌝ }
+// The delimiter that a byte of a pattern stands for, or the byte itself.
+fn delimiter(slot: u8, d: Delims) -> u8
+    ensures { λ r. ⌜ r ≡ delimiterOf d slot ⌝ }
 {
-    if text {
-        return put_escaped_at(out, at, part, d);
+    if slot == b'|' {
+        return d.field;
     }
-    put_at(out, at, part)
+    if slot == b'^' {
+        return d.component;
+    }
+    if slot == b'~' {
+        return d.repetition;
+    }
+    if slot == b'\\' {
+        return d.escape;
+    }
+    if slot == b'&' {
+        return d.sub;
+    }
+    slot
 }
 
-// All the parts, one after another: fixed bytes, a text, fixed bytes, a text ..
-pub fn put_woven(out: &mut [u8], parts: &[&[u8]], d: Delims) -> usize
-    requires { ⌜ length (woven d (now parts)) ≤ length (now out) ⌝ }
-    ensures { λ r. ⌜ Wrote r (now (out .exit)) (woven d (now (parts .entry))) (now (out .entry)) ⌝ }
+// How many texts it takes.
+fn texts_for(slot: u8) -> usize
+    ensures { λ r. ⌜ (r ≡ taken slot) × (r ≤ 1) ⌝ }
+{
+    if slot == b'$' {
+        return 1;
+    }
+    if slot == b'#' {
+        return 1;
+    }
+    0
+}
+
+// What stands for it in the segment, and how many bytes that is.
+fn put_slot(out: &mut [u8], at: usize, slot: u8, texts: &[&[u8]], next: usize, d: Delims) -> usize
+    requires { ⌜ (next + taken slot ≤ length (now texts)) × (at + length (slotText d slot (firstText (drop next (now texts)))) ≤ length (now out)) ⌝ }
+    ensures { λ r. ⌜ Put at (now (out .entry)) (slotText d slot (firstText (drop next (now (texts .entry))))) r (now (out .exit)) ⌝ }
+{
+    if slot == b'$' {
+        return put_escaped_at(out, at, texts[next], d);
+    }
+    if slot == b'#' {
+        return put_at(out, at, texts[next]);
+    }
+    put_at(out, at, &[delimiter(slot, d)])
+}
+
+fn slot_len(slot: u8, texts: &[&[u8]], next: usize, d: Delims) -> usize
+    requires { ⌜ (next + taken slot ≤ length (now texts)) × (sizes (now texts) ≤ 1000000) ⌝ }
+    ensures { λ r. ⌜ (r ≡ length (slotText d slot (firstText (drop next (now (texts .entry)))))) × (r ≤ 3000000) ⌝ }
+{
+    if slot == b'$' {
+        return escaped_len(texts[next], d);
+    }
+    if slot == b'#' {
+        return length_of(texts[next]);
+    }
+    1
+}
+
+fn length_of(text: &[u8]) -> usize
+    ensures { λ r. ⌜ r ≡ length (now (text .entry)) ⌝ }
+{
+    text.len()
+}
+
+// The whole pattern.
+fn put_woven(out: &mut [u8], pattern: &[u8], texts: &[&[u8]], d: Delims) -> usize
+    requires { ⌜ (holes (now pattern) ≤ length (now texts)) × (length (woven d (now pattern) (now texts)) ≤ length (now out)) ⌝ }
+    ensures { λ r. ⌜ Wrote r (now (out .exit)) (woven d (now (pattern .entry)) (now (texts .entry))) (now (out .entry)) ⌝ }
 {
     let mut at = 0;
-    let mut text = false;
+    let mut next = 0;
     let mut i = 0;
-    while i < parts.len() {
-        at = put_part(out, at, parts[i], text, d);
-        text = !text;
+    while i < pattern.len() {
+        let slot = pattern[i];
+        at = put_slot(out, at, slot, texts, next, d);
+        next += texts_for(slot);
         i += 1;
     }
     at
+}
+
+fn woven_len(pattern: &[u8], texts: &[&[u8]], d: Delims) -> usize
+    requires { ⌜ (holes (now pattern) ≤ length (now texts)) × (sizes (now texts) ≤ 1000000) × (length (now pattern) ≤ 100) ⌝ }
+    ensures { λ r. ⌜ (r ≡ length (woven d (now (pattern .entry)) (now (texts .entry)))) × (r ≤ 300000000) ⌝ }
+{
+    let mut n: usize = 0;
+    let mut next = 0;
+    let mut i = 0;
+    while i < pattern.len() {
+        let slot = pattern[i];
+        n += slot_len(slot, texts, next, d);
+        next += texts_for(slot);
+        i += 1;
+    }
+    n
+}
+
+// Writes it where the lent tail has room, and answers its length in either case.
+pub fn fit_woven(out: &mut [u8], pattern: &[u8], texts: &[&[u8]], d: Delims) -> usize
+    requires { ⌜ (holes (now pattern) ≤ length (now texts)) × (sizes (now texts) ≤ 1000000) × (length (now pattern) ≤ 100) ⌝ }
+    ensures { λ r. ⌜ Fit r (now (out .exit)) (woven d (now (pattern .entry)) (now (texts .entry))) (now (out .entry)) ⌝ }
+    ensures within { λ r. ⌜ r ≤ 300000000 ⌝ }
+{
+    let n = woven_len(pattern, texts, d);
+    if out.len() < n {
+        return n;
+    }
+    put_woven(out, pattern, texts, d)
 }

@@ -1,0 +1,243 @@
+-- The text of each group is what its pattern says. Assumes nothing.
+use mathlib.Core.Path.{_≡_, refl, sym, ap, _∙_}
+use mathlib.Core.Bool.{Bool, true, false, cond, not, _&&_}
+use mathlib.Core.List.{List, [], _∷_, _++_, map, append-assoc, append-nil}
+use Prim.Native.Nat.{ℕ, suc, _+_, _-_, _/_, _≤_, _<_}
+use native.Mathlib.Numerals.{add-one}
+use native.Mathlib.Omega.{arith}
+use lib.Dec.{eqb, ltb, leb}
+use lib.ListN.{length, take, drop, length-append, length-drop, length-take}
+use lib.Seq.{take-at, length-take-le}
+use denote.Ref.{RefT}
+use borrow.Author.Tests.{eqb-true, eq-eqb, ltb-true, ltb-false, le-leb, leb-true}
+use Rattle.rules.specs.declared.Delims.{Delims}
+use Rattle.rules.specs.declared.Name.{Name}
+use Rattle.rules.specs.declared.Name.the-variants.{Msh, Pid, Pv1, Spm, Obr, Orc, Obx, Other}
+use Rattle.rules.specs.Lists.{bytes, empty, nth, same, join, led, ended}
+use Rattle.rules.specs.Frame.{spelling, is}
+use Rattle.rules.specs.Escape.{escape}
+use Rattle.rules.specs.Row.{line, lines, rowOf}
+use Rattle.rules.specs.Sheet.{keyOf}
+use Rattle.rules.specs.Message.{decimal, composed, blanks, encoding, nameText, namesText, valueText, piecesOf, specimens, results, pieces, segmentText}
+use Rattle.rules.proofs.Logic.{both, cases, and-false, never}
+use Rattle.rules.proofs.Lists.{empty-zero, filled-some}
+use Rattle.writer.specs.Over.{over, overAt, Wrote, Put, fitted, Fit}
+use Rattle.writer.proofs.Laws.{back}
+use Rattle.writer.specs.Woven.{delimiterOf, taken, slotText, firstText, woven, holes, sizes}
+use Rattle.writer.proofs.Decimals.{decimal-one, decimal-more-length}
+use Rattle.lines.specs.Lines.{valuesFrom}
+use Rattle.compose.specs.Compose.{rowsText, groupText, specimenText, resultText, specimensWith, resultsWith, segmentsOf, Added}
+
+-- to unfold this name is to unfold the patterns, the lines and the segments
+unfoldable pub shapes : Unit {0}
+unfolding delimiterOf taken slotText firstText woven line lines keyOf bytes valuesFrom rowOf rowsText groupText pieces piecesOf specimens results segmentText spelling join led ended composed blanks encoding nameText specimenText resultText
+shapes = tt
+
+-- the blank value of a result has no parts
+other : (v : List ℕ) (q : Bool) → (q && not (eqb (length v) 0)) ≡ false → (q && not (empty v)) ≡ false
+other v q h = cases (eqb (length v) 0) (λ e. rw (empty-zero v (eqb-true (length v) 0 e)) (and-false q)) (λ e. let z : (q && true) ≡ false = rw e at h in cases (empty v) (λ w. rw w (and-false q)) (λ w. rw w z))
+
+-- a write whose text is known by another name
+fit-as : {r : ℕ} {x w v old : List ℕ} → w ≡ v → Fit r x w old → Fit r x v old
+fit-as e p = rw e at p
+
+pub fit-none : (old : List ℕ) → Fit 0 old [] old
+unfolding fitted over
+fit-none old = record { ends = refl; is = rw (le-leb 0 (length old) (omega arith)) }
+
+-- what was written, read back from the front
+pub front : {r : ℕ} {x w old : List ℕ} → Wrote r x w old → take r x ≡ w
+unfolding over
+front {r} {x} {w} {old} p = rw (p .is) (take-at w (drop (length w) old) r (sym (p .ends)))
+
+module _ (d : Delims) (ts : List (List ℕ)) (r : ℕ) (x old : List ℕ) where
+  pub visit-is : (a : RefT (List ℕ)) → a .now ≡ drop 6 (nth ts 0)
+      → Fit r x (woven d (80 ∷ 86 ∷ 49 ∷ 124 ∷ 124 ∷ 36 ∷ 13 ∷ []) (a ∷ [])) old → Fit r x (groupText d 0 0 Pv1 ts) old
+  unfolding shapes
+  visit-is a ea p = fit-as (simp (ea, append-assoc, append-nil)) p
+
+  pub order-is : (a b : RefT (List ℕ)) → a .now ≡ drop 6 (nth ts 0) → b .now ≡ drop 6 (nth ts 1)
+      → Fit r x (woven d (79 ∷ 66 ∷ 82 ∷ 124 ∷ 124 ∷ 36 ∷ 124 ∷ 124 ∷ 36 ∷ 94 ∷ 94 ∷ 57 ∷ 57 ∷ 48 ∷ 48 ∷ 51 ∷ 13 ∷ 79 ∷ 82 ∷ 67 ∷ 124 ∷ 82 ∷ 69 ∷ 124 ∷ 36 ∷ 13 ∷ []) (a ∷ b ∷ a ∷ [])) old → Fit r x (groupText d 0 0 Obr ts) old
+  unfolding shapes
+  order-is a b ea eb p = fit-as (simp (ea, eb, append-assoc, append-nil)) p
+
+  pub header-is : (a b c : RefT (List ℕ)) → a .now ≡ drop 5 (nth ts 2) → b .now ≡ drop 8 (nth ts 3) → c .now ≡ drop 5 (nth ts 1)
+      → Fit r x (woven d (77 ∷ 83 ∷ 72 ∷ 124 ∷ 94 ∷ 126 ∷ 92 ∷ 38 ∷ 124 ∷ 124 ∷ 124 ∷ 124 ∷ 124 ∷ 36 ∷ 124 ∷ 124 ∷ 79 ∷ 85 ∷ 76 ∷ 94 ∷ 82 ∷ 50 ∷ 50 ∷ 94 ∷ 79 ∷ 85 ∷ 76 ∷ 95 ∷ 82 ∷ 50 ∷ 50 ∷ 124 ∷ 36 ∷ 124 ∷ 36 ∷ 124 ∷ 50 ∷ 46 ∷ 53 ∷ 124 ∷ 124 ∷ 124 ∷ 124 ∷ 124 ∷ 124 ∷ 126 ∷ 73 ∷ 83 ∷ 79 ∷ 32 ∷ 73 ∷ 82 ∷ 56 ∷ 55 ∷ 124 ∷ 124 ∷ 73 ∷ 83 ∷ 79 ∷ 32 ∷ 50 ∷ 48 ∷ 50 ∷ 50 ∷ 45 ∷ 49 ∷ 57 ∷ 57 ∷ 52 ∷ 13 ∷ []) (a ∷ b ∷ c ∷ [])) old → Fit r x (groupText d 0 0 Msh ts) old
+  unfolding shapes
+  header-is a b c ea eb ec p = fit-as (simp (ea, eb, ec, append-assoc, append-nil)) p
+
+  pub patient-plain : (a b c k e f : RefT (List ℕ)) → a .now ≡ drop 8 (nth ts 0) → b .now ≡ drop 7 (nth ts 1) → c .now ≡ drop 6 (nth ts 2) → k .now ≡ drop 11 (nth ts 3)
+      → e .now ≡ drop 6 (nth ts 5) → f .now ≡ drop 4 (nth ts 6) → length (k .now) ≡ 0
+      → Fit r x (woven d (80 ∷ 73 ∷ 68 ∷ 124 ∷ 124 ∷ 124 ∷ 36 ∷ 124 ∷ 124 ∷ 36 ∷ 94 ∷ 36 ∷ 94 ∷ 94 ∷ 94 ∷ 94 ∷ 94 ∷ 76 ∷ 94 ∷ 73 ∷ 124 ∷ 124 ∷ 36 ∷ 124 ∷ 36 ∷ 13 ∷ []) (a ∷ b ∷ c ∷ e ∷ f ∷ [])) old → Fit r x (groupText d 0 0 Pid ts) old
+  unfolding shapes namesText
+  patient-plain a b c k e f ea eb ec ek ee ef h p =
+      let z : empty (drop 11 (nth ts 3)) ≡ true = rw (← ek) (empty-zero (k .now) h) in
+      fit-as (simp (ea, eb, ec, ee, ef, z, append-assoc, append-nil)) p
+
+  pub patient-kana : (a b c k l e f : RefT (List ℕ)) → a .now ≡ drop 8 (nth ts 0) → b .now ≡ drop 7 (nth ts 1) → c .now ≡ drop 6 (nth ts 2) → k .now ≡ drop 11 (nth ts 3)
+      → l .now ≡ drop 10 (nth ts 4) → e .now ≡ drop 6 (nth ts 5) → f .now ≡ drop 4 (nth ts 6) → (length (k .now) ≡ 0 → ⊥)
+      → Fit r x (woven d (80 ∷ 73 ∷ 68 ∷ 124 ∷ 124 ∷ 124 ∷ 36 ∷ 124 ∷ 124 ∷ 36 ∷ 94 ∷ 36 ∷ 94 ∷ 94 ∷ 94 ∷ 94 ∷ 94 ∷ 76 ∷ 94 ∷ 73 ∷ 126 ∷ 36 ∷ 94 ∷ 36 ∷ 94 ∷ 94 ∷ 94 ∷ 94 ∷ 94 ∷ 76 ∷ 94 ∷ 80 ∷ 124 ∷ 124 ∷ 36 ∷ 124 ∷ 36 ∷ 13 ∷ []) (a ∷ b ∷ c ∷ k ∷ l ∷ e ∷ f ∷ [])) old → Fit r x (groupText d 0 0 Pid ts) old
+  unfolding shapes namesText
+  patient-kana a b c k l e f ea eb ec ek el ee ef h p =
+      let z : empty (drop 11 (nth ts 3)) ≡ false = rw (← ek) (filled-some (k .now) h) in
+      fit-as (simp (ea, eb, ec, ek, el, ee, ef, z, append-assoc, append-nil)) p
+
+module _ (d : Delims) (r : ℕ) (x old : List ℕ) where
+  pub specimen-put : (a b c : RefT (List ℕ)) → Fit r x (woven d (83 ∷ 80 ∷ 77 ∷ 124 ∷ 35 ∷ 124 ∷ 124 ∷ 124 ∷ 36 ∷ 94 ∷ 94 ∷ 74 ∷ 67 ∷ 49 ∷ 48 ∷ 124 ∷ 124 ∷ 124 ∷ 124 ∷ 124 ∷ 124 ∷ 124 ∷ 124 ∷ 124 ∷ 124 ∷ 124 ∷ 124 ∷ 124 ∷ 36 ∷ 13 ∷ []) (a ∷ b ∷ c ∷ [])) old → Fit r x (specimenText d (a .now) (b .now) (c .now)) old
+  unfolding shapes
+  specimen-put a b c p = fit-as (simp (append-assoc, append-nil)) p
+
+  pub specimen-is : (ts : List (List ℕ)) (i : ℕ) (a b c : List ℕ) → a ≡ decimal (i + 1) → b ≡ drop 9 (nth ts 0) → c ≡ drop 10 (nth ts 1)
+      → Fit r x (specimenText d a b c) old → Fit r x (groupText d i 0 Spm ts) old
+  unfolding shapes
+  specimen-is ts i a b c ea eb ec p = let z : a ≡ decimal (suc i) = ea ∙ ap decimal (add-one i) in fit-as (rw (z, eb, ec)) p
+
+  module _ (n item name type c v j s unit flag status : RefT (List ℕ)) (q : Bool) (e : q ≡ same (type .now) (83 ∷ 78 ∷ [])) where
+    pub result-sn : (q && not (eqb (length (v .now)) 0)) ≡ true
+        → Fit r x (woven d (79 ∷ 66 ∷ 88 ∷ 124 ∷ 35 ∷ 124 ∷ 36 ∷ 124 ∷ 36 ∷ 94 ∷ 36 ∷ 94 ∷ 74 ∷ 67 ∷ 49 ∷ 48 ∷ 124 ∷ 124 ∷ 36 ∷ 94 ∷ 36 ∷ 94 ∷ 36 ∷ 94 ∷ 36 ∷ 124 ∷ 36 ∷ 124 ∷ 124 ∷ 36 ∷ 124 ∷ 124 ∷ 124 ∷ 36 ∷ 13 ∷ []) (n ∷ type ∷ item ∷ name ∷ c ∷ v ∷ j ∷ s ∷ unit ∷ flag ∷ status ∷ [])) old
+        → Fit r x (resultText d (n .now) (item .now) (name .now) (type .now) (c .now) (v .now) (j .now) (s .now) (unit .now) (flag .now) (status .now)) old
+    unfolding shapes valueText
+    result-sn h p =
+        let t = both q (not (eqb (length (v .now)) 0)) h in
+        let z : empty (v .now) ≡ false = filled-some (v .now) (λ w. never (sym (t .1) ∙ ap not (eq-eqb (length (v .now)) 0 w))) in
+        fit-as (simp (← e, t .0, z, append-assoc, append-nil)) p
+
+    pub result-plain : (q && not (eqb (length (v .now)) 0)) ≡ false
+        → Fit r x (woven d (79 ∷ 66 ∷ 88 ∷ 124 ∷ 35 ∷ 124 ∷ 36 ∷ 124 ∷ 36 ∷ 94 ∷ 36 ∷ 94 ∷ 74 ∷ 67 ∷ 49 ∷ 48 ∷ 124 ∷ 124 ∷ 36 ∷ 124 ∷ 36 ∷ 124 ∷ 124 ∷ 36 ∷ 124 ∷ 124 ∷ 124 ∷ 36 ∷ 13 ∷ []) (n ∷ type ∷ item ∷ name ∷ v ∷ unit ∷ flag ∷ status ∷ [])) old
+        → Fit r x (resultText d (n .now) (item .now) (name .now) (type .now) (c .now) (v .now) (j .now) (s .now) (unit .now) (flag .now) (status .now)) old
+    unfolding shapes valueText
+    result-plain h p =
+        let z : (same (type .now) (83 ∷ 78 ∷ []) && not (empty (v .now))) ≡ false = rw (← e) (other (v .now) q h) in
+        fit-as (simp (z, append-assoc, append-nil)) p
+
+  pub result-is : (ts : List (List ℕ)) (k : ℕ) (n a b c e f g h i l m : List ℕ) → n ≡ decimal (k + 1) → a ≡ drop 5 (nth ts 0) → b ≡ drop 5 (nth ts 1) → c ≡ drop 5 (nth ts 2)
+      → e ≡ drop 8 (nth ts 3) → f ≡ drop 6 (nth ts 4) → g ≡ drop 5 (nth ts 5) → h ≡ drop 7 (nth ts 6) → i ≡ drop 5 (nth ts 7) → l ≡ drop 5 (nth ts 8) → m ≡ drop 7 (nth ts 9)
+      → Fit r x (resultText d n a b c e f g h i l m) old → Fit r x (groupText d 0 k Obx ts) old
+  unfolding shapes
+  result-is ts k n a b c e f g h i l m en ea eb ec ee ef eg eh ei el em p = let z : n ≡ decimal (suc k) = en ∙ ap decimal (add-one k) in fit-as (rw (z, ea, eb, ec, ee, ef, eg, eh, ei, el, em)) p
+
+-- ---- a number of at most five digits
+five : (n k : ℕ) → (10 ≤ n → length (decimal (n / 10)) ≤ k) → length (decimal n) ≤ k + 1
+five n k f =
+    cases (ltb n 10)
+    (λ e. omega (arith, ap length (decimal-one n (ltb-true n 10 e))))
+    (λ e. let h = ltb-false n 10 e in omega (arith, decimal-more-length n h, f h))
+
+pub number-short : (i : ℕ) → i ≤ 65536 → length (decimal (i + 1)) ≤ 5
+number-short i h =
+    let n = i + 1 in
+    five n 4 (λ a. five (n / 10) 3 (λ b. five (n / 10 / 10) 2 (λ c. five (n / 10 / 10 / 10) 1 (λ e.
+    let z : n / 10 / 10 / 10 / 10 < 10 = omega arith in
+    omega (arith, ap length (decimal-one (n / 10 / 10 / 10 / 10) z))))))
+
+pub front-is : (r : ℕ) (x w old : List ℕ) → Wrote r x w old → r ≡ length (take r x)
+front-is r x w old p = p .ends ∙ ap length (sym (front p))
+
+pub front-short : (r b : ℕ) (x w old : List ℕ) → Wrote r x w old → length w ≤ b → length (take r x) ≤ b
+front-short r b x w old p h = omega (arith, ap length (front p))
+
+pub front-within : (r : ℕ) (x w old : List ℕ) → Wrote r x w old → r ≤ length x
+unfolding over
+front-within r x w old p = omega (arith, p .ends, ap length (p .is) ∙ length-append w (drop (length w) old))
+
+pub number-size : (r n : ℕ) (x old : List ℕ) → Wrote r x (decimal (n + 1)) old → n ≤ 65536 → length (take r x) ≤ 65536
+number-size r n x old p h = omega (arith, ap length (front p), number-short n h)
+
+-- ---- a group by its name
+module _ (d : Delims) (ts : List (List ℕ)) (i j : ℕ) where
+  any-msh : groupText d 0 0 Msh ts ≡ groupText d i j Msh ts
+  unfolding shapes
+  any-msh = refl
+
+  any-pid : groupText d 0 0 Pid ts ≡ groupText d i j Pid ts
+  unfolding shapes
+  any-pid = refl
+
+  any-pv1 : groupText d 0 0 Pv1 ts ≡ groupText d i j Pv1 ts
+  unfolding shapes
+  any-pv1 = refl
+
+  any-spm : groupText d i 0 Spm ts ≡ groupText d i j Spm ts
+  unfolding shapes
+  any-spm = refl
+
+  any-obr : groupText d 0 0 Obr ts ≡ groupText d i j Obr ts
+  unfolding shapes
+  any-obr = refl
+
+  any-obx : groupText d 0 j Obx ts ≡ groupText d i j Obx ts
+  unfolding shapes
+  any-obx = refl
+
+  any-orc : [] ≡ groupText d i j Orc ts
+  unfolding shapes
+  any-orc = refl
+
+  any-other : [] ≡ groupText d i j Other ts
+  unfolding shapes
+  any-other = refl
+
+  module _ (n : Name) (r : ℕ) (x old : List ℕ) where
+    by-name : (w : List ℕ) (g : Name) → w ≡ groupText d i j g ts → n ≡ g → Fit r x w old → Fit r x (groupText d i j n ts) old
+    by-name w g e h p = fit-as (e ∙ ap (λ (m : Name). groupText d i j m ts) (sym h)) p
+
+    pub put-msh : n ≡ Msh → Fit r x (groupText d 0 0 Msh ts) old → Fit r x (groupText d i j n ts) old
+    put-msh = by-name (groupText d 0 0 Msh ts) Msh any-msh
+
+    pub put-pid : n ≡ Pid → Fit r x (groupText d 0 0 Pid ts) old → Fit r x (groupText d i j n ts) old
+    put-pid = by-name (groupText d 0 0 Pid ts) Pid any-pid
+
+    pub put-pv1 : n ≡ Pv1 → Fit r x (groupText d 0 0 Pv1 ts) old → Fit r x (groupText d i j n ts) old
+    put-pv1 = by-name (groupText d 0 0 Pv1 ts) Pv1 any-pv1
+
+    pub put-spm : n ≡ Spm → Fit r x (groupText d i 0 Spm ts) old → Fit r x (groupText d i j n ts) old
+    put-spm = by-name (groupText d i 0 Spm ts) Spm any-spm
+
+    pub put-obr : n ≡ Obr → Fit r x (groupText d 0 0 Obr ts) old → Fit r x (groupText d i j n ts) old
+    put-obr = by-name (groupText d 0 0 Obr ts) Obr any-obr
+
+    pub put-obx : n ≡ Obx → Fit r x (groupText d 0 j Obx ts) old → Fit r x (groupText d i j n ts) old
+    put-obx = by-name (groupText d 0 j Obx ts) Obx any-obx
+
+  module _ (n : Name) (old : List ℕ) where
+    pub put-orc : n ≡ Orc → Fit 0 old (groupText d i j n ts) old
+    put-orc h = by-name n 0 old old [] Orc any-orc h (fit-none old)
+
+    pub put-other : n ≡ Other → Fit 0 old (groupText d i j n ts) old
+    put-other h = by-name n 0 old old [] Other any-other h (fit-none old)
+
+module _ (n x : Name) (e : n ≡ x) where
+  pub is-named : (m : Name) (r : Bool) → r ≡ is x m → r ≡ is n m
+  is-named m r h = h ∙ ap (λ (k : Name). is k m) (sym e)
+
+  pub specimens-named : (i r : ℕ) → r ≡ specimensWith i x → r ≡ specimensWith i n
+  specimens-named i r h = h ∙ ap (specimensWith i) (sym e)
+
+  pub results-named : (j r : ℕ) → r ≡ resultsWith j x → r ≡ resultsWith j n
+  results-named j r h = h ∙ ap (resultsWith j) (sym e)
+
+  pub segments-named : (r : ℕ) → r ≡ segmentsOf x → r ≡ segmentsOf n
+  segments-named r h = h ∙ ap segmentsOf (sym e)
+
+-- ---- a group behind what stands already
+fitted-length : (w old : List ℕ) → length (fitted w old) ≡ length old
+unfolding fitted over
+fitted-length w old = cases (leb (length w) (length old)) (λ e. rw e (simp (length-append, length-drop) (omega (arith, leb-true (length w) (length old) e)))) (λ e. rw e)
+
+pub added : (x text y : List ℕ) (at from k : ℕ) → from ≤ length x → (at ≤ length x → from ≡ at) → Fit k y text (take (length x - from) (drop from x))
+    → Added at x text (at + k) (take from x ++ (y ++ drop (length x - from) (drop from x)))
+unfolding fitted
+added x text y at from k h g p =
+    let tail = take (length x - from) (drop from x) in
+    let n : length y ≡ length tail = ap length (p .is) ∙ fitted-length text tail in
+    let t : length tail ≡ length x - from = simp (length-take, length-drop) (omega arith) in
+    record {
+      ends = omega (arith, p .ends);
+      same = simp (length-append, length-take-le from x h, n, t, length-drop) (omega arith);
+      is = λ w.
+          let m = p .ends in
+          let f : from ≡ at = g (omega arith) in
+          let o : y ≡ over text tail = p .is ∙ rw (le-leb (length text) (length tail) (omega arith)) in
+          let b = back from x (record { ends = p .ends; is = o }) .is in
+          b ∙ ap (λ (q : ℕ). overAt q text x) f;
+    }

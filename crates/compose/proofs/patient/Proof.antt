@@ -1,0 +1,84 @@
+use native.Mathlib.Omega.{arith}
+use Prim.Native.Nat.{ℕ, _+_, _-_, _≤_, _<_}
+use mathlib.Core.Path.{_≡_}
+use lib.ListN.{length, take, drop}
+use Rattle.writer.specs.Woven.{holes, taken, sizes}
+use Rattle.compose.proofs.Texts.{patient-kana, patient-plain}
+use borrow.Author.Needs.{needs}
+use Rattle.compose.proofs.patient.Statement.{statement}
+use Rattle.compose.proofs.patient.Tie as tie
+
+value-at-requires : tie.Need-value-at-requires
+value-at-requires c κs = search needs
+
+value-at-requires-2 : tie.Need-value-at-requires-2
+value-at-requires-2 c κs = search needs
+
+value-at-requires-3 : tie.Need-value-at-requires-3
+value-at-requires-3 c κs = search needs
+
+value-at-requires-4 : tie.Need-value-at-requires-4
+value-at-requires-4 c κs = search needs
+
+value-at-requires-5 : tie.Need-value-at-requires-5
+value-at-requires-5 c κs = search needs
+
+value-at-requires-6 : tie.Need-value-at-requires-6
+value-at-requires-6 c κs = search needs
+
+value-at-requires-7 : tie.Need-value-at-requires-7
+value-at-requires-7 c κs = search needs
+
+slice-aggregate-fit-woven : tie.Need-slice-aggregate-fit-woven
+slice-aggregate-fit-woven c = search needs
+
+slice-aggregate-fit-woven-2 : tie.Need-slice-aggregate-fit-woven-2
+slice-aggregate-fit-woven-2 c = search needs
+
+fit-woven-requires : tie.Need-fit-woven-requires
+unfolding holes taken sizes
+fit-woven-requires c κs = search needs
+
+same-length : tie.Need-same-length
+same-length c = search needs
+
+returns : tie.Need-returns
+returns c = search (patient-plain, patient-kana, needs)
+
+slice-aggregate-fit-woven-3 : tie.Need-slice-aggregate-fit-woven-3
+slice-aggregate-fit-woven-3 c = search needs
+
+slice-aggregate-fit-woven-4 : tie.Need-slice-aggregate-fit-woven-4
+slice-aggregate-fit-woven-4 c = search needs
+
+fit-woven-requires-2 : tie.Need-fit-woven-requires-2
+unfolding holes taken sizes
+fit-woven-requires-2 c κs = search needs
+
+same-length-2 : tie.Need-same-length-2
+same-length-2 c = search needs
+
+returns-2 : tie.Need-returns-2
+returns-2 c = search (patient-plain, patient-kana, needs)
+
+pub patient-spec : {M : Type 1} → statement M
+patient-spec =
+    tie.close
+    (tie.spec
+    value-at-requires
+    value-at-requires-2
+    value-at-requires-3
+    value-at-requires-4
+    value-at-requires-5
+    value-at-requires-6
+    value-at-requires-7
+    slice-aggregate-fit-woven
+    slice-aggregate-fit-woven-2
+    fit-woven-requires
+    same-length
+    returns
+    slice-aggregate-fit-woven-3
+    slice-aggregate-fit-woven-4
+    fit-woven-requires-2
+    same-length-2
+    returns-2)

@@ -1,0 +1,85 @@
+use native.Mathlib.Omega.{arith}
+use Prim.Native.Nat.{ℕ, _+_, _-_, _≤_, _<_}
+use mathlib.Core.Path.{_≡_}
+use lib.ListN.{length, take, drop}
+use Rattle.compose.proofs.Texts.{front, front-is, front-within, number-short, number-size, result-is}
+use borrow.Author.Needs.{needs}
+use Rattle.compose.proofs.result.Statement.{statement}
+use Rattle.compose.proofs.result.Tie as tie
+
+value-at-requires : tie.Need-value-at-requires
+value-at-requires c κs = search needs
+
+value-at-requires-2 : tie.Need-value-at-requires-2
+value-at-requires-2 c κs = search needs
+
+value-at-requires-3 : tie.Need-value-at-requires-3
+value-at-requires-3 c κs = search needs
+
+value-at-requires-4 : tie.Need-value-at-requires-4
+value-at-requires-4 c κs = search needs
+
+value-at-requires-5 : tie.Need-value-at-requires-5
+value-at-requires-5 c κs = search needs
+
+value-at-requires-6 : tie.Need-value-at-requires-6
+value-at-requires-6 c κs = search needs
+
+value-at-requires-7 : tie.Need-value-at-requires-7
+value-at-requires-7 c κs = search needs
+
+value-at-requires-8 : tie.Need-value-at-requires-8
+value-at-requires-8 c κs = search needs
+
+value-at-requires-9 : tie.Need-value-at-requires-9
+value-at-requires-9 c κs = search needs
+
+value-at-requires-10 : tie.Need-value-at-requires-10
+value-at-requires-10 c κs = search needs
+
+slice-aggregate-put-number : tie.Need-slice-aggregate-put-number
+slice-aggregate-put-number c = search needs
+
+add-put-number : tie.Need-add-put-number
+add-put-number c = omega (arith, (c .before .before .before .before .before .before .before .before .before .before .before .before .before .pre .1))
+
+put-number-requires : tie.Need-put-number-requires
+put-number-requires c κs = number-short _ (c .before .before .before .before .before .before .before .before .before .before .before .before .before .pre .1)
+
+array-share-prefix-digits : tie.Need-array-share-prefix-digits
+array-share-prefix-digits c = front-within _ _ _ _ (c .before .before .put-number .ensures)
+
+slice-aggregate-put-result : tie.Need-slice-aggregate-put-result
+slice-aggregate-put-result c = search (front-is, needs)
+
+put-result-requires : tie.Need-put-result-requires
+put-result-requires c κs = (number-size _ _ _ _ (c .before .before .before .put-number .ensures) (c .before .before .before .before .before .before .before .before .before .before .before .before .before .before .before .before .before .pre .1), omega (arith, (c .before .before .before .before .before .before .before .before .before .before .before .before .before .before .value-at .ensures .1), (c .before .before .before .before .before .before .before .before .before .before .before .before .before .before .before .before .before .pre .0)), omega (arith, (c .before .before .before .before .before .before .before .before .before .before .before .before .before .value-at2 .ensures .1), (c .before .before .before .before .before .before .before .before .before .before .before .before .before .before .before .before .before .pre .0)), omega (arith, (c .before .before .before .before .before .before .before .before .before .before .before .before .value-at3 .ensures .1), (c .before .before .before .before .before .before .before .before .before .before .before .before .before .before .before .before .before .pre .0)), omega (arith, (c .before .before .before .before .before .before .before .before .before .before .before .value-at4 .ensures .1), (c .before .before .before .before .before .before .before .before .before .before .before .before .before .before .before .before .before .pre .0)), omega (arith, (c .before .before .before .before .before .before .before .before .before .before .value-at5 .ensures .1), (c .before .before .before .before .before .before .before .before .before .before .before .before .before .before .before .before .before .pre .0)), omega (arith, (c .before .before .before .before .before .before .before .before .before .value-at6 .ensures .1), (c .before .before .before .before .before .before .before .before .before .before .before .before .before .before .before .before .before .pre .0)), omega (arith, (c .before .before .before .before .before .before .before .before .value-at7 .ensures .1), (c .before .before .before .before .before .before .before .before .before .before .before .before .before .before .before .before .before .pre .0)), omega (arith, (c .before .before .before .before .before .before .before .value-at8 .ensures .1), (c .before .before .before .before .before .before .before .before .before .before .before .before .before .before .before .before .before .pre .0)), omega (arith, (c .before .before .before .before .before .before .value-at9 .ensures .1), (c .before .before .before .before .before .before .before .before .before .before .before .before .before .before .before .before .before .pre .0)), omega (arith, (c .before .before .before .before .before .value-at10 .ensures .1), (c .before .before .before .before .before .before .before .before .before .before .before .before .before .before .before .before .before .pre .0)))
+
+same-length : tie.Need-same-length
+same-length c = search needs
+
+returns : tie.Need-returns
+returns c = (result-is _ _ _ _ _ _ _ _ _ _ _ _ _ _ _ _ _ (front (c .before .before .before .before .before .before .put-number .ensures)) (c .before .before .before .before .before .before .before .before .before .before .before .before .before .before .before .before .before .value-at .ensures .0) (c .before .before .before .before .before .before .before .before .before .before .before .before .before .before .before .before .value-at2 .ensures .0) (c .before .before .before .before .before .before .before .before .before .before .before .before .before .before .before .value-at3 .ensures .0) (c .before .before .before .before .before .before .before .before .before .before .before .before .before .before .value-at4 .ensures .0) (c .before .before .before .before .before .before .before .before .before .before .before .before .before .value-at5 .ensures .0) (c .before .before .before .before .before .before .before .before .before .before .before .before .value-at6 .ensures .0) (c .before .before .before .before .before .before .before .before .before .before .before .value-at7 .ensures .0) (c .before .before .before .before .before .before .before .before .before .before .value-at8 .ensures .0) (c .before .before .before .before .before .before .before .before .before .value-at9 .ensures .0) (c .before .before .before .before .before .before .before .before .value-at10 .ensures .0) (c .before .before .put-result .ensures .0), (c .before .before .put-result .ensures .1))
+
+pub result-spec : {M : Type 1} → statement M
+result-spec =
+    tie.close
+    (tie.spec
+    value-at-requires
+    value-at-requires-2
+    value-at-requires-3
+    value-at-requires-4
+    value-at-requires-5
+    value-at-requires-6
+    value-at-requires-7
+    value-at-requires-8
+    value-at-requires-9
+    value-at-requires-10
+    slice-aggregate-put-number
+    add-put-number
+    put-number-requires
+    array-share-prefix-digits
+    slice-aggregate-put-result
+    put-result-requires
+    same-length
+    returns)

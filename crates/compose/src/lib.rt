@@ -1,0 +1,384 @@
+// Sheet to message. One pass over the sheet's groups judges them and measures the message; a second writes it, each group into what
+// remains of the lent buffer.
+use lines::Verdict;
+use rules::Delims;
+use rules::Kind;
+use rules::Name;
+use rules::Refusal;
+ghost use mathlib.Core.Path.{_≡_};
+ghost use Prim.Native.Nat.{_+_, _≤_};
+ghost use lib.ListN.{length};
+ghost use Rattle.rules.specs.Told as Told;
+ghost use Rattle.rules.specs.Sheet.{linesOf};
+ghost use Rattle.rules.specs.Frame.{is};
+ghost use Rattle.writer.specs.Over.{Fit};
+ghost use Rattle.lines.specs.Lines.{toldOf, indexOf};
+ghost use Rattle.compose.specs.Compose.{groupText, specimenText, resultText, specimensWith, resultsWith, segmentsOf, isValue, Added, toldSize, refusalAt, Pass};
+
+// ---- the groups written, each where there is room
+
+fn header(out: &mut [u8], s: &[u8], d: Delims) -> usize
+    requires { ⌜ length (now s) ≤ 65536 ⌝ }
+    ensures { λ r. ⌜ Fit r (now (out .exit)) (groupText d 0 0 Name.Msh (linesOf (now (s .entry)))) (now (out .entry)) ⌝ }
+    ensures within { λ r. ⌜ r ≤ 300000000 ⌝ }
+{
+    let mode = lines::value_at(s, 1, 5);
+    let sent = lines::value_at(s, 2, 5);
+    let control = lines::value_at(s, 3, 8);
+    writer::fit_woven(
+        out,
+        b"MSH|^~\\&|||||$||OUL^R22^OUL_R22|$|$|2.5||||||~ISO IR87||ISO 2022-1994\r",
+        &[sent, control, mode],
+        d,
+    )
+}
+
+fn visit(out: &mut [u8], s: &[u8], d: Delims) -> usize
+    requires { ⌜ length (now s) ≤ 65536 ⌝ }
+    ensures { λ r. ⌜ Fit r (now (out .exit)) (groupText d 0 0 Name.Pv1 (linesOf (now (s .entry)))) (now (out .entry)) ⌝ }
+    ensures within { λ r. ⌜ r ≤ 300000000 ⌝ }
+{
+    let class = lines::value_at(s, 0, 6);
+    writer::fit_woven(out, b"PV1||$\r", &[class], d)
+}
+
+fn order(out: &mut [u8], s: &[u8], d: Delims) -> usize
+    requires { ⌜ length (now s) ≤ 65536 ⌝ }
+    ensures { λ r. ⌜ Fit r (now (out .exit)) (groupText d 0 0 Name.Obr (linesOf (now (s .entry)))) (now (out .entry)) ⌝ }
+    ensures within { λ r. ⌜ r ≤ 300000000 ⌝ }
+{
+    let id = lines::value_at(s, 0, 6);
+    let group = lines::value_at(s, 1, 6);
+    writer::fit_woven(out, b"OBR||$||$^^99003\rORC|RE|$\r", &[id, group, id], d)
+}
+
+// "a kana name is a second repetition with P"
+fn patient(out: &mut [u8], s: &[u8], d: Delims) -> usize
+    requires { ⌜ length (now s) ≤ 65536 ⌝ }
+    ensures { λ r. ⌜ Fit r (now (out .exit)) (groupText d 0 0 Name.Pid (linesOf (now (s .entry)))) (now (out .entry)) ⌝ }
+    ensures within { λ r. ⌜ r ≤ 300000000 ⌝ }
+{
+    let id = lines::value_at(s, 0, 8);
+    let family = lines::value_at(s, 1, 7);
+    let given = lines::value_at(s, 2, 6);
+    let kana_family = lines::value_at(s, 3, 11);
+    let kana_given = lines::value_at(s, 4, 10);
+    let birth = lines::value_at(s, 5, 6);
+    let sex = lines::value_at(s, 6, 4);
+    if kana_family.len() == 0 {
+        return writer::fit_woven(
+            out,
+            b"PID|||$||$^$^^^^^L^I||$|$\r",
+            &[id, family, given, birth, sex],
+            d,
+        );
+    }
+    writer::fit_woven(
+        out,
+        b"PID|||$||$^$^^^^^L^I~$^$^^^^^L^P||$|$\r",
+        &[id, family, given, kana_family, kana_given, birth, sex],
+        d,
+    )
+}
+
+fn put_specimen<'a>(
+    out: &mut [u8],
+    number: &'a [u8],
+    kind: &'a [u8],
+    collected: &'a [u8],
+    d: Delims,
+) -> usize
+    requires { ⌜ (length (now number) ≤ 65536) × (length (now kind) ≤ 65536) × (length (now collected) ≤ 65536) ⌝ }
+    ensures { λ r. ⌜ Fit r (now (out .exit)) (specimenText d (now (number .entry)) (now (kind .entry)) (now (collected .entry))) (now (out .entry)) ⌝ }
+    ensures within { λ r. ⌜ r ≤ 300000000 ⌝ }
+{
+    writer::fit_woven(
+        out,
+        b"SPM|#|||$^^JC10|||||||||||||$\r",
+        &[number, kind, collected],
+        d,
+    )
+}
+
+fn specimen(out: &mut [u8], s: &[u8], i: usize, d: Delims) -> usize
+    requires { ⌜ (length (now s) ≤ 65536) × (i ≤ 65536) ⌝ }
+    ensures { λ r. ⌜ Fit r (now (out .exit)) (groupText d i 0 Name.Spm (linesOf (now (s .entry)))) (now (out .entry)) ⌝ }
+    ensures within { λ r. ⌜ r ≤ 300000000 ⌝ }
+{
+    let kind = lines::value_at(s, 0, 9);
+    let collected = lines::value_at(s, 1, 10);
+    let mut digits = [0u8; 5];
+    let n = writer::put_number(&mut digits, i + 1);
+    put_specimen(out, &digits[..n], kind, collected, d)
+}
+
+// "A filled SN has all three component separators".
+fn put_result<'a>(
+    out: &mut [u8],
+    number: &'a [u8],
+    item: &'a [u8],
+    name: &'a [u8],
+    kind: &'a [u8],
+    compare: &'a [u8],
+    value: &'a [u8],
+    join: &'a [u8],
+    second: &'a [u8],
+    unit: &'a [u8],
+    flag: &'a [u8],
+    status: &'a [u8],
+    d: Delims,
+) -> usize
+    requires { ⌜ (length (now number) ≤ 65536) × (length (now item) ≤ 65536) × (length (now name) ≤ 65536) × (length (now kind) ≤ 65536) × (length (now compare) ≤ 65536) × (length (now value) ≤ 65536) × (length (now join) ≤ 65536) × (length (now second) ≤ 65536) × (length (now unit) ≤ 65536) × (length (now flag) ≤ 65536) × (length (now status) ≤ 65536) ⌝ }
+    ensures { λ r. ⌜ Fit r (now (out .exit)) (resultText d (now (number .entry)) (now (item .entry)) (now (name .entry)) (now (kind .entry)) (now (compare .entry)) (now (value .entry)) (now (join .entry)) (now (second .entry)) (now (unit .entry)) (now (flag .entry)) (now (status .entry))) (now (out .entry)) ⌝ }
+    ensures within { λ r. ⌜ r ≤ 300000000 ⌝ }
+{
+    if value::equal(kind, b"SN") & (value.len() != 0) {
+        return writer::fit_woven(
+            out,
+            b"OBX|#|$|$^$^JC10||$^$^$^$|$||$|||$\r",
+            &[
+                number,
+                kind,
+                item,
+                name,
+                compare,
+                value,
+                join,
+                second,
+                unit,
+                flag,
+                status,
+            ],
+            d,
+        );
+    }
+    writer::fit_woven(
+        out,
+        b"OBX|#|$|$^$^JC10||$|$||$|||$\r",
+        &[number, kind, item, name, value, unit, flag, status],
+        d,
+    )
+}
+
+fn result(out: &mut [u8], s: &[u8], j: usize, d: Delims) -> usize
+    requires { ⌜ (length (now s) ≤ 65536) × (j ≤ 65536) ⌝ }
+    ensures { λ r. ⌜ Fit r (now (out .exit)) (groupText d 0 j Name.Obx (linesOf (now (s .entry)))) (now (out .entry)) ⌝ }
+    ensures within { λ r. ⌜ r ≤ 300000000 ⌝ }
+{
+    let item = lines::value_at(s, 0, 5);
+    let name = lines::value_at(s, 1, 5);
+    let kind = lines::value_at(s, 2, 5);
+    let compare = lines::value_at(s, 3, 8);
+    let value = lines::value_at(s, 4, 6);
+    let join = lines::value_at(s, 5, 5);
+    let second = lines::value_at(s, 6, 7);
+    let unit = lines::value_at(s, 7, 5);
+    let flag = lines::value_at(s, 8, 5);
+    let status = lines::value_at(s, 9, 7);
+    let mut digits = [0u8; 5];
+    let n = writer::put_number(&mut digits, j + 1);
+    put_result(
+        out,
+        &digits[..n],
+        item,
+        name,
+        kind,
+        compare,
+        value,
+        join,
+        second,
+        unit,
+        flag,
+        status,
+        d,
+    )
+}
+
+// A group, where i specimens and j results of its order stand before it.
+fn put_group(out: &mut [u8], name: Name, s: &[u8], i: usize, j: usize, d: Delims) -> usize
+    requires { ⌜ (length (now s) ≤ 65536) × (i ≤ 65536) × (j ≤ 65536) ⌝ }
+    ensures { λ r. ⌜ Fit r (now (out .exit)) (groupText d i j name (linesOf (now (s .entry)))) (now (out .entry)) ⌝ }
+    ensures within { λ r. ⌜ r ≤ 300000000 ⌝ }
+{
+    match name {
+        Name::Msh => header(out, s, d),
+        Name::Pid => patient(out, s, d),
+        Name::Pv1 => visit(out, s, d),
+        Name::Spm => specimen(out, s, i, d),
+        Name::Obr => order(out, s, d),
+        Name::Orc => 0,
+        Name::Obx => result(out, s, j, d),
+        Name::Other => 0,
+    }
+}
+
+// ---- a pass over the sheet
+
+// How many bytes and segments a message has.
+pub struct Size {
+    pub bytes: usize,
+    pub segments: usize,
+}
+
+pub enum Passed {
+    All(Size),
+    Not(Refusal),
+}
+
+fn least(a: usize, b: usize) -> usize
+    ensures { λ r. ⌜ (r ≤ a) × (r ≤ b) × (a ≤ b → r ≡ a) ⌝ }
+{
+    if a < b {
+        return a;
+    }
+    b
+}
+
+// A group behind the bytes that stand already, in what remains of the buffer.
+fn put_next(out: &mut [u8], at: usize, name: Name, s: &[u8], i: usize, j: usize, d: Delims) -> usize
+    requires { ⌜ (length (now s) ≤ 65536) × (i ≤ 65536) × (j ≤ 65536) × (at ≤ 1000000000000000) ⌝ }
+    ensures { λ r. ⌜ Added at (now (out .entry)) (groupText d i j name (linesOf (now (s .entry)))) r (now (out .exit)) ⌝ }
+    ensures within { λ r. ⌜ r ≤ at + 300000000 ⌝ }
+{
+    let from = least(at, out.len());
+    at + put_group(&mut out[from..], name, s, i, j, d)
+}
+
+fn specimens_with(i: usize, name: Name) -> usize
+    requires { ⌜ i ≤ 65536 ⌝ }
+    ensures { λ r. ⌜ (r ≡ specimensWith i name) × (r ≤ i + 1) ⌝ }
+{
+    match name {
+        Name::Msh => i,
+        Name::Pid => i,
+        Name::Pv1 => i,
+        Name::Spm => i + 1,
+        Name::Obr => i,
+        Name::Orc => i,
+        Name::Obx => i,
+        Name::Other => i,
+    }
+}
+
+fn results_with(j: usize, name: Name) -> usize
+    requires { ⌜ j ≤ 65536 ⌝ }
+    ensures { λ r. ⌜ (r ≡ resultsWith j name) × (r ≤ j + 1) ⌝ }
+{
+    match name {
+        Name::Msh => j,
+        Name::Pid => j,
+        Name::Pv1 => j,
+        Name::Spm => j,
+        Name::Obr => 0,
+        Name::Orc => j,
+        Name::Obx => j + 1,
+        Name::Other => j,
+    }
+}
+
+fn segments_of(name: Name) -> usize
+    ensures { λ r. ⌜ (r ≡ segmentsOf name) × (r ≤ 2) ⌝ }
+{
+    match name {
+        Name::Msh => 1,
+        Name::Pid => 1,
+        Name::Pv1 => 1,
+        Name::Spm => 1,
+        Name::Obr => 2,
+        Name::Orc => 0,
+        Name::Obx => 1,
+        Name::Other => 0,
+    }
+}
+
+fn is_result(name: Name) -> bool
+    ensures { λ r. ⌜ r ≡ is name Name.Obx ⌝ }
+{
+    match name {
+        Name::Msh => false,
+        Name::Pid => false,
+        Name::Pv1 => false,
+        Name::Spm => false,
+        Name::Obr => false,
+        Name::Orc => false,
+        Name::Obx => true,
+        Name::Other => false,
+    }
+}
+
+fn refused(kind: Kind, line: usize) -> Refusal
+    ensures { λ r. ⌜ r ≡ refusalAt kind line ⌝ }
+{
+    Refusal {
+        kind,
+        segment: line,
+        field: 0,
+    }
+}
+
+// The line that a verdict names, and whether its value is wrong.
+fn index(v: Verdict) -> usize
+    ensures { λ r. ⌜ r ≡ indexOf v ⌝ }
+{
+    match v {
+        Verdict::Fine => 0,
+        Verdict::Key(k) => k,
+        Verdict::Value(k) => k,
+    }
+}
+
+fn is_value(v: Verdict) -> bool
+    ensures { λ r. ⌜ r ≡ isValue v ⌝ }
+{
+    match v {
+        Verdict::Fine => false,
+        Verdict::Key(_) => false,
+        Verdict::Value(_) => true,
+    }
+}
+
+// The refusal of a group whose first line has this number.
+fn unread(v: Verdict, line: usize) -> Passed
+    requires { ⌜ (indexOf v ≤ 10) × (line ≤ 1000000) ⌝ }
+    ensures { λ r. ⌜ toldSize r ≡ toldOf v line (Told.refused 42 line 0) ⌝ }
+{
+    let at = line + index(v);
+    if is_value(v) {
+        return Passed::Not(refused(Kind::Line, at));
+    }
+    Passed::Not(refused(Kind::Key, at))
+}
+
+// One pass: a buffer too short for the message is left in any state, and one with room has the message over its front.
+fn pass(out: &mut [u8], sheet: &[u8], d: Delims) -> Passed
+    requires { ⌜ length (now sheet) ≤ 65536 ⌝ }
+    ensures { λ r. ⌜ Pass d (now (sheet .entry)) (now (out .entry)) r (now (out .exit)) ⌝ }
+{
+    let mut group = Name::Other;
+    let mut at = 0;
+    let mut line = 1;
+    let mut bytes = 0;
+    let mut segments = 0;
+    let mut specimens = 0;
+    let mut results = 0;
+    while lines::has_line(sheet, at) {
+        let rest = &sheet[at..];
+        let next = lines::next_group(group, rest);
+        let v = lines::group(next, rest);
+        if !lines::fine(v) {
+            return unread(v, line);
+        }
+        bytes = put_next(out, bytes, next, rest, specimens, results, d);
+        segments += segments_of(next);
+        specimens = specimens_with(specimens, next);
+        results = results_with(results, next);
+        let n = lines::lines_in(next);
+        line += n;
+        at += lines::skip_lines(rest, n);
+        group = next;
+    }
+    if !is_result(group) {
+        return Passed::Not(refused(Kind::Key, line));
+    }
+    Passed::All(Size { bytes, segments })
+}

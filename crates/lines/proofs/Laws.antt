@@ -1,0 +1,394 @@
+-- The laws of a sheet's lines and groups. Assumes nothing.
+use mathlib.Core.Path.{_≡_, refl, sym, subst, ap, _∙_}
+use mathlib.Core.Bool.{Bool, true, false, cond, not, _&&_, _||_}
+use mathlib.Core.List.{List, [], _∷_, _++_, append-assoc, append-nil}
+use Prim.Native.Nat.{ℕ, zero, suc, _+_, _-_, _≤_, _<_}
+use native.Mathlib.Omega.{arith}
+use borrow.Author.Tests.{eq-eqb, ne-eqb, eqb-true, ltb-true, ltb-false}
+use lib.Dec.{eqb, ltb}
+use lib.ListN.{length, take, drop, getD, length-take, length-drop, drop-of-length-le}
+use lib.Seq.{drop-drop, take-all, length-take-le, getD-drop, drop-nil}
+use Rattle.rules.specs.declared.Name.{Name}
+use Rattle.rules.specs.declared.Name.the-variants.{Msh, Pid, Pv1, Spm, Obr, Orc, Obx, Other}
+use Rattle.rules.specs.Lists.{bytes, empty, filled, nth, same, starts, split, allButLast, isOneOf, any, onto}
+use Rattle.rules.specs.Value.{Rule, fault, fits, holds, tooLong, words, text, number}
+use Rattle.rules.specs.Places.{Four, valueRules, entryOf, entryIn, places}
+use Rattle.rules.specs.Judge.{beside, unjoined, agrees}
+use Rattle.rules.specs.Row.{line, lines, fourAt}
+use Rattle.rules.specs.Sheet.{keyOf, linesOf}
+use Rattle.rules.proofs.Logic.{cases, never, and-false, not-true, not-false}
+use Rattle.rules.proofs.Lists.{over, rest-is, same-eq, empty-zero, filled-some}
+use Rattle.rules.proofs.Split.{butLast-split}
+use Rattle.scan.specs.Scan.{until, is}
+use Rattle.value.specs.declared.Fault.{Fault}
+use Rattle.value.specs.declared.Words.the-variants.{Modes, Sexes, Classes, Types, Flags, Statuses, Blank, Comparators, Joiners}
+use Rattle.value.specs.declared.Rule.{Rule as Coded}
+use Rattle.value.specs.declared.Rule.the-variants.{Time, Date, Number, Text, Digits, Capitals, OneOf}
+use Rattle.value.specs.Rules.{faultNo, fineOf, oneOf, ruleOf, textOf}
+use Rattle.value.proofs.Laws.{split-last, split-more}
+use Rattle.lines.specs.declared.Verdict.{Verdict}
+use Rattle.lines.specs.declared.Verdict.the-variants.{Fine, Key, Value}
+use Rattle.lines.specs.Lines.{fourOf, joinedOk, andThen, isFine, toldOf, lineAs, lineVerdict, verdict, groupVerdict, valuesFrom, groupValues, nextGroup}
+
+-- ---- lines by their 0A
+none : (s : List ℕ) → length (until (is 0x0A) s) ≡ length s → linesOf s ≡ []
+unfolding linesOf allButLast
+none s h = rw (split-last 0x0A s h)
+
+some : (s : List ℕ) → length (until (is 0x0A) s) < length s
+    → linesOf s ≡ take (length (until (is 0x0A) s)) s ∷ linesOf (drop (suc (length (until (is 0x0A) s))) s)
+unfolding linesOf
+some s h = rw (split-more 0x0A s h) (butLast-split 0x0A (take (length (until (is 0x0A) s)) s) (drop (suc (length (until (is 0x0A) s))) s))
+
+no-lines : (s : List ℕ) (k : ℕ) → length s ≤ k → linesOf (drop k s) ≡ []
+unfolding linesOf allButLast split
+no-lines s k h = rw (over s k h)
+
+-- as the code finds them: the part from a place on, and how many bytes stand in it before a 0A
+module _ (s : List ℕ) (at n : ℕ) (e : n ≡ length (until (is 0x0A) (take (length s - at) (drop at s)))) (w : n ≤ length (take (length s - at) (drop at s))) where
+  there : n ≡ length (until (is 0x0A) (drop at s))
+  there = e ∙ ap (λ l. length (until (is 0x0A) l)) (rest-is s at)
+
+  size : length (take (length s - at) (drop at s)) ≡ length (drop at s)
+  size = ap length (rest-is s at)
+
+  found-none : n ≡ length (take (length s - at) (drop at s)) → linesOf (drop at s) ≡ []
+  found-none h = none (drop at s) (sym there ∙ h ∙ size)
+
+  found-some : (n ≡ length (take (length s - at) (drop at s)) → ⊥) → linesOf (drop at s) ≡ take n (drop at s) ∷ linesOf (drop (suc n) (drop at s))
+  found-some h = rw (there) (some (drop at s) (less (λ q. h (there ∙ q ∙ sym size)) (omega (arith, there, size))))
+    where
+      less : (length (until (is 0x0A) (drop at s)) ≡ length (drop at s) → ⊥) → length (until (is 0x0A) (drop at s)) ≤ length (drop at s)
+          → length (until (is 0x0A) (drop at s)) < length (drop at s)
+      less f g = omega arith
+
+  pub past-none : n ≡ length (take (length s - at) (drop at s)) → linesOf (drop (length s) s) ≡ drop 1 (linesOf (drop at s))
+  past-none h = no-lines s (length s) (omega arith) ∙ rw (found-none h)
+
+  pub past-some : at ≤ length s → (n ≡ length (take (length s - at) (drop at s)) → ⊥) → linesOf (drop (at + n + 1) s) ≡ drop 1 (linesOf (drop at s))
+  past-some g h =
+      let q : linesOf (drop (suc n) (drop at s)) ≡ linesOf (drop (at + n + 1) s) = let z : at + suc n ≡ at + n + 1 = omega arith in ap linesOf (drop-drop (suc n) at s ∙ ap (λ (k : ℕ). drop k s) z) in
+      sym (rw (found-some h) q)
+
+  pub past-within : at ≤ length s → (n ≡ length (take (length s - at) (drop at s)) → ⊥) → at + n + 1 ≤ length s
+  past-within g h = omega (arith, size, length-drop at s)
+
+  pub none-there : n ≡ length (take (length s - at) (drop at s)) → not (eqb n (length (take (length s - at) (drop at s)))) ≡ filled (linesOf (drop at s))
+  unfolding empty
+  none-there h = rw (found-none h, eq-eqb n (length (take (length s - at) (drop at s))) h)
+
+  pub some-there : (n ≡ length (take (length s - at) (drop at s)) → ⊥) → not (eqb n (length (take (length s - at) (drop at s)))) ≡ filled (linesOf (drop at s))
+  unfolding empty
+  some-there h = rw (found-some h, ne-eqb n (length (take (length s - at) (drop at s))) h)
+
+  -- a test of a loop
+  pub line-there : not (eqb n (length (take (length s - at) (drop at s)))) ≡ filled (linesOf (drop at s))
+  line-there = cases (eqb n (length (take (length s - at) (drop at s)))) (λ q. none-there (eqb-true n _ q)) (λ q. some-there (λ h. never (sym (eq-eqb n _ h) ∙ q)))
+
+  module _ (k : ℕ) (f : linesOf (drop at s) ≡ drop k (linesOf s)) where
+    first-of : nth (linesOf s) k ≡ nth (linesOf (drop at s)) 0
+    first-of = sym (ap (λ (l : List (List ℕ)). nth l 0) f ∙ getD-drop k (linesOf s) 0 [] ∙ ap (λ (m : ℕ). nth (linesOf s) m) z)
+      where
+        z : k + 0 ≡ k
+        z = omega arith
+
+    pub line-none : n ≡ length (take (length s - at) (drop at s))
+        → take (length (take (length s - at) (drop at s)) - n) (drop n (take (length s - at) (drop at s))) ≡ nth (linesOf s) k
+    line-none h =
+        rest-is (take (length s - at) (drop at s)) n
+        ∙ drop-of-length-le (take (length s - at) (drop at s)) {i = n} (omega arith) ∙ sym (first-of ∙ ap (λ (l : List (List ℕ)). nth l 0) (found-none h))
+
+    pub line-some : (n ≡ length (take (length s - at) (drop at s)) → ⊥) → take n (take (length s - at) (drop at s)) ≡ nth (linesOf s) k
+    line-some h = ap (take n) (rest-is s at) ∙ sym (first-of ∙ ap (λ (l : List (List ℕ)). nth l 0) (found-some h))
+
+-- a part of a part is no longer than the whole
+pub tail-short : (s : List ℕ) (at n : ℕ) → length (take (length (take (length s - at) (drop at s)) - n) (drop n (take (length s - at) (drop at s)))) ≤ length s
+tail-short s at n = simp (length-take, length-drop) (omega arith)
+
+pub front-short : (s : List ℕ) (at n : ℕ) → length (take n (take (length s - at) (drop at s))) ≤ length s
+front-short s at n = simp (length-take, length-drop) (omega arith)
+
+pub past-short : (s t : List ℕ) (n : ℕ) → length t ≤ length s → length (take (length t - n) (drop n t)) ≤ length s
+past-short s t n h = simp (length-take, length-drop) (omega arith)
+
+pub skip-goes : (s : List ℕ) (at r i : ℕ) → linesOf (drop at s) ≡ drop i (linesOf s) → linesOf (drop r s) ≡ drop 1 (linesOf (drop at s)) → linesOf (drop r s) ≡ drop (i + 1) (linesOf s)
+skip-goes s at r i e f = f ∙ ap (drop 1) e ∙ drop-drop 1 i (linesOf s)
+
+pub skip-ends : (s : List ℕ) (at i n : ℕ) → linesOf (drop at s) ≡ drop i (linesOf s) → i ≤ n → n ≤ i → linesOf (drop at s) ≡ drop n (linesOf s)
+skip-ends s at i n e h g = let z : i ≡ n = omega arith in e ∙ ap (λ (k : ℕ). drop k (linesOf s)) z
+
+-- ---- a key
+pub short-not : (key t : List ℕ) → length t < length key → starts key t ≡ false
+unfolding starts
+short-not [] t h = absurd (omega arith)
+short-not (a ∷ key) [] h = refl
+short-not (a ∷ key) (b ∷ t) h = cases (eqb b a) (λ e. rw (e, starts) (short-not key t (omega arith))) (λ e. rw (e, starts))
+
+starts-front : (key t : List ℕ) → length key ≤ length t → same (take (length key) t) key ≡ starts key t
+unfolding starts same
+starts-front [] t h = refl
+starts-front (a ∷ key) [] h = absurd (omega arith)
+starts-front (a ∷ key) (b ∷ t) h = cases (eqb b a) (λ e. rw (e, same, starts) (starts-front key t (omega arith))) (λ e. rw (e, same, starts))
+
+pub starts-is : (key t : List ℕ) (r : Bool) → length key ≤ length t → r ≡ same (take (length key) t) key → r ≡ starts key t
+starts-is key t r h e = e ∙ starts-front key t h
+
+pub starts-within : (key t : List ℕ) → starts key t ≡ true → length key ≤ length t
+unfolding starts
+starts-within [] t h = omega arith
+starts-within (a ∷ key) [] h = never (sym h)
+starts-within (a ∷ key) (b ∷ t) h = cases (eqb b a) (λ e. omega (arith, starts-within key t (rw (e, starts) at h))) (λ e. never (sym (rw (e, starts) at h)))
+
+-- ---- verdicts
+pub fine-is : (v x : Verdict) (r : Bool) → v ≡ x → r ≡ isFine x → r ≡ isFine v
+fine-is v x r e h = cc
+
+pub first-is : (a b x r : Verdict) → a ≡ x → r ≡ andThen x b → r ≡ andThen a b
+first-is a b x r e h = cc
+
+pub link : (r x y w : Verdict) → r ≡ andThen x w → x ≡ y → r ≡ andThen y w
+link r x y w e f = e ∙ ap (λ (v : Verdict). andThen v w) f
+
+-- ---- one line, found as t
+module _ (before : Verdict) (k : ℕ) (key : List ℕ) (good : Bool) (l t : List ℕ) (q : Bool) (r : Verdict) (e : t ≡ l) (f : q ≡ starts key t) where
+  pub key-room : not q ≡ false → length key ≤ length t
+  key-room h = starts-within key t (sym f ∙ not-false q h)
+
+  pub line-key : not q ≡ true → r ≡ andThen before (Key k) → r ≡ andThen before (lineAs k key good l)
+  unfolding lineAs
+  line-key h g = g ∙ rw (← e, ← f, not-true q h)
+
+  module _ (u : Bool) (n : u ≡ same (take (length t - length key) (drop (length key) t)) (34 ∷ 34 ∷ [])) (h : not q ≡ false) where
+    null : same (drop (length key) t) (34 ∷ 34 ∷ []) ≡ u
+    null = sym (n ∙ ap (λ (v : List ℕ). same v (34 ∷ 34 ∷ [])) (rest-is t (length key)))
+
+    pub line-null : u ≡ true → r ≡ andThen before (Value k) → r ≡ andThen before (lineAs k key good l)
+    unfolding lineAs bytes
+    line-null j g = g ∙ rw (← e, ← f, not-false q h, null, j)
+
+    pub line-bad : u ≡ false → not good ≡ true → r ≡ andThen before (Value k) → r ≡ andThen before (lineAs k key good l)
+    unfolding lineAs bytes
+    line-bad j b g = g ∙ rw (← e, ← f, not-false q h, null, j, not-true good b)
+
+    pub line-good : u ≡ false → not good ≡ false → r ≡ andThen before Fine → r ≡ andThen before (lineAs k key good l)
+    unfolding lineAs bytes
+    line-good j b g = g ∙ rw (← e, ← f, not-false q h, null, j, not-false good b)
+
+pub keeps-is : (f : Fault) (x : ℕ) (r : Bool) → r ≡ fineOf f → faultNo f ≡ x → r ≡ eqb x 0
+unfolding fineOf
+keeps-is f x r e h = e ∙ ap (λ (n : ℕ). eqb n 0) h
+
+module _ (before r : Verdict) (k : ℕ) (key l v : List ℕ) (required good : Bool) (rule : Rule) (e : v ≡ drop (length key) l) (f : good ≡ fits required rule v) where
+  pub line-is : r ≡ andThen before (lineAs k key good l) → r ≡ andThen before (lineAs k key (fits required rule (drop (length key) l)) l)
+  line-is g = g ∙ ap (λ (b : Bool). andThen before (lineAs k key b l)) (f ∙ ap (fits required rule) e)
+
+  pub line-if-is : (also : Bool) → r ≡ andThen before (lineAs k key (good && also) l) → r ≡ andThen before (lineAs k key (fits required rule (drop (length key) l) && also) l)
+  line-if-is also g = g ∙ ap (λ (b : Bool). andThen before (lineAs k key (b && also) l)) (f ∙ ap (fits required rule) e)
+
+-- the values of a line behind its key
+pub value-none : (t l : List ℕ) (n : ℕ) → t ≡ l → length t < n → take (length t - length t) (drop (length t) t) ≡ drop n l
+value-none t l n e h = rest-is t (length t) ∙ over t (length t) (omega arith) ∙ rw (← e) (sym (over t n (omega arith)))
+
+pub value-some : (t l : List ℕ) (n : ℕ) → t ≡ l → take (length t - n) (drop n t) ≡ drop n l
+value-some t l n e = rest-is t n ∙ ap (drop n) e
+
+-- ---- "version is 1"
+version-one : (fits true (text 1) (49 ∷ []) && same (49 ∷ []) (49 ∷ [])) ≡ fits true (words "1") (49 ∷ [])
+unfolding fault empty tooLong holds isOneOf split bytes onto any same
+version-one = refl
+
+version-is : (v : List ℕ) → (fits true (text 1) v && same v (49 ∷ [])) ≡ fits true (words "1") v
+unfolding fault empty tooLong holds isOneOf split bytes onto any
+version-is [] = refl
+version-is (b ∷ v) =
+    cases (same (b ∷ v) (49 ∷ []))
+    (λ e. subst (λ (w : List ℕ). (fits true (text 1) w && same w (49 ∷ [])) ≡ fits true (words "1") w) (sym (same-eq (b ∷ v) (49 ∷ []) e)) version-one)
+    (λ e. rw (e, any, and-false (fits true (text 1) (b ∷ v))))
+
+-- ---- parts that are blank
+blank : {A : Type 0} (s : List A) → eqb (length s) 0 ≡ empty s
+blank s =
+    cases (eqb (length s) 0)
+    (λ e. e ∙ sym (empty-zero s (eqb-true (length s) 0 e)))
+    (λ e. e ∙ sym (filled-some s (λ z. never (sym (eq-eqb (length s) 0 z) ∙ e))))
+
+pub kana-is : (a b : List ℕ) → (not (eqb (length a) 0) || eqb (length b) 0) ≡ (filled a || empty b)
+kana-is a b = rw (blank a, blank b)
+
+pub beside-is : (a b c : List ℕ) → (not (eqb (length a) 0) || not (eqb (length b) 0) || not (eqb (length c) 0)) ≡ (filled a || filled b || filled c)
+beside-is a b c = rw (blank a, blank b, blank c)
+
+module _ (c v j s : List ℕ) (q : Bool) (e : q ≡ (filled c || filled j || filled s)) where
+  pub joined-is : (not (not (eqb (length s) 0) && eqb (length j) 0) && (not (eqb (length v) 0) || not q)) ≡ joinedOk (fourOf c v j s)
+  unfolding joinedOk beside unjoined
+  joined-is = rw (e, blank s, blank j, blank v)
+
+  pub agrees-value : (t : List ℕ) (u : Bool) → u ≡ oneOf (70 ∷ 32 ∷ 80 ∷ 32 ∷ 67 ∷ []) t → u ≡ true → not (eqb (length v) 0) ≡ agrees t (fourOf c v j s)
+  unfolding agrees isOneOf oneOf bytes
+  agrees-value t u f h = rw (blank v, ← f, h)
+
+  pub agrees-none : (t : List ℕ) (u : Bool) → u ≡ oneOf (70 ∷ 32 ∷ 80 ∷ 32 ∷ 67 ∷ []) t → u ≡ false → (eqb (length v) 0 && not q) ≡ agrees t (fourOf c v j s)
+  unfolding agrees isOneOf oneOf bytes beside
+  agrees-none t u f h = rw (blank v, ← f, h, e)
+
+-- ---- the rules of the parts, by OBX-2
+abbrev nm : Four Rule
+nm = record { compare = words ""; value = number; join = words ""; second = words "" }
+
+abbrev st : Four Rule
+st = record { compare = words ""; value = text 200; join = words ""; second = words "" }
+
+cond-blank : (kind : List ℕ) (part : Four Rule → Rule) → part nm ≡ words "" → part st ≡ words "" → part (cond (same kind (78 ∷ 77 ∷ [])) nm st) ≡ words ""
+cond-blank kind part a b = cases (same kind (78 ∷ 77 ∷ [])) (λ q. rw q a) (λ q. rw q b)
+
+module _ (kind : List ℕ) (t : Bool) (e : t ≡ same kind (83 ∷ 78 ∷ [])) where
+  module _ (h : t ≡ true) where
+    pub sn-compare : ruleOf (OneOf Comparators) ≡ valueRules kind .compare
+    unfolding valueRules bytes ruleOf textOf
+    sn-compare = rw (← e, h)
+
+    pub sn-number : (ruleOf Number ≡ valueRules kind .value) × (ruleOf Number ≡ valueRules kind .second)
+    unfolding valueRules bytes ruleOf textOf
+    sn-number = (rw (← e, h), rw (← e, h))
+
+    pub sn-join : ruleOf (OneOf Joiners) ≡ valueRules kind .join
+    unfolding valueRules bytes ruleOf textOf
+    sn-join = rw (← e, h)
+
+    pub sn-value : ruleOf Number ≡ valueRules kind .value
+    sn-value = sn-number .0
+
+    pub sn-second : ruleOf Number ≡ valueRules kind .second
+    sn-second = sn-number .1
+
+  module _ (h : t ≡ false) where
+    module _ (u : Bool) (f : u ≡ same kind (78 ∷ 77 ∷ [])) where
+      pub nm-value : u ≡ true → ruleOf Number ≡ valueRules kind .value
+      unfolding valueRules bytes ruleOf
+      nm-value g = rw (← e, h, ← f, g)
+
+      pub st-value : u ≡ false → ruleOf (Text 200) ≡ valueRules kind .value
+      unfolding valueRules bytes ruleOf
+      st-value g = rw (← e, h, ← f, g)
+
+    pub blank-compare : ruleOf (OneOf Blank) ≡ valueRules kind .compare
+    unfolding valueRules bytes ruleOf textOf
+    blank-compare = rw (← e, h) (sym (cond-blank kind (λ (r : Four Rule). r .compare) refl refl))
+
+    pub blank-join : ruleOf (OneOf Blank) ≡ valueRules kind .join
+    unfolding valueRules bytes ruleOf textOf
+    blank-join = rw (← e, h) (sym (cond-blank kind (λ (r : Four Rule). r .join) refl refl))
+
+    pub blank-second : ruleOf (OneOf Blank) ≡ valueRules kind .second
+    unfolding valueRules bytes ruleOf textOf
+    blank-second = rw (← e, h) (sym (cond-blank kind (λ (r : Four Rule). r .second) refl refl))
+
+-- ---- the groups
+-- to unfold this name is to unfold the table of lines
+unfoldable pub table : Unit {0}
+unfolding verdict lineVerdict lines line entryOf entryIn places keyOf bytes ruleOf textOf fourAt joinedOk
+table = tt
+
+pub group-is : (n x : Name) (ts : List (List ℕ)) (r : Verdict) → n ≡ x → r ≡ groupVerdict x ts → r ≡ groupVerdict n ts
+group-is n x ts r e h = h ∙ ap (λ (m : Name). groupVerdict m ts) (sym e)
+
+pub count-is : (n x : Name) (r : ℕ) → n ≡ x → r ≡ length (lines x) → r ≡ length (lines n)
+count-is n x r e h = h ∙ ap (λ (m : Name). length (lines m)) (sym e)
+
+pub next-is : (n x : Name) (t : List ℕ) (r : Name) → n ≡ x → r ≡ nextGroup x t → r ≡ nextGroup n t
+next-is n x t r e h = h ∙ ap (λ (m : Name). nextGroup m t) (sym e)
+
+pub next-result : (n : Name) (l t : List ℕ) (r : Name) → n ≡ Obx → l ≡ t → r ≡ nextGroup Obx l → r ≡ nextGroup n t
+next-result n l t r e f h = h ∙ ap (nextGroup Obx) f ∙ ap (λ (m : Name). nextGroup m t) (sym e)
+
+module _ (t : List ℕ) (q : Bool) (e : q ≡ starts (105 ∷ 116 ∷ 101 ∷ 109 ∷ 61 ∷ []) t) where
+  pub opens-item : q ≡ true → Obx ≡ nextGroup Obx t
+  unfolding nextGroup bytes
+  opens-item h = rw (← e, h)
+
+  module _ (h : q ≡ false) (u : Bool) (f : u ≡ starts (111 ∷ 114 ∷ 100 ∷ 101 ∷ 114 ∷ 61 ∷ []) t) where
+    pub opens-order : u ≡ true → Obr ≡ nextGroup Obx t
+    unfolding nextGroup bytes
+    opens-order g = rw (← e, h, ← f, g)
+
+    pub opens-specimen : u ≡ false → Spm ≡ nextGroup Obx t
+    unfolding nextGroup bytes
+    opens-specimen g = rw (← e, h, ← f, g)
+
+-- a part's rule is the one of its type; what must hold besides is said by the values
+swap : (r x : Verdict) (k : ℕ) (key v t : List ℕ) (coded : Coded) (rule : Rule) (also : Bool) → ruleOf coded ≡ rule
+    → r ≡ andThen x (lineAs k key (fits false (ruleOf coded) v && also) t) → r ≡ andThen x (lineAs k key (fits false rule v && also) t)
+swap r x k key v t coded rule also e h = h ∙ ap (λ (R : Rule). andThen x (lineAs k key (fits false R v && also) t)) e
+
+swap-also : (r x : Verdict) (k : ℕ) (key t : List ℕ) (b also other : Bool) → also ≡ other → r ≡ andThen x (lineAs k key (b && also) t) → r ≡ andThen x (lineAs k key (b && other) t)
+swap-also r x k key t b also other e h = h ∙ ap (λ (a : Bool). andThen x (lineAs k key (b && a) t)) e
+
+module _ (ts : List (List ℕ)) where
+  -- what `line` and `line_if` ensure
+  abbrev judge : ℕ → List ℕ → Bool → Coded → Verdict
+  judge k key required rule = lineAs k key (fits required (ruleOf rule) (drop (length key) (nth ts k))) (nth ts k)
+
+  abbrev judge-if : ℕ → List ℕ → Bool → Coded → Bool → Verdict
+  judge-if k key required rule also = lineAs k key (fits required (ruleOf rule) (drop (length key) (nth ts k)) && also) (nth ts k)
+
+  pub visit-is : (r : Verdict) → r ≡ andThen Fine (judge 0 (99 ∷ 108 ∷ 97 ∷ 115 ∷ 115 ∷ 61 ∷ []) true (OneOf Classes)) → r ≡ groupVerdict Pv1 ts
+  unfolding table
+  visit-is r e = e
+
+  pub specimen-is : (v0 r : Verdict) → v0 ≡ andThen Fine (judge 0 (115 ∷ 112 ∷ 101 ∷ 99 ∷ 105 ∷ 109 ∷ 101 ∷ 110 ∷ 61 ∷ []) true (Digits 3))
+      → r ≡ andThen v0 (judge 1 (99 ∷ 111 ∷ 108 ∷ 108 ∷ 101 ∷ 99 ∷ 116 ∷ 101 ∷ 100 ∷ 61 ∷ []) true (Time)) → r ≡ groupVerdict Spm ts
+  unfolding table
+  specimen-is v0 r e0 e1 = link r v0 _ _ e1 e0
+
+  pub order-is : (v0 r : Verdict) → v0 ≡ andThen Fine (judge 0 (111 ∷ 114 ∷ 100 ∷ 101 ∷ 114 ∷ 61 ∷ []) true (Digits 15))
+      → r ≡ andThen v0 (judge 1 (103 ∷ 114 ∷ 111 ∷ 117 ∷ 112 ∷ 61 ∷ []) true (Capitals 8)) → r ≡ groupVerdict Obr ts
+  unfolding table
+  order-is v0 r e0 e1 = link r v0 _ _ e1 e0
+
+  pub header-is : (v : List ℕ) (one : Bool) → v ≡ drop 8 (nth ts 0) → one ≡ same v (49 ∷ []) → (v0 v1 v2 r : Verdict) → v0 ≡ andThen Fine (judge-if 0 (118 ∷ 101 ∷ 114 ∷ 115 ∷ 105 ∷ 111 ∷ 110 ∷ 61 ∷ []) true (Text 1) one)
+      → v1 ≡ andThen v0 (judge 1 (109 ∷ 111 ∷ 100 ∷ 101 ∷ 61 ∷ []) true (OneOf Modes))
+      → v2 ≡ andThen v1 (judge 2 (115 ∷ 101 ∷ 110 ∷ 116 ∷ 61 ∷ []) true (Time))
+      → r ≡ andThen v2 (judge 3 (99 ∷ 111 ∷ 110 ∷ 116 ∷ 114 ∷ 111 ∷ 108 ∷ 61 ∷ []) true (Text 20)) → r ≡ groupVerdict Msh ts
+  unfolding table
+  header-is v one ev eo v0 v1 v2 r e0 e1 e2 e3 =
+      let o : (fits true (text 1) (drop 8 (nth ts 0)) && one) ≡ fits true (words "1") (drop 8 (nth ts 0))
+      = ap (λ (b : Bool). fits true (text 1) (drop 8 (nth ts 0)) && b) (eo ∙ ap (λ (w : List ℕ). same w (49 ∷ [])) ev) ∙ version-is (drop 8 (nth ts 0)) in
+      link r v2 _ _ e3 (link v2 v1 _ _ e2 (link v1 v0 _ _ e1 (e0 ∙ ap (λ (b : Bool). andThen Fine (lineAs 0 (118 ∷ 101 ∷ 114 ∷ 115 ∷ 105 ∷ 111 ∷ 110 ∷ 61 ∷ []) b (nth ts 0))) o)))
+
+  pub patient-is : (f g : List ℕ) (also : Bool) → f ≡ drop 11 (nth ts 3) → g ≡ drop 10 (nth ts 4) → also ≡ (filled f || empty g) → (v0 v1 v2 v3 v4 v5 r : Verdict) → v0 ≡ andThen Fine (judge 0 (112 ∷ 97 ∷ 116 ∷ 105 ∷ 101 ∷ 110 ∷ 116 ∷ 61 ∷ []) true (Text 20))
+      → v1 ≡ andThen v0 (judge 1 (102 ∷ 97 ∷ 109 ∷ 105 ∷ 108 ∷ 121 ∷ 61 ∷ []) true (Text 48))
+      → v2 ≡ andThen v1 (judge 2 (103 ∷ 105 ∷ 118 ∷ 101 ∷ 110 ∷ 61 ∷ []) false (Text 48))
+      → v3 ≡ andThen v2 (judge 3 (107 ∷ 97 ∷ 110 ∷ 97 ∷ 102 ∷ 97 ∷ 109 ∷ 105 ∷ 108 ∷ 121 ∷ 61 ∷ []) false (Text 48))
+      → v4 ≡ andThen v3 (judge-if 4 (107 ∷ 97 ∷ 110 ∷ 97 ∷ 103 ∷ 105 ∷ 118 ∷ 101 ∷ 110 ∷ 61 ∷ []) false (Text 48) also)
+      → v5 ≡ andThen v4 (judge 5 (98 ∷ 105 ∷ 114 ∷ 116 ∷ 104 ∷ 61 ∷ []) false (Date))
+      → r ≡ andThen v5 (judge 6 (115 ∷ 101 ∷ 120 ∷ 61 ∷ []) true (OneOf Sexes)) → r ≡ groupVerdict Pid ts
+  unfolding table
+  patient-is f g also ef eg ea v0 v1 v2 v3 v4 v5 r e0 e1 e2 e3 e4 e5 e6 =
+      let o : also ≡ (filled (drop 11 (nth ts 3)) || empty (drop 10 (nth ts 4))) = rw (← ef, ← eg) ea in
+      link r v5 _ _ e6 (link v5 v4 _ _ e5 (link v4 v3 _ _ (rw o at e4) (link v3 v2 _ _ e3 (link v2 v1 _ _ e2 (link v1 v0 _ _ e1 e0)))))
+
+  pub result-is : (kind c v j s t : List ℕ) (met also : Bool) (RC RV RJ RS : Coded)
+      → kind ≡ drop 5 (nth ts 2) → c ≡ drop 8 (nth ts 3) → v ≡ drop 6 (nth ts 4) → j ≡ drop 5 (nth ts 5) → s ≡ drop 7 (nth ts 6) → t ≡ drop 7 (nth ts 9)
+      → met ≡ agrees t (fourOf c v j s) → also ≡ joinedOk (fourOf c v j s)
+      → ruleOf RC ≡ valueRules kind .compare → ruleOf RV ≡ valueRules kind .value → ruleOf RJ ≡ valueRules kind .join → ruleOf RS ≡ valueRules kind .second
+      → (v0 v1 v2 v3 v4 v5 v6 v7 v8 r : Verdict) → v0 ≡ andThen Fine (judge 0 (105 ∷ 116 ∷ 101 ∷ 109 ∷ 61 ∷ []) true (Capitals 17))
+      → v1 ≡ andThen v0 (judge 1 (110 ∷ 97 ∷ 109 ∷ 101 ∷ 61 ∷ []) false (Text 48))
+      → v2 ≡ andThen v1 (judge 2 (116 ∷ 121 ∷ 112 ∷ 101 ∷ 61 ∷ []) true (OneOf Types))
+      → v3 ≡ andThen v2 (judge-if 3 (99 ∷ 111 ∷ 109 ∷ 112 ∷ 97 ∷ 114 ∷ 101 ∷ 61 ∷ []) false (RC) true)
+      → v4 ≡ andThen v3 (judge-if 4 (118 ∷ 97 ∷ 108 ∷ 117 ∷ 101 ∷ 61 ∷ []) false (RV) true)
+      → v5 ≡ andThen v4 (judge-if 5 (106 ∷ 111 ∷ 105 ∷ 110 ∷ 61 ∷ []) false (RJ) true)
+      → v6 ≡ andThen v5 (judge-if 6 (115 ∷ 101 ∷ 99 ∷ 111 ∷ 110 ∷ 100 ∷ 61 ∷ []) false (RS) also)
+      → v7 ≡ andThen v6 (judge 7 (117 ∷ 110 ∷ 105 ∷ 116 ∷ 61 ∷ []) false (Text 20))
+      → v8 ≡ andThen v7 (judge 8 (102 ∷ 108 ∷ 97 ∷ 103 ∷ 61 ∷ []) false (OneOf Flags))
+      → r ≡ andThen v8 (judge-if 9 (115 ∷ 116 ∷ 97 ∷ 116 ∷ 117 ∷ 115 ∷ 61 ∷ []) true (OneOf Statuses) met) → r ≡ groupVerdict Obx ts
+  unfolding table
+  result-is kind c v j s t met also RC RV RJ RS ek ec ev ej es et em ea rc rv rj rs v0 v1 v2 v3 v4 v5 v6 v7 v8 r e0 e1 e2 e3 e4 e5 e6 e7 e8 e9 =
+      let four : fourOf c v j s ≡ fourOf (drop 8 (nth ts 3)) (drop 6 (nth ts 4)) (drop 5 (nth ts 5)) (drop 7 (nth ts 6)) = rw (ec, ev, ej, es) in
+      let ok : also ≡ joinedOk (fourOf (drop 8 (nth ts 3)) (drop 6 (nth ts 4)) (drop 5 (nth ts 5)) (drop 7 (nth ts 6))) = ea ∙ ap joinedOk four in
+      let fit : met ≡ agrees (drop 7 (nth ts 9)) (fourOf (drop 8 (nth ts 3)) (drop 6 (nth ts 4)) (drop 5 (nth ts 5)) (drop 7 (nth ts 6))) = em ∙ ap (agrees t) four ∙ ap (λ (u : List ℕ). agrees u (fourOf (drop 8 (nth ts 3)) (drop 6 (nth ts 4)) (drop 5 (nth ts 5)) (drop 7 (nth ts 6)))) et in
+      let w3 = swap v3 v2 3 (99 ∷ 111 ∷ 109 ∷ 112 ∷ 97 ∷ 114 ∷ 101 ∷ 61 ∷ []) (drop 8 (nth ts 3)) (nth ts 3) RC _ true (rc ∙ ap (λ (k : List ℕ). valueRules k .compare) ek) e3 in
+      let w4 = swap v4 v3 4 (118 ∷ 97 ∷ 108 ∷ 117 ∷ 101 ∷ 61 ∷ []) (drop 6 (nth ts 4)) (nth ts 4) RV _ true (rv ∙ ap (λ (k : List ℕ). valueRules k .value) ek) e4 in
+      let w5 = swap v5 v4 5 (106 ∷ 111 ∷ 105 ∷ 110 ∷ 61 ∷ []) (drop 5 (nth ts 5)) (nth ts 5) RJ _ true (rj ∙ ap (λ (k : List ℕ). valueRules k .join) ek) e5 in
+      let w6 = swap-also v6 v5 6 (115 ∷ 101 ∷ 99 ∷ 111 ∷ 110 ∷ 100 ∷ 61 ∷ []) (nth ts 6) (fits false (valueRules (drop 5 (nth ts 2)) .second) (drop 7 (nth ts 6))) also _ ok (swap v6 v5 6 (115 ∷ 101 ∷ 99 ∷ 111 ∷ 110 ∷ 100 ∷ 61 ∷ []) (drop 7 (nth ts 6)) (nth ts 6) RS _ also (rs ∙ ap (λ (k : List ℕ). valueRules k .second) ek) e6) in
+      let w9 = swap-also r v8 9 (115 ∷ 116 ∷ 97 ∷ 116 ∷ 117 ∷ 115 ∷ 61 ∷ []) (nth ts 9) (fits true (ruleOf (OneOf Statuses)) (drop 7 (nth ts 9))) met _ fit e9 in
+      link r v8 _ _ w9 (link v8 v7 _ _ e8 (link v7 v6 _ _ e7 (link v6 v5 _ _ w6 (link v5 v4 _ _ w5 (link v4 v3 _ _ w4 (link v3 v2 _ _ w3 (link v2 v1 _ _ e2 (link v1 v0 _ _ e1 e0))))))))

@@ -1,0 +1,33 @@
+use native.Mathlib.Omega.{arith}
+use Prim.Native.Nat.{ℕ, _+_, _-_, _≤_, _<_}
+use mathlib.Core.Path.{_≡_}
+use lib.ListN.{length, take, drop}
+use Rattle.lines.specs.Lines.{andThen}
+use Rattle.lines.proofs.Laws.{first-is}
+use borrow.Author.Needs.{needs}
+use Rattle.lines.proofs.first.Statement.{statement}
+use Rattle.lines.proofs.first.Tie as tie
+
+enum-told : tie.Need-enum-told
+enum-told c = search needs
+
+enum-known-a : tie.Need-enum-known-a
+enum-known-a c = search needs
+
+enum-known-a-2 : tie.Need-enum-known-a-2
+enum-known-a-2 c = search needs
+
+returns : tie.Need-returns
+unfolding andThen
+returns c = search (first-is, needs)
+
+returns-2 : tie.Need-returns-2
+unfolding andThen
+returns-2 c = search (first-is, needs)
+
+returns-3 : tie.Need-returns-3
+unfolding andThen
+returns-3 c = search (first-is, needs)
+
+pub first-spec : {M : Type 1} → statement M
+first-spec = tie.close (tie.spec enum-told enum-known-a enum-known-a-2 returns returns-2 returns-3)

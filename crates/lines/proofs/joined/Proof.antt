@@ -1,0 +1,17 @@
+use borrow.Author.Needs.{needs}
+use native.Mathlib.Omega.{arith}
+use Prim.Native.Nat.{ℕ, _+_, _-_, _≤_, _<_}
+use mathlib.Core.Path.{_≡_}
+use lib.ListN.{length, take, drop}
+use Rattle.lines.proofs.Laws.{joined-is}
+use Rattle.lines.proofs.joined.Statement.{statement}
+use Rattle.lines.proofs.joined.Tie as tie
+
+beside-requires : tie.Need-beside-requires
+beside-requires c κs = search needs
+
+returns : tie.Need-returns
+returns c = search (joined-is, needs)
+
+pub joined-spec : {M : Type 1} → statement M
+joined-spec = tie.close (tie.spec beside-requires returns)

@@ -1,0 +1,14 @@
+use borrow.Author.Needs.{needs}
+use native.Mathlib.Omega.{arith}
+use Prim.Native.Nat.{ℕ, _+_, _-_, _≤_, _<_}
+use mathlib.Core.Path.{_≡_}
+use lib.ListN.{length, take, drop}
+use Rattle.lines.proofs.Laws.{kana-is}
+use Rattle.lines.proofs.kana_fits.Statement.{statement}
+use Rattle.lines.proofs.kana_fits.Tie as tie
+
+returns : tie.Need-returns
+returns c = search (kana-is, needs)
+
+pub kana-fits-spec : {M : Type 1} → statement M
+kana-fits-spec = tie.close (tie.spec returns)

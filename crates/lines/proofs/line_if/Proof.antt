@@ -1,0 +1,23 @@
+use borrow.Author.Needs.{needs}
+use native.Mathlib.Omega.{arith}
+use Prim.Native.Nat.{ℕ, _+_, _-_, _≤_, _<_}
+use mathlib.Core.Path.{_≡_}
+use lib.ListN.{length, take, drop}
+use Rattle.lines.proofs.Laws.{line-if-is}
+use Rattle.lines.proofs.line_if.Statement.{statement}
+use Rattle.lines.proofs.line_if.Tie as tie
+
+value-at-requires : tie.Need-value-at-requires
+value-at-requires c κs = search needs
+
+keeps-requires : tie.Need-keeps-requires
+keeps-requires c κs = search needs
+
+judged-requires : tie.Need-judged-requires
+judged-requires c κs = search needs
+
+returns : tie.Need-returns
+returns c = search (line-if-is, needs)
+
+pub line-if-spec : {M : Type 1} → statement M
+line-if-spec = tie.close (tie.spec value-at-requires keeps-requires judged-requires returns)

@@ -1,0 +1,86 @@
+use native.Mathlib.Omega.{arith}
+use Prim.Native.Nat.{ℕ, _+_, _-_, _≤_, _<_}
+use mathlib.Core.Path.{_≡_}
+use lib.ListN.{length, take, drop}
+use Rattle.rules.specs.Row.{lines}
+use Rattle.lines.proofs.Laws.{count-is}
+use borrow.Author.Needs.{needs}
+use Rattle.lines.proofs.lines_in.Statement.{statement}
+use Rattle.lines.proofs.lines_in.Tie as tie
+
+enum-told : tie.Need-enum-told
+enum-told c = search needs
+
+enum-told-2 : tie.Need-enum-told-2
+enum-told-2 c = search needs
+
+enum-told-3 : tie.Need-enum-told-3
+enum-told-3 c = search needs
+
+enum-told-4 : tie.Need-enum-told-4
+enum-told-4 c = search needs
+
+enum-told-5 : tie.Need-enum-told-5
+enum-told-5 c = search needs
+
+enum-told-6 : tie.Need-enum-told-6
+enum-told-6 c = search needs
+
+enum-told-7 : tie.Need-enum-told-7
+enum-told-7 c = search needs
+
+enum-told-8 : tie.Need-enum-told-8
+enum-told-8 c = search needs
+
+returns : tie.Need-returns
+unfolding lines
+returns c = search (count-is, needs)
+
+returns-2 : tie.Need-returns-2
+unfolding lines
+returns-2 c = search (count-is, needs)
+
+returns-3 : tie.Need-returns-3
+unfolding lines
+returns-3 c = search (count-is, needs)
+
+returns-4 : tie.Need-returns-4
+unfolding lines
+returns-4 c = search (count-is, needs)
+
+returns-5 : tie.Need-returns-5
+unfolding lines
+returns-5 c = search (count-is, needs)
+
+returns-6 : tie.Need-returns-6
+unfolding lines
+returns-6 c = search (count-is, needs)
+
+returns-7 : tie.Need-returns-7
+unfolding lines
+returns-7 c = search (count-is, needs)
+
+returns-8 : tie.Need-returns-8
+unfolding lines
+returns-8 c = search (count-is, needs)
+
+pub lines-in-spec : {M : Type 1} → statement M
+lines-in-spec =
+    tie.close
+    (tie.spec
+    enum-told
+    enum-told-2
+    enum-told-3
+    enum-told-4
+    enum-told-5
+    enum-told-6
+    enum-told-7
+    enum-told-8
+    returns
+    returns-2
+    returns-3
+    returns-4
+    returns-5
+    returns-6
+    returns-7
+    returns-8)

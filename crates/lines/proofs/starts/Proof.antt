@@ -1,0 +1,24 @@
+use native.Mathlib.Omega.{arith}
+use Prim.Native.Nat.{ℕ, _+_, _-_, _≤_, _<_}
+use mathlib.Core.Path.{_≡_}
+use lib.ListN.{length, take, drop}
+use Rattle.lines.proofs.Laws.{short-not, starts-is}
+use Rattle.rules.proofs.Lists.{part-length}
+use borrow.Author.Needs.{needs}
+use Rattle.lines.proofs.starts.Statement.{statement}
+use Rattle.lines.proofs.starts.Tie as tie
+
+returns : tie.Need-returns
+returns c = search (short-not, starts-is, needs)
+
+slice-aggregate-equal : tie.Need-slice-aggregate-equal
+slice-aggregate-equal c = search (part-length, needs)
+
+equal-requires : tie.Need-equal-requires
+equal-requires c κs = search needs
+
+returns-2 : tie.Need-returns-2
+returns-2 c = search (short-not, starts-is, needs)
+
+pub starts-spec : {M : Type 1} → statement M
+starts-spec = tie.close (tie.spec returns slice-aggregate-equal equal-requires returns-2)

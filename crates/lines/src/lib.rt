@@ -1,0 +1,399 @@
+// A sheet's lines, found by their 0A, and its groups, judged line by line: "42 before 43".
+use rules::Name;
+use value::Rule;
+use value::Words;
+ghost use mathlib.Core.Path.{_≡_};
+ghost use mathlib.Core.Bool.{_&&_, _||_};
+ghost use Prim.Native.Nat.{_+_, _≤_};
+ghost use lib.Dec.{eqb};
+ghost use lib.ListN.{length, drop};
+ghost use Rattle.rules.specs.Lists.{nth, empty, filled};
+ghost use Rattle.rules.specs.Lists as Lists;
+ghost use Rattle.rules.specs.Value.{fits};
+ghost use Rattle.rules.specs.Judge as Judge;
+ghost use Rattle.rules.specs.Places.{valueRules};
+ghost use Rattle.rules.specs.Row.{lines};
+ghost use Rattle.rules.specs.Sheet.{linesOf};
+ghost use Rattle.value.specs.Rules.{ruleOf};
+ghost use Rattle.lines.specs.Lines.{fourOf, joinedOk, andThen, isFine, lineAs, groupVerdict, nextGroup};
+
+// On the lines of a group, by their place in it, from 0.
+pub enum Verdict {
+    Fine,
+    Key(usize), // 42
+    Value(usize), // 43
+}
+
+pub fn fine(v: Verdict) -> bool
+    ensures { λ r. ⌜ r ≡ isFine v ⌝ }
+{
+    match v {
+        Verdict::Fine => true,
+        Verdict::Key(_) => false,
+        Verdict::Value(_) => false,
+    }
+}
+
+fn first(a: Verdict, b: Verdict) -> Verdict
+    ensures { λ r. ⌜ r ≡ andThen a b ⌝ }
+{
+    match a {
+        Verdict::Fine => b,
+        Verdict::Key(k) => Verdict::Key(k),
+        Verdict::Value(k) => Verdict::Value(k),
+    }
+}
+
+// ---- lines
+
+// The place behind the line at a place, or the end where there is no 0A.
+fn next_line(s: &[u8], at: usize) -> usize
+    requires { ⌜ at ≤ length (now s) ⌝ }
+    ensures { λ r. ⌜ linesOf (drop r (now (s .entry))) ≡ drop 1 (linesOf (drop at (now (s .entry)))) ⌝ }
+    ensures within { λ r. ⌜ r ≤ length (now (s .entry)) ⌝ }
+{
+    let rest = &s[at..];
+    let n = value::before(rest, 0x0A);
+    if n == rest.len() {
+        return s.len();
+    }
+    at + n + 1
+}
+
+// The place behind n lines.
+pub fn skip_lines(s: &[u8], n: usize) -> usize
+    ensures { λ r. ⌜ linesOf (drop r (now (s .entry))) ≡ drop n (linesOf (now (s .entry))) ⌝ }
+    ensures within { λ r. ⌜ r ≤ length (now (s .entry)) ⌝ }
+{
+    let mut at = 0;
+    let mut i = 0;
+    while i < n {
+        at = next_line(s, at);
+        i += 1;
+    }
+    at
+}
+
+// Whether a line stands at a place.
+pub fn has_line(s: &[u8], at: usize) -> bool
+    requires { ⌜ at ≤ length (now s) ⌝ }
+    ensures { λ r. ⌜ r ≡ filled (linesOf (drop at (now (s .entry)))) ⌝ }
+{
+    let rest = &s[at..];
+    let n = value::before(rest, 0x0A);
+    n != rest.len()
+}
+
+// The k-th line, from 0; empty where there are fewer.
+fn line_at(s: &[u8], k: usize) -> &[u8]
+    ensures { λ r. ⌜ (now r ≡ nth (linesOf (now (s .entry))) k) × (length (now r) ≤ length (now (s .entry))) ⌝ }
+{
+    let at = skip_lines(s, k);
+    let rest = &s[at..];
+    let n = value::before(rest, 0x0A);
+    if n == rest.len() {
+        return &rest[n..];
+    }
+    &rest[..n]
+}
+
+// What stands in it behind n bytes, those of its key.
+pub fn value_at(s: &[u8], k: usize, n: usize) -> &[u8]
+    ensures { λ r. ⌜ (now r ≡ drop n (nth (linesOf (now (s .entry))) k)) × (length (now r) ≤ length (now (s .entry))) ⌝ }
+{
+    let t = line_at(s, k);
+    let len = t.len();
+    if len < n {
+        return &t[len..];
+    }
+    &t[n..]
+}
+
+fn starts(key: &[u8], t: &[u8]) -> bool
+    ensures { λ r. ⌜ r ≡ Lists.starts (now (key .entry)) (now (t .entry)) ⌝ }
+{
+    let n = key.len();
+    if t.len() < n {
+        return false;
+    }
+    value::equal(&t[..n], key)
+}
+
+// ---- one line judged, after those before it
+
+fn judged(before: Verdict, s: &[u8], k: usize, key: &[u8], good: bool) -> Verdict
+    ensures { λ r. ⌜ r ≡ andThen before (lineAs k (now (key .entry)) good (nth (linesOf (now (s .entry))) k)) ⌝ }
+{
+    let t = line_at(s, k);
+    if !starts(key, t) {
+        return first(before, Verdict::Key(k));
+    }
+    let n = key.len();
+    if value::equal(&t[n..], b"\"\"") {
+        return first(before, Verdict::Value(k));
+    }
+    if !good {
+        return first(before, Verdict::Value(k));
+    }
+    first(before, Verdict::Fine)
+}
+
+// A value rule holds.
+fn keeps(v: &[u8], required: bool, rule: Rule) -> bool
+    ensures { λ r. ⌜ r ≡ fits required (ruleOf rule) (now (v .entry)) ⌝ }
+{
+    value::fine(value::fault_of(required, rule, v))
+}
+
+fn line(before: Verdict, s: &[u8], k: usize, key: &[u8], required: bool, rule: Rule) -> Verdict
+    ensures { λ r. ⌜ r ≡ andThen before (lineAs k (now (key .entry)) (fits required (ruleOf rule) (drop (length (now (key .entry))) (nth (linesOf (now (s .entry))) k))) (nth (linesOf (now (s .entry))) k)) ⌝ }
+{
+    let v = value_at(s, k, key.len());
+    judged(before, s, k, key, keeps(v, required, rule))
+}
+
+// The same, where something else must hold too.
+fn line_if(
+    before: Verdict,
+    s: &[u8],
+    k: usize,
+    key: &[u8],
+    required: bool,
+    rule: Rule,
+    also: bool,
+) -> Verdict
+    ensures { λ r. ⌜ r ≡ andThen before (lineAs k (now (key .entry)) (fits required (ruleOf rule) (drop (length (now (key .entry))) (nth (linesOf (now (s .entry))) k)) && also) (nth (linesOf (now (s .entry))) k)) ⌝ }
+{
+    let v = value_at(s, k, key.len());
+    judged(before, s, k, key, keeps(v, required, rule) & also)
+}
+
+// ---- the groups
+
+fn visit(s: &[u8]) -> Verdict
+    ensures { λ r. ⌜ r ≡ groupVerdict Name.Pv1 (linesOf (now (s .entry))) ⌝ }
+{
+    line(
+        Verdict::Fine,
+        s,
+        0,
+        b"class=",
+        true,
+        Rule::OneOf(Words::Classes),
+    )
+}
+
+fn specimen(s: &[u8]) -> Verdict
+    ensures { λ r. ⌜ r ≡ groupVerdict Name.Spm (linesOf (now (s .entry))) ⌝ }
+{
+    let kind = line(Verdict::Fine, s, 0, b"specimen=", true, Rule::Digits(3));
+    line(kind, s, 1, b"collected=", true, Rule::Time)
+}
+
+fn order(s: &[u8]) -> Verdict
+    ensures { λ r. ⌜ r ≡ groupVerdict Name.Obr (linesOf (now (s .entry))) ⌝ }
+{
+    let id = line(Verdict::Fine, s, 0, b"order=", true, Rule::Digits(15));
+    line(id, s, 1, b"group=", true, Rule::Capitals(8))
+}
+
+fn header(s: &[u8]) -> Verdict
+    ensures { λ r. ⌜ r ≡ groupVerdict Name.Msh (linesOf (now (s .entry))) ⌝ }
+{
+    let one = value::equal(value_at(s, 0, 8), b"1");
+    let version = line_if(Verdict::Fine, s, 0, b"version=", true, Rule::Text(1), one);
+    let mode = line(version, s, 1, b"mode=", true, Rule::OneOf(Words::Modes));
+    let sent = line(mode, s, 2, b"sent=", true, Rule::Time);
+    line(sent, s, 3, b"control=", true, Rule::Text(20))
+}
+
+// "A blank kanafamily needs a blank kanagiven".
+fn kana_fits(family: &[u8], given: &[u8]) -> bool
+    ensures { λ r. ⌜ r ≡ (filled (now (family .entry)) || empty (now (given .entry))) ⌝ }
+{
+    (family.len() != 0) | (given.len() == 0)
+}
+
+fn patient(s: &[u8]) -> Verdict
+    ensures { λ r. ⌜ r ≡ groupVerdict Name.Pid (linesOf (now (s .entry))) ⌝ }
+{
+    let also = kana_fits(value_at(s, 3, 11), value_at(s, 4, 10));
+    let id = line(Verdict::Fine, s, 0, b"patient=", true, Rule::Text(20));
+    let family = line(id, s, 1, b"family=", true, Rule::Text(48));
+    let given = line(family, s, 2, b"given=", false, Rule::Text(48));
+    let kana_family = line(given, s, 3, b"kanafamily=", false, Rule::Text(48));
+    let kana_given = line_if(
+        kana_family,
+        s,
+        4,
+        b"kanagiven=",
+        false,
+        Rule::Text(48),
+        also,
+    );
+    let birth = line(kana_given, s, 5, b"birth=", false, Rule::Date);
+    line(birth, s, 6, b"sex=", true, Rule::OneOf(Words::Sexes))
+}
+
+// ---- OBX-5
+
+fn compare_rule(kind: &[u8]) -> Rule
+    ensures { λ r. ⌜ ruleOf r ≡ valueRules (now (kind .entry)) .compare ⌝ }
+{
+    if value::equal(kind, b"SN") {
+        return Rule::OneOf(Words::Comparators);
+    }
+    Rule::OneOf(Words::Blank)
+}
+
+fn value_rule(kind: &[u8]) -> Rule
+    ensures { λ r. ⌜ ruleOf r ≡ valueRules (now (kind .entry)) .value ⌝ }
+{
+    if value::equal(kind, b"SN") {
+        return Rule::Number;
+    }
+    if value::equal(kind, b"NM") {
+        return Rule::Number;
+    }
+    Rule::Text(200)
+}
+
+fn join_rule(kind: &[u8]) -> Rule
+    ensures { λ r. ⌜ ruleOf r ≡ valueRules (now (kind .entry)) .join ⌝ }
+{
+    if value::equal(kind, b"SN") {
+        return Rule::OneOf(Words::Joiners);
+    }
+    Rule::OneOf(Words::Blank)
+}
+
+fn second_rule(kind: &[u8]) -> Rule
+    ensures { λ r. ⌜ ruleOf r ≡ valueRules (now (kind .entry)) .second ⌝ }
+{
+    if value::equal(kind, b"SN") {
+        return Rule::Number;
+    }
+    Rule::OneOf(Words::Blank)
+}
+
+fn beside(compare: &[u8], join: &[u8], second: &[u8]) -> bool
+    ensures { λ r. ⌜ r ≡ (filled (now (compare .entry)) || filled (now (join .entry)) || filled (now (second .entry))) ⌝ }
+{
+    (compare.len() != 0) | (join.len() != 0) | (second.len() != 0)
+}
+
+// "a missing joiner, and an SN whose value is blank beside a filled compare, join or second"
+fn joined(compare: &[u8], value: &[u8], join: &[u8], second: &[u8]) -> bool
+    ensures { λ r. ⌜ r ≡ joinedOk (fourOf (now (compare .entry)) (now (value .entry)) (now (join .entry)) (now (second .entry))) ⌝ }
+{
+    let alone = !beside(compare, join, second);
+    !((second.len() != 0) & (join.len() == 0)) & ((value.len() != 0) | alone)
+}
+
+// "Status F, P or C needs a value (for SN its first number); I or X needs OBX-5 empty in every component."
+fn agrees(status: &[u8], compare: &[u8], value: &[u8], join: &[u8], second: &[u8]) -> bool
+    ensures { λ r. ⌜ r ≡ Judge.agrees (now (status .entry)) (fourOf (now (compare .entry)) (now (value .entry)) (now (join .entry)) (now (second .entry))) ⌝ }
+{
+    let alone = !beside(compare, join, second);
+    if value::one_of(status, b"F P C") {
+        return value.len() != 0;
+    }
+    (value.len() == 0) & alone
+}
+
+fn result(s: &[u8]) -> Verdict
+    ensures { λ r. ⌜ r ≡ groupVerdict Name.Obx (linesOf (now (s .entry))) ⌝ }
+{
+    let kind = value_at(s, 2, 5);
+    let compare = value_at(s, 3, 8);
+    let value = value_at(s, 4, 6);
+    let join = value_at(s, 5, 5);
+    let second = value_at(s, 6, 7);
+    let met = agrees(value_at(s, 9, 7), compare, value, join, second);
+    let item = line(Verdict::Fine, s, 0, b"item=", true, Rule::Capitals(17));
+    let name = line(item, s, 1, b"name=", false, Rule::Text(48));
+    let to_type = line(name, s, 2, b"type=", true, Rule::OneOf(Words::Types));
+    let to_compare = line_if(to_type, s, 3, b"compare=", false, compare_rule(kind), true);
+    let to_value = line_if(to_compare, s, 4, b"value=", false, value_rule(kind), true);
+    let to_join = line_if(to_value, s, 5, b"join=", false, join_rule(kind), true);
+    let to_second = line_if(
+        to_join,
+        s,
+        6,
+        b"second=",
+        false,
+        second_rule(kind),
+        joined(compare, value, join, second),
+    );
+    let unit = line(to_second, s, 7, b"unit=", false, Rule::Text(20));
+    let flag = line(unit, s, 8, b"flag=", false, Rule::OneOf(Words::Flags));
+    line_if(
+        flag,
+        s,
+        9,
+        b"status=",
+        true,
+        Rule::OneOf(Words::Statuses),
+        met,
+    )
+}
+
+pub fn group(name: Name, s: &[u8]) -> Verdict
+    ensures { λ r. ⌜ r ≡ groupVerdict name (linesOf (now (s .entry))) ⌝ }
+{
+    match name {
+        Name::Msh => header(s),
+        Name::Pid => patient(s),
+        Name::Pv1 => visit(s),
+        Name::Spm => specimen(s),
+        Name::Obr => order(s),
+        Name::Orc => Verdict::Fine,
+        Name::Obx => result(s),
+        Name::Other => Verdict::Fine,
+    }
+}
+
+// ---- what comes next
+
+pub fn next_group(name: Name, s: &[u8]) -> Name
+    ensures { λ r. ⌜ (r ≡ nextGroup name (nth (linesOf (now (s .entry))) 0)) × (1 ≤ length (lines r)) ⌝ }
+{
+    match name {
+        Name::Other => Name::Msh,
+        Name::Msh => Name::Pid,
+        Name::Pid => Name::Pv1,
+        Name::Pv1 => Name::Spm,
+        Name::Spm => Name::Obr,
+        Name::Obr => Name::Obx,
+        Name::Orc => Name::Obx,
+        Name::Obx => after_result(line_at(s, 0)),
+    }
+}
+
+fn after_result(t: &[u8]) -> Name
+    ensures { λ r. ⌜ (r ≡ nextGroup Name.Obx (now (t .entry))) × (1 ≤ length (lines r)) ⌝ }
+{
+    if starts(b"item=", t) {
+        return Name::Obx;
+    }
+    if starts(b"order=", t) {
+        return Name::Obr;
+    }
+    Name::Spm
+}
+
+// How many lines a group has.
+pub fn lines_in(name: Name) -> usize
+    ensures { λ r. ⌜ (r ≡ length (lines name)) × (r ≤ 10) ⌝ }
+{
+    match name {
+        Name::Msh => 4,
+        Name::Pid => 7,
+        Name::Pv1 => 1,
+        Name::Spm => 2,
+        Name::Obr => 2,
+        Name::Orc => 0,
+        Name::Obx => 10,
+        Name::Other => 0,
+    }
+}

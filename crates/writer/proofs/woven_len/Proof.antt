@@ -1,0 +1,63 @@
+use borrow.Author.Needs.{needs}
+use native.Mathlib.Omega.{arith}
+use Prim.Native.Nat.{ℕ, _+_, _-_, _≤_, _<_}
+use mathlib.Core.Path.{_≡_}
+use lib.ListN.{length, take, drop}
+use Prim.Native.Nat.{_*_}
+use Rattle.writer.specs.Woven.{woven, holes}
+use Rattle.writer.proofs.Weaving.{holes-go, one-hole, sum-begins, sum-ends, sum-goes}
+use Rattle.writer.proofs.woven_len.Statement.{statement}
+use Rattle.writer.proofs.woven_len.Tie as tie
+
+abbrev Inv-loop : tie.InvT-loop
+Inv-loop pattern texts d n₀ next₀ i₀ n next i = (i ≤ length pattern) × (n ≤ 3000000 * i) × (next + holes (drop i pattern) ≤ length texts) × (n + length (woven d (drop i pattern) (drop next texts)) ≡ length (woven d pattern texts))
+
+abbrev μ-loop : tie.MeasureT-loop
+μ-loop pattern texts d n₀ next₀ i₀ n next i = length pattern - i
+
+loop-holds : tie.Need-loop-holds Inv-loop μ-loop
+loop-holds c = search (sum-begins, sum-goes, sum-ends, one-hole, holes-go, needs)
+
+shared-slice-read-slot : tie.Need-shared-slice-read-slot Inv-loop μ-loop
+shared-slice-read-slot c = search needs
+
+slot-len-requires : tie.Need-slot-len-requires Inv-loop μ-loop
+slot-len-requires c κs = search (sum-begins, sum-goes, sum-ends, one-hole, holes-go, needs)
+
+add-n : tie.Need-add-n Inv-loop μ-loop
+add-n c = search needs
+
+texts-for-requires : tie.Need-texts-for-requires Inv-loop μ-loop
+texts-for-requires c κs = search needs
+
+add-next : tie.Need-add-next Inv-loop μ-loop
+add-next c = search needs
+
+add-i : tie.Need-add-i Inv-loop μ-loop
+add-i c = search needs
+
+loop-less : tie.Need-loop-less Inv-loop μ-loop
+loop-less c = search needs
+
+loop-again : tie.Need-loop-again Inv-loop μ-loop
+loop-again c = search (sum-begins, sum-goes, sum-ends, one-hole, holes-go, needs)
+
+returns : tie.Need-returns Inv-loop μ-loop
+returns c = search (sum-begins, sum-goes, sum-ends, one-hole, holes-go, needs)
+
+pub woven-len-spec : {M : Type 1} → statement M
+woven-len-spec =
+    tie.close
+    (tie.spec
+    Inv-loop
+    μ-loop
+    loop-holds
+    shared-slice-read-slot
+    slot-len-requires
+    add-n
+    texts-for-requires
+    add-next
+    add-i
+    loop-less
+    loop-again
+    returns)
