@@ -27,7 +27,7 @@ unfolding onto
 onto-tail x n [] = refl
 onto-tail x n (p ∷ ps) = refl
 
-first-piece : (sep : ℕ) (s : List ℕ) → nth (split sep s) 0 ≡ until (is sep) s
+pub first-piece : (sep : ℕ) (s : List ℕ) → nth (split sep s) 0 ≡ until (is sep) s
 unfolding split until
 first-piece sep [] = refl
 first-piece sep (x ∷ s) = cases (eqb x sep) (λ e. cc) (λ e. cc (onto-head x (split sep s), first-piece sep s))

@@ -1,0 +1,229 @@
+-- The laws of writing as far as a lent buffer reaches. Assumes nothing.
+use Prim.Native.Nat.{ℕ, zero, suc, _+_, _-_, _*_, _≤_, _<_}
+use native.Mathlib.Nat.{zero-add, suc-add}
+use native.Mathlib.Omega.{arith}
+use mathlib.Core.Path.{_≡_, refl, sym, ap, subst, _∙_}
+use mathlib.Core.List.{List, [], _∷_, _++_, append-assoc, append-nil}
+use mathlib.Core.Option.{Option, none, some}
+use mathlib.Core.Bool.{Bool, true, false, not, _&&_, _||_}
+use borrow.Author.Tests.{ne-eqb, lt-ltb, ltb-true}
+use lib.Dec.{eqb, ltb}
+use lib.ListN.{length, getD, take, drop, length-append, length-drop, drop-of-length-le}
+use lib.Seq.{length-take-le}
+use Rattle.rules.specs.declared.Delims.{Delims}
+use Rattle.rules.specs.declared.Mode.{Mode}
+use Rattle.rules.specs.declared.Mode.the-variants.{One}
+use Rattle.rules.specs.Lists.{all, ended}
+use Rattle.rules.specs.Shift.{isOne, mark, marks, met, byteOf, step}
+use Rattle.rules.specs.Escape.{At, plain, opened, named, letters, meaning, push, unescapeAt, unescape}
+use Rattle.rules.specs.Judge.{plainOf, unescapedOr}
+use Rattle.rules.proofs.Logic.{cases, optionCases, never, both, not-true, not-false, neither, and-false}
+use Rattle.rules.proofs.Lists.{here, over, rest-is, part-length, all-cons, all-first}
+use Rattle.rules.proofs.Split.{ended-append}
+use Rattle.rules.proofs.Modes.{byte-met, met-as, length-marks}
+use Rattle.scan.specs.Scan.{escapes, Proper}
+use Rattle.judge.specs.Judge.{fill, Whole, Longer, Fits}
+use Rattle.judge.specs.declared.Unescaped.{Unescaped}
+use Rattle.judge.specs.declared.Unescaped.the-variants.{Got, Faulty, Over}
+use Rattle.writer.specs.Over.{Wrote}
+use Rattle.writer.specs.Over as W
+use Rattle.report.specs.Fill.{least, Filled, clearOf, fillAt, Added, Lined}
+
+-- ---- the lesser of two numbers
+pub least-first : (a b : ℕ) → a < b → a ≡ least a b
+unfolding least
+least-first zero b h = refl
+least-first (suc a) zero h = absurd (omega arith)
+least-first (suc a) (suc b) h = ap suc (least-first a b (omega arith))
+
+pub least-second : (a b : ℕ) → b ≤ a → b ≡ least a b
+unfolding least
+least-second zero b h = omega arith
+least-second (suc a) zero h = refl
+least-second (suc a) (suc b) h = ap suc (least-second a b (omega arith))
+
+-- ---- bytes as they are
+fill-over : (s old : List ℕ) → take (least (length s) (length old)) s ++ drop (least (length s) (length old)) old ≡ fill s old
+unfolding least fill
+fill-over [] old = refl
+fill-over (x ∷ s) [] = refl
+fill-over (x ∷ s) (o ∷ old) = ap (λ (l : List ℕ). x ∷ l) (fill-over s old)
+
+pub put-fills : (s old x : List ℕ) (n k : ℕ) → n ≡ least (length s) (length old) → (n ≤ length s) × (n ≤ length old) → Wrote k x (take n s) old → Filled (length s) x s old
+unfolding W.over
+put-fills s old x n k e h w = record {
+  ends = refl;
+  is = w .is ∙ rw (length-take-le n s (h .0), e) (fill-over s old);
+}
+
+pub prefix-room : (s old : List ℕ) (n : ℕ) → (n ≤ length s) × (n ≤ length old) → length (take n s) ≤ length old
+prefix-room s old n h = omega (arith, length-take-le n s (h .0), h .1)
+
+-- ---- a component that stands for itself
+pub clear-is : (d : Delims) (b : ℕ) → b < 256 → (not (eqb b (d .escape)) && not (eqb b (d .sub))) ≡ clearOf d b
+unfolding clearOf escapes
+clear-is d b h = rw (lt-ltb b 256 h) (split (eqb b (d .escape)) (eqb b (d .sub)))
+  where
+    split : (p q : Bool) → (not p && not q) ≡ not (p || q)
+    split true q = refl
+    split false q = refl
+
+module _ (d : Delims) (s : List ℕ) (i : ℕ) (inv : all (clearOf d) s ≡ all (clearOf d) (drop i s)) where
+  pub clear-stops : (t : Bool) → i < length s → t ≡ clearOf d (getD s i 0) → not t ≡ true → false ≡ all (clearOf d) s
+  clear-stops t h e g = cc (here 0 s i h, all-cons (clearOf d) (getD s i 0) (drop (i + 1) s), not-true t g)
+
+  pub clear-goes : (t : Bool) → i < length s → t ≡ clearOf d (getD s i 0) → not t ≡ false → all (clearOf d) s ≡ all (clearOf d) (drop (i + 1) s)
+  clear-goes t h e g = cc (here 0 s i h, all-cons (clearOf d) (getD s i 0) (drop (i + 1) s), not-false t g)
+
+  pub clear-ends : length s ≤ i → true ≡ all (clearOf d) s
+  unfolding all
+  clear-ends h = sym (inv ∙ rw (over s i h))
+
+clear-at : (d : Delims) → Proper d → (m : Mode) (s : List ℕ) → all (clearOf d) s ≡ true → unescapeAt d plain (marks 0x0D m s) ≡ some s
+unfolding unescapeAt marks clearOf escapes push
+clear-at d p m [] h = refl
+clear-at d p m (b ∷ s) h =
+    let q = all-first (clearOf d) b s h in
+    let c = both (ltb b 256) (not (escapes d b)) (q .0) in
+    let n = neither (eqb b (d .escape)) (eqb b (d .sub)) (not-true (escapes d b) (c .1)) in
+    let far : (a : ℕ) → a < 256 → eqb b a ≡ false → eqb (mark m b) a ≡ false = λ a k e. met-as m b a k ∙ ap (λ t. isOne m && t) e ∙ and-false (isOne m) in
+    cc (
+      far (d .escape) (omega (arith, p .escape .high)) (n .0),
+      far (d .sub) (omega (arith, p .sub .high)) (n .1),
+      byte-met m b (ltb-true b 256 (c .0)),
+      clear-at d p (step 0x0D m b) s (q .1),
+    )
+
+-- ---- a value is no longer than its component
+push-short : (x : ℕ) (o : Option (List ℕ)) (v : List ℕ) (n : ℕ) → push x o ≡ some v → ((w : List ℕ) → o ≡ some w → length w ≤ n) → length v ≤ suc n
+unfolding push
+push-short x none v n e f = absurd (let z : _≡_ {A = ℕ} 0 1 = cc in omega arith)
+push-short x (some w) v n e f = let q : v ≡ x ∷ w = cc in rw q (omega (arith, f w refl))
+
+no-value : {P : Type 0} (v : List ℕ) → none ≡ some v → P
+no-value v e = absurd (let z : _≡_ {A = ℕ} 0 1 = cc in omega arith)
+
+unescaped-short : (d : Delims) (at : At) (m v : List ℕ) → unescapeAt d at m ≡ some v → length v ≤ length m
+unfolding unescapeAt
+unescaped-short d plain [] v e = let q : v ≡ [] = cc in rw q (omega arith)
+unescaped-short d opened [] v e = no-value v e
+unescaped-short d (named x) [] v e = no-value v e
+unescaped-short d plain (b ∷ m) v e =
+    cases (eqb b (d .escape))
+    (λ t. omega (arith, unescaped-short d opened m v (rw (t, unescapeAt) at e)))
+    (λ t. cases (eqb b (d .sub))
+    (λ u. no-value v (rw (t, u, unescapeAt) at e))
+    (λ u. push-short (byteOf b) (unescapeAt d plain m) v (length m) (rw (t, u, unescapeAt) at e) (unescaped-short d plain m)))
+unescaped-short d opened (b ∷ m) v e =
+    optionCases (meaning (letters d) b)
+    (λ x q. omega (arith, unescaped-short d (named x) m v (rw (q, unescapeAt) at e)))
+    (λ q. no-value v (rw (q, unescapeAt) at e))
+unescaped-short d (named x) (b ∷ m) v e =
+    cases (eqb b (d .escape))
+    (λ t. push-short x (unescapeAt d plain m) v (length m) (rw (t, unescapeAt) at e) (unescaped-short d plain m))
+    (λ t. no-value v (rw (t, unescapeAt) at e))
+
+module _ (d : Delims) (raw : List ℕ) where
+  value-short : (v : List ℕ) → unescape d (met raw) ≡ some v → length v ≤ length raw
+  unfolding unescape met
+  value-short v e = omega (arith, unescaped-short d plain (met raw) v e, length-marks 0x0D One raw)
+
+  plain-short : length (plainOf d (met raw)) ≤ length raw
+  unfolding unescapedOr
+  plain-short = optionCases (unescape d (met raw)) (λ v e. rw e (value-short v e)) (λ e. rw e (omega arith))
+
+  module _ (out x : List ℕ) (r : ℕ) where
+    pub value-within : Filled r x (plainOf d (met raw)) out → r ≤ length raw
+    value-within f = omega (arith, f .ends, plain-short)
+
+    pub value-clear : (t : Bool) → Proper d → t ≡ all (clearOf d) raw → t ≡ true → Filled r x raw out → Filled r x (plainOf d (met raw)) out
+    unfolding unescapedOr unescape met
+    value-clear t p e h f = rw (clear-at d p One raw (sym e ∙ h)) f
+
+    pub value-got : (u : Unescaped) (n : ℕ) (buf : List ℕ) → u ≡ Got n → Fits u (unescape d (met raw)) buf → Filled r x (take n buf) out → Filled r x (plainOf d (met raw)) out
+    unfolding unescapedOr
+    value-got u n buf e h f = let w : Whole n (unescape d (met raw)) buf = subst (λ (z : Unescaped). Fits z (unescape d (met raw)) buf) e h in rw (w .is) f
+
+  pub got-within : (u : Unescaped) (n : ℕ) (buf : List ℕ) → u ≡ Got n → Fits u (unescape d (met raw)) buf → n ≤ length buf
+  got-within u n buf e h = let w : Whole n (unescape d (met raw)) buf = subst (λ (z : Unescaped). Fits z (unescape d (met raw)) buf) e h in w .low
+
+  pub got-short : (out x : List ℕ) (r : ℕ) (u : Unescaped) (n : ℕ) (buf : List ℕ) → u ≡ Got n → Fits u (unescape d (met raw)) buf → Filled r x (take n buf) out → r ≤ length raw
+  got-short out x r u n buf e h f = value-within out x r (value-got out x r u n buf e h f)
+
+  pub value-faulty : (out : List ℕ) (u : Unescaped) (buf : List ℕ) → u ≡ Faulty → Fits u (unescape d (met raw)) buf → Filled 0 out (plainOf d (met raw)) out
+  unfolding unescapedOr fill
+  value-faulty out u buf e h = let w : unescape d (met raw) ≡ none = subst (λ (z : Unescaped). Fits z (unescape d (met raw)) buf) e h in rw w (record { ends = refl; is = refl })
+
+  pub value-over : (out : List ℕ) (u : Unescaped) (n : ℕ) (buf : List ℕ) → u ≡ Over n → Fits u (unescape d (met raw)) buf → length buf ≡ 4096 → length raw ≤ 4096 → Filled 0 out (plainOf d (met raw)) out
+  value-over out u n buf e h l k =
+      let w : Longer n (unescape d (met raw)) buf = subst (λ (z : Unescaped). Fits z (unescape d (met raw)) buf) e h in
+      absurd (omega (arith, w .long, w .over, value-short (w .text) (w .is)))
+
+-- one text after another, where what is left of the buffer was lent for the second
+fill-nil : (b : List ℕ) → fill b [] ≡ []
+unfolding fill
+fill-nil [] = refl
+fill-nil (x ∷ b) = refl
+
+length-fill : (w old : List ℕ) → length (fill w old) ≡ length old
+unfolding fill
+length-fill [] old = refl
+length-fill (x ∷ w) [] = refl
+length-fill (x ∷ w) (o ∷ old) = ap suc (length-fill w old)
+
+fill-more : (w b old : List ℕ) → take (least (length w) (length old)) (fill w old) ++ fill b (drop (least (length w) (length old)) (fill w old)) ≡ fill (w ++ b) old
+unfolding least fill
+fill-more [] b old = refl
+fill-more (x ∷ w) b [] = fill-nil b
+fill-more (x ∷ w) b (o ∷ old) = ap (λ (l : List ℕ). x ∷ l) (fill-more w b old)
+
+tail-none : (a : ℕ) (xs : List ℕ) → drop (length xs - a) (drop a xs) ≡ []
+tail-none a xs = drop-of-length-le (drop a xs) {i = length xs - a} (simp length-drop (omega arith))
+
+-- the buffer once what is left of it from a place on, which was lent to a routine, is back
+pub back : (x y b : List ℕ) (at f r : ℕ) → f ≡ least at (length x) → Filled r y b (take (length x - f) (drop f x))
+    → Added at x b (at + r) (take f x ++ (y ++ drop (length x - f) (drop f x)))
+unfolding fillAt
+back x y b at f r e q = record { ends = omega (arith, q .ends); is = rw (q .is, rest-is, tail-none, append-nil, e) }
+
+add-twice : (at : ℕ) (b c x : List ℕ) → fillAt (at + length b) c (fillAt at b x) ≡ fillAt at (b ++ c) x
+unfolding fillAt least
+add-twice zero b c x = rw (zero-add, length-fill b x) (fill-more b c x)
+add-twice (suc at) b c [] = rw (fill-nil b, suc-add) (rw (fill-nil c, fill-nil (b ++ c)))
+add-twice (suc at) b c (o ∷ x) = rw suc-add (ap (λ (l : List ℕ). o ∷ l) (add-twice at b c x))
+
+add-then : {at r k : ℕ} {x y z b c : List ℕ} → Added at x b r y → Added r y c k z → Added at x (b ++ c) k z
+add-then {at} {r} {k} {x} {y} {z} {b} {c} p q = record {
+  ends = rw length-append (omega (arith, p .ends, q .ends));
+  is = q .is ∙ rw (p .ends, p .is) (add-twice at b c x);
+}
+
+pub line-is : (at a b r : ℕ) (x y z w k v n : List ℕ) → Added at x k a y → Added a y v b z → Added b z n r w → n ≡ 0x0A ∷ [] → Lined at x ((k ++ v) ∷ []) r w
+unfolding ended
+line-is at a b r x y z w k v n p q s e = record { added = rw e at (add-then (add-then p q) s) }
+
+pub lined-then : {at r k : ℕ} {x y z : List ℕ} {ls ms : List (List ℕ)} → Lined at x ls r y → Lined r y ms k z → Lined at x (ls ++ ms) k z
+lined-then {ls = ls} {ms} p q = record { added = rw (ended-append 0x0A ls ms) (add-then (p .added) (q .added)) }
+
+module _ (at r k : ℕ) (x y z a b : List ℕ) where
+  pub two-is : Lined at x (a ∷ []) r y → Lined r y (b ∷ []) k z → Lined at x (a ∷ b ∷ []) k z
+  two-is p q = lined-then p q
+
+  pub three-is : (c : List ℕ) → Lined at x (a ∷ b ∷ []) r y → Lined r y (c ∷ []) k z → Lined at x (a ∷ b ∷ c ∷ []) k z
+  three-is c p q = lined-then p q
+
+pub ruleset lesser·laws = (least-first, least-second)
+
+pub ruleset put·laws = (put-fills, prefix-room, part-length)
+
+pub ruleset clear·laws = (clear-is)
+
+pub ruleset all-clear·laws = (clear-stops, clear-goes, clear-ends)
+
+pub ruleset plain·laws = (value-within, value-clear, value-got, got-within, got-short, value-faulty, value-over, part-length)
+
+pub ruleset put-at·laws = (back)
+
+pub ruleset line·laws = (line-is)
+
+pub ruleset two·laws = (two-is, three-is)

@@ -1,0 +1,14 @@
+use borrow.Author.Needs.{needs}
+use native.Mathlib.Omega.{arith}
+use Prim.Native.Nat.{ℕ, _+_, _-_, _*_, _≤_, _<_}
+use mathlib.Core.Path.{_≡_}
+use lib.ListN.{length, take, drop}
+use Rattle.report.proofs.Filling.{clear·laws}
+use Rattle.report.proofs.fill.clear.Statement.{statement}
+use Rattle.report.proofs.fill.clear.Tie as tie
+
+returns : tie.Need-returns
+returns c = search (clear·laws, needs)
+
+pub clear-spec : {M : Type 1} → statement M
+clear-spec = tie.close (tie.spec returns)

@@ -1,0 +1,38 @@
+use borrow.Author.Needs.{needs}
+use native.Mathlib.Omega.{arith}
+use Prim.Native.Nat.{ℕ, _+_, _-_, _*_, _≤_, _<_}
+use mathlib.Core.Path.{_≡_}
+use lib.ListN.{length, take, drop}
+use Rattle.report.proofs.Filling.{line·laws}
+use borrow.Author.Needs.{needs}
+use Rattle.report.proofs.fill.line.Statement.{statement}
+use Rattle.report.proofs.fill.line.Tie as tie
+
+put-at-requires : tie.Need-put-at-requires
+put-at-requires c κs = search needs
+
+plain-at-requires : tie.Need-plain-at-requires
+plain-at-requires c κs = search needs
+
+slice-aggregate-put-at : tie.Need-slice-aggregate-put-at
+slice-aggregate-put-at c = search needs
+
+put-at-requires-2 : tie.Need-put-at-requires-2
+put-at-requires-2 c κs = search needs
+
+same-length : tie.Need-same-length
+same-length c = search needs
+
+returns : tie.Need-returns
+returns c = search (line·laws, needs)
+
+pub line-spec : {M : Type 1} → statement M
+line-spec =
+    tie.close
+    (tie.spec
+    put-at-requires
+    plain-at-requires
+    slice-aggregate-put-at
+    put-at-requires-2
+    same-length
+    returns)

@@ -1,0 +1,21 @@
+use borrow.Author.Needs.{needs}
+use native.Mathlib.Omega.{arith}
+use Prim.Native.Nat.{ℕ, _+_, _-_, _*_, _≤_, _<_}
+use mathlib.Core.Path.{_≡_}
+use lib.ListN.{length, take, drop}
+use Rattle.report.proofs.Sections.{behind·laws}
+use borrow.Author.Needs.{needs}
+use Rattle.report.proofs.section.behind.Statement.{statement}
+use Rattle.report.proofs.section.behind.Tie as tie
+
+first-requires : tie.Need-first-requires
+first-requires c κs = search needs
+
+behind-requires : tie.Need-behind-requires
+behind-requires c κs = search needs
+
+returns : tie.Need-returns
+returns c = search (behind·laws, needs)
+
+pub behind-spec : {M : Type 1} → statement M
+behind-spec = tie.close (tie.spec first-requires behind-requires returns)

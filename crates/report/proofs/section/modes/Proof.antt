@@ -1,0 +1,59 @@
+use borrow.Author.Needs.{needs}
+use native.Mathlib.Omega.{arith}
+use Prim.Native.Nat.{ℕ, _+_, _-_, _*_, _≤_, _<_}
+use mathlib.Core.Path.{_≡_}
+use lib.ListN.{length, take, drop}
+use Rattle.rules.specs.Lists.{bytes}
+use Rattle.report.proofs.Sections.{modes·laws}
+use Rattle.report.proofs.section.modes.Statement.{statement}
+use Rattle.report.proofs.section.modes.Tie as tie
+
+component-requires : tie.Need-component-requires
+component-requires c κs = search needs
+
+field-requires : tie.Need-field-requires
+field-requires c κs = search needs
+
+component-requires-2 : tie.Need-component-requires-2
+component-requires-2 c κs = search needs
+
+field-requires-2 : tie.Need-field-requires-2
+field-requires-2 c κs = search needs
+
+component-requires-3 : tie.Need-component-requires-3
+component-requires-3 c κs = search needs
+
+slice-aggregate-three : tie.Need-slice-aggregate-three
+slice-aggregate-three c = search needs
+
+slice-aggregate-three-2 : tie.Need-slice-aggregate-three-2
+slice-aggregate-three-2 c = search needs
+
+slice-aggregate-three-3 : tie.Need-slice-aggregate-three-3
+slice-aggregate-three-3 c = search needs
+
+three-requires : tie.Need-three-requires
+three-requires c κs = search needs
+
+same-length : tie.Need-same-length
+same-length c = search needs
+
+returns : tie.Need-returns
+unfolding bytes
+returns c = search (modes·laws, needs)
+
+pub modes-spec : {M : Type 1} → statement M
+modes-spec =
+    tie.close
+    (tie.spec
+    component-requires
+    field-requires
+    component-requires-2
+    field-requires-2
+    component-requires-3
+    slice-aggregate-three
+    slice-aggregate-three-2
+    slice-aggregate-three-3
+    three-requires
+    same-length
+    returns)

@@ -1,0 +1,21 @@
+use borrow.Author.Needs.{needs}
+use native.Mathlib.Omega.{arith}
+use Prim.Native.Nat.{ℕ, _+_, _-_, _*_, _≤_, _<_}
+use mathlib.Core.Path.{_≡_}
+use lib.ListN.{length, take, drop}
+use Rattle.report.proofs.Sections.{piece·laws}
+use borrow.Author.Needs.{needs}
+use Rattle.report.proofs.section.piece.Statement.{statement}
+use Rattle.report.proofs.section.piece.Tie as tie
+
+finish-requires : tie.Need-finish-requires
+finish-requires c κs = search needs
+
+slice-aggregate-result : tie.Need-slice-aggregate-result
+slice-aggregate-result c = search (piece·laws, needs)
+
+returns : tie.Need-returns
+returns c = search (piece·laws, needs)
+
+pub piece-spec : {M : Type 1} → statement M
+piece-spec = tie.close (tie.spec finish-requires slice-aggregate-result returns)

@@ -1,0 +1,43 @@
+-- Writing as far as a lent buffer reaches. A write tells how long its text is, so that a write into nothing measures it.
+use mathlib.Core.Path.{_≡_}
+use mathlib.Core.Bool.{Bool, true, false, not, _&&_}
+use mathlib.Core.List.{List, [], _∷_, _++_}
+use Prim.Native.Nat.{ℕ, zero, suc, _+_}
+use lib.Dec.{ltb}
+use lib.ListN.{length, take, drop}
+use Rattle.rules.specs.declared.Delims.{Delims}
+use Rattle.rules.specs.Lists.{ended}
+use Rattle.rules.specs.Judge.{plainOf}
+use Rattle.scan.specs.Scan.{escapes}
+use Rattle.judge.specs.Judge.{fill}
+
+-- the lesser of two numbers
+unfoldable pub least : ℕ → ℕ → ℕ
+least zero n = 0
+least (suc a) zero = 0
+least (suc a) (suc n) = suc (least a n)
+
+-- a text w over old's front, as far as old reaches: r is how long it is, x what it leaves
+pub record Filled (r : ℕ) (x w old : List ℕ) : Type 0 where
+  pub ends : r ≡ length w
+  pub is : x ≡ fill w old
+
+-- a byte that stands for itself in any mode
+unfoldable pub clearOf : Delims → ℕ → Bool
+clearOf d b = ltb b 256 && not (escapes d b)
+
+-- a text b over x from at on, as far as x reaches: it ends at r, and leaves y
+unfoldable pub fillAt : ℕ → List ℕ → List ℕ → List ℕ
+fillAt at b x = take (least at (length x)) x ++ fill b (drop (least at (length x)) x)
+
+pub record Added (at : ℕ) (x b : List ℕ) (r : ℕ) (y : List ℕ) : Type 0 where
+  pub ends : r ≡ at + length b
+  pub is : y ≡ fillAt at b x
+
+-- lines, each ended by 0A
+pub record Lined (at : ℕ) (x : List ℕ) (ls : List (List ℕ)) (r : ℕ) (y : List ℕ) : Type 0 where
+  pub added : Added at x (ended 0x0A ls) r y
+
+-- a line: its key with `=`, and the value of a component as it is met
+abbrev pub keyed : Delims → List ℕ → List ℕ → List ℕ
+keyed d key raw = key ++ plainOf d raw

@@ -1,0 +1,50 @@
+-- The sheet, segment by segment.
+use mathlib.Core.List.{List, [], _∷_, _++_, map}
+use Prim.Native.Nat.{ℕ}
+use Rattle.rules.specs.declared.Delims.{Delims}
+use Rattle.rules.specs.declared.Name.{Name}
+use Rattle.rules.specs.Lists.{bytes, nth, split, ended}
+use Rattle.rules.specs.Shift.{met}
+use Rattle.rules.specs.Frame.{Known, nameOf}
+use Rattle.rules.specs.View.{segmentOf}
+use Rattle.rules.specs.Places.{Four}
+use Rattle.rules.specs.Row.{Line, lines}
+use Rattle.rules.specs.Sheet.{linesText}
+use Rattle.scan.specs.Scan.{until, is, ends, next, onward}
+use Rattle.report.specs.Fill.{keyed}
+
+-- the lines of a segment of a name, by its bytes as they are met
+unfoldable pub linesIn : Delims → Name → List ℕ → List (List ℕ)
+linesIn d n body =
+    let k : Known = record { name = n; start = 0; body = body } in
+    linesText (lines n) (map (λ (l : Line). l .source d (segmentOf d k)) (lines n))
+
+-- the text of all segments' lines; an ORC and an unknown segment have none
+unfoldable pub sections : Delims → List (List ℕ) → List ℕ
+sections d [] = []
+sections d (s ∷ ss) = ended 0x0A (linesIn d (nameOf s) (met s)) ++ sections d ss
+
+-- ---- parts of a segment's lines, from a field on
+-- the component after n separators of fields
+abbrev fieldFrom : Delims → ℕ → List ℕ → List ℕ
+fieldFrom d n m = until (ends d) (onward (d .field) n m)
+
+-- MSH-7, 10 and 11
+unfoldable pub modeLines : Delims → List ℕ → List (List ℕ)
+modeLines d m = keyed d (bytes "mode=") (fieldFrom d 4 m) ∷ keyed d (bytes "sent=") (fieldFrom d 0 m) ∷ keyed d (bytes "control=") (fieldFrom d 3 m) ∷ []
+
+-- OBX-3 and the type; OBX-5; OBX-6, 8 and 11
+unfoldable pub itemLines : Delims → List ℕ → List ℕ → List (List ℕ)
+itemLines d m type =
+    keyed d (bytes "item=") (until (ends d) m) ∷ keyed d (bytes "name=") (until (ends d) (next d m)) ∷ keyed d (bytes "type=") type ∷ []
+
+unfoldable pub fourLines : Delims → Four (List ℕ) → List (List ℕ)
+fourLines d c =
+    keyed d (bytes "compare=") (c .compare) ∷ keyed d (bytes "value=") (c .value)
+    ∷ keyed d (bytes "join=") (c .join) ∷ keyed d (bytes "second=") (c .second) ∷ []
+
+unfoldable pub fourIn : Delims → List ℕ → Four (List ℕ)
+fourIn d f = let c = nth (split (d .component) f) in record { compare = c 0; value = c 1; join = c 2; second = c 3 }
+
+unfoldable pub statusLines : Delims → List ℕ → List (List ℕ)
+statusLines d m = keyed d (bytes "unit=") (fieldFrom d 0 m) ∷ keyed d (bytes "flag=") (fieldFrom d 2 m) ∷ keyed d (bytes "status=") (fieldFrom d 5 m) ∷ []

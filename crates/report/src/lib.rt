@@ -1,0 +1,3 @@
+// Message to sheet.
+mod fill;
+mod section;
