@@ -433,13 +433,3 @@ module _ (d : Delims) (word f : List ℕ) (fault n : ℕ) (y z v w : Bool) (ev :
     pub value-st : w ≡ false → ((type : List ℕ) → isSN type ≡ false → valueRules type .value ≡ ruleOf (Text 200) → ValueOf d type f fault n y z) → ValueOf d word f fault n y z
     unfolding bytes valueRules ruleOf
     value-st h g = g word (sym ev ∙ hv) (rw (sym ev ∙ hv, sym ew ∙ h))
-
--- ---- OBX-11 against OBX-5
-module _ (status : List ℕ) (number parts y : Bool) (e : y ≡ oneOf (70 ∷ 32 ∷ 80 ∷ 32 ∷ 67 ∷ []) status) where
-  pub agrees-filled : y ≡ true → (c : Four (List ℕ)) → number ≡ filled (c .value) → parts ≡ beside c → number ≡ agrees status c
-  unfolding agrees isOneOf oneOf bytes
-  agrees-filled h c en ep = rw (sym e ∙ h) en
-
-  pub agrees-empty : y ≡ false → (c : Four (List ℕ)) → number ≡ filled (c .value) → parts ≡ beside c → (not number && not parts) ≡ agrees status c
-  unfolding agrees isOneOf oneOf bytes
-  agrees-empty h c en ep = rw (sym e ∙ h) (cases (empty (c .value)) (λ q. cc) (λ q. cc))

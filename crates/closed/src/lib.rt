@@ -2,7 +2,7 @@
 use rules::Delims;
 use value::Fault;
 use value::Rule;
-use value::Words;
+use value::table;
 ghost use mathlib.Core.Path.{_≡_};
 ghost use mathlib.Core.Bool.{false};
 ghost use mathlib.Core.List.{List, [], _∷_};
@@ -143,8 +143,8 @@ fn name(t: &[u8], d: Delims) -> Fault
 {
     let given = component(t, d, 1);
     earlier(
-        part(t, d, true, Rule::Text(48)),
-        part(given, d, false, Rule::Text(48)),
+        part(t, d, true, table::NAME),
+        part(given, d, false, table::NAME),
     )
 }
 
@@ -235,8 +235,8 @@ fn compared(t: &[u8], number: &[u8], d: Delims, beside: bool) -> Fault
     ensures { λ r. ⌜ faultNo r ≡ comparedFault d beside (componentAt d (now (t .entry))) (componentAt d (now (number .entry))) ⌝ }
 {
     earlier(
-        part(t, d, false, Rule::OneOf(Words::Comparators)),
-        part(number, d, beside, Rule::Number),
+        part(t, d, false, table::COMPARE),
+        part(number, d, beside, table::NUMBER),
     )
 }
 
@@ -256,9 +256,9 @@ fn joined(joiner: &[u8], second: &[u8], d: Delims) -> Fault
     ensures { λ r. ⌜ faultNo r ≡ joinedFault d (componentAt d (now (joiner .entry))) (componentAt d (now (second .entry))) ⌝ }
 {
     earlier(
-        part(joiner, d, false, Rule::OneOf(Words::Joiners)),
+        part(joiner, d, false, table::JOIN),
         earlier(
-            part(second, d, false, Rule::Number),
+            part(second, d, false, table::NUMBER),
             unjoined(joiner, second, d),
         ),
     )
@@ -317,17 +317,7 @@ pub fn value(t: &[u8], d: Delims, word: &[u8]) -> ValueRead
         return numbers(t, d);
     }
     if value::equal(word, b"NM") {
-        return single(t, d, Rule::Number);
+        return single(t, d, table::NUMBER);
     }
-    single(t, d, Rule::Text(200))
-}
-
-// Whether the status of OBX-11 agrees with what OBX-5 fills: a value, a part beside it.
-pub fn agrees(status: &[u8], number: bool, parts: bool) -> bool
-    ensures { λ r. ⌜ ((c : Four (List ℕ)) → number ≡ filled (c .value) → parts ≡ J.beside c → r ≡ J.agrees (now (status .entry)) c) ⌝ }
-{
-    if value::one_of(status, b"F P C") {
-        return number;
-    }
-    !number & !parts
+    single(t, d, table::TEXT)
 }

@@ -27,8 +27,8 @@ use Rattle.value.specs.declared.Rule.{Rule}
 use Rattle.judge.specs.Judge.{Raw, Small}
 use Rattle.closed.specs.Closed.{forward, charsetFault, ClosedOf, ValueOf}
 use Rattle.closed.proofs.Pieces.{piece-at, repetition-is, component-at, forward-repeats, forward-long, forward-short, rest-long, rest-more}
-use Rattle.fields.specs.declared.Place.{Place}
-use Rattle.fields.specs.declared.Place.the-variants.{Unread, Must, May}
+use Rattle.value.specs.declared.Place.{Place}
+use Rattle.value.specs.declared.Place.the-variants.{Unread, Must, May}
 use Rattle.fields.specs.declared.Form.{Form}
 use Rattle.fields.specs.declared.Form.the-variants.{One, Three, Charset, Names}
 use Rattle.fields.specs.declared.Walk.{Walk}

@@ -2,7 +2,7 @@
 use closed::ClosedRead;
 use rules::Delims;
 use value::Fault;
-use value::Rule;
+use value::Place;
 ghost use mathlib.Core.Path.{_≡_};
 ghost use mathlib.Core.Bool.{not};
 ghost use mathlib.Core.List.{[], _∷_};
@@ -14,13 +14,6 @@ ghost use Rattle.scan.specs.Scan.{Printable, Proper, onward};
 ghost use Rattle.value.specs.Rules.{faultNo};
 ghost use Rattle.judge.specs.Judge.{Raw};
 ghost use Rattle.fields.specs.Fields.{placeFault, formFault, formHead, Smalls, SmallForm, JudgedOf, ComponentsOf, ReadOf, Begins, Ready, To, ValueTo};
-
-// A component of a field, as the table has it.
-pub enum Place {
-    Unread,
-    Must(Rule),
-    May(Rule),
-}
 
 // What is read of a field: its component 1; some of its first three; the whole of MSH-18 or of PID-5.
 pub enum Form {

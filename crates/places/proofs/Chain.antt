@@ -23,7 +23,7 @@ use Rattle.value.specs.declared.Fault.{Fault}
 use Rattle.value.specs.declared.Rule.{Rule}
 use Rattle.closed.specs.Closed.{forward, charsetFault}
 use Rattle.closed.proofs.Pieces.{piece-at}
-use Rattle.fields.specs.declared.Place.the-variants.{Must}
+use Rattle.value.specs.declared.Place.the-variants.{Must}
 use Rattle.fields.specs.declared.Walk.{Walk}
 use Rattle.fields.specs.declared.Form.{Form}
 use Rattle.fields.specs.declared.Form.the-variants.{One, Three, Charset, Names}

@@ -24,7 +24,7 @@ use Rattle.value.specs.declared.Fault.the-variants.{Nothing, Status, Differs}
 use Rattle.value.specs.Rules.{ruleOf, textOf, faultNo, fineOf}
 use Rattle.value.specs.declared.Words.the-variants.{Oul, R22, OulR22, Modes, Version, Sexes, Classes, Jc10, Group, Re, Types, Flags, Statuses}
 use Rattle.value.specs.declared.Rule.the-variants.{Time, Date, Text, Digits, Capitals, OneOf}
-use Rattle.fields.specs.declared.Place.the-variants.{Unread, Must, May}
+use Rattle.value.specs.declared.Place.the-variants.{Unread, Must, May}
 use Rattle.fields.specs.declared.Form.the-variants.{One, Three, Charset, Names}
 use Rattle.fields.specs.declared.Walk.{Walk}
 use Rattle.fields.specs.Fields.{entryFor, entriesFrom, Begins, To, ValueTo}

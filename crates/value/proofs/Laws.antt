@@ -10,10 +10,12 @@ use borrow.Author.Tests.{ltb-true, ltb-false, eqb-true, ne-eqb, eq-eqb, le-leb, 
 use lib.Dec.{eqb, leb, ltb}
 use lib.ListN.{length, getD, take, drop, length-drop}
 use lib.Seq.{take-all}
-use Rattle.rules.specs.Lists.{bytes, all, any, count, same, split, onto, isOneOf}
+use Rattle.rules.specs.Lists.{bytes, empty, filled, all, any, count, same, split, onto, isOneOf}
 use Rattle.rules.specs.Shift.{within}
 use Rattle.rules.specs.Frame.{digit, capitalOrDigit}
 use Rattle.rules.specs.Value as Val
+use Rattle.rules.specs.Places.{Four}
+use Rattle.rules.specs.Judge.{agrees, beside}
 use Rattle.rules.proofs.Logic.{cases, both, and-false, or-assoc, and-true, or-false}
 use Rattle.rules.proofs.Lists.{here, over, rest-is, part-length, empty-zero, filled-some, all-cons, any-cons, any-nil}
 use Rattle.scan.specs.Scan.{until, is}
@@ -340,3 +342,13 @@ module _ (required : Bool) (rule : Rule) (v : List ℕ) where
     fault-value q y g z = cc (filled-some v h, e v refl)
 
 pub ruleset fault_of·laws = (fault-missing, fault-blank, fault-long, fault-none, fault-value)
+
+-- ---- OBX-11 against OBX-5
+module _ (status : List ℕ) (number parts y : Bool) (e : y ≡ oneOf (70 ∷ 32 ∷ 80 ∷ 32 ∷ 67 ∷ []) status) where
+  pub agrees-filled : y ≡ true → (c : Four (List ℕ)) → number ≡ filled (c .value) → parts ≡ beside c → number ≡ agrees status c
+  unfolding agrees isOneOf oneOf bytes
+  agrees-filled h c en ep = rw (sym e ∙ h) en
+
+  pub agrees-empty : y ≡ false → (c : Four (List ℕ)) → number ≡ filled (c .value) → parts ≡ beside c → (not number && not parts) ≡ agrees status c
+  unfolding agrees isOneOf oneOf bytes
+  agrees-empty h c en ep = rw (sym e ∙ h) (cases (empty (c .value)) (λ q. cc) (λ q. cc))
