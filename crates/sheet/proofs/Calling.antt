@@ -4,7 +4,7 @@ use mathlib.Core.Bool.{Bool, true, false, cond, not, _&&_, _||_}
 use mathlib.Core.List.{List, [], _∷_}
 use Prim.Native.Nat.{ℕ, zero, suc, _+_, _-_, _≤_, _<_}
 use native.Mathlib.Omega.{arith}
-use borrow.Author.Tests.{lt-ltb, le-ltb}
+use borrow.Author.Tests.{lt-ltb, le-ltb, ltb-false}
 use lib.Dec.{eqb, ltb}
 use lib.ListN.{length, getD}
 use Rattle.rules.specs.declared.Delims.{Delims}
@@ -13,13 +13,13 @@ use Rattle.rules.specs.declared.Refusal.{Refusal}
 use Rattle.rules.specs.declared.Written.{Written}
 use Rattle.rules.specs.declared.Written.the-variants.{Wrote, NotWritten}
 use Rattle.rules.specs.Told as T
-use Rattle.rules.specs.Told.{Told, gives, refused, refusal, _>>=_}
+use Rattle.rules.specs.Told.{Told, gives, refused, refusal, toldLength, lengthOf, _>>=_}
 use Rattle.rules.specs.Lists.{empty, split, onto, last}
 use Rattle.rules.specs.Shift.{keeps}
 use Rattle.rules.specs.Row.{Row}
 use Rattle.rules.specs.Sheet.{readSheet}
 use Rattle.rules.specs.Message.{base, written, messageOf, messageTold, toMessage}
-use Rattle.rules.proofs.Logic.{cases, never, not-true, not-false, toldCases}
+use Rattle.rules.proofs.Logic.{cases, not-true, not-false, not-given, toldCases, guard}
 use Rattle.rules.proofs.Split.{split-here, split-there, split-cons, front, later, last-split}
 use Rattle.writer.specs.Over as Over
 use Rattle.compose.specs.declared.Size.{Size}
@@ -127,6 +127,24 @@ module _ (s x : List ℕ) where
             where
               both-ways : (rows : List Row) → rowsIn s ≡ gives rows → (rowsIn s >>= λ rows. messageTold base rows (length x)) ≡ refusal k
               both-ways rows e = let z : toldSize (Not k) ≡ gives (sizeOf d rows) = rw (f, e) at t in absurd (let o : _≡_ {A = ℕ} 0 1 = cc in omega arith)
+
+-- ---- what is written has room
+has-room : (d : Delims) (rows : List Row) (room : ℕ) (m : List ℕ) → messageTold d rows room ≡ gives m → length m ≤ room
+unfolding messageTold
+has-room d rows room m h =
+    let g = guard 44 0 0 (ltb 32768 (length (messageOf d rows)) || ltb 512 (length (written d rows))) _ m h in
+    let k = guard 45 0 0 (ltb room (length (messageOf d rows))) _ m (g .1) in
+    let e : messageOf d rows ≡ m = cc (k .1) in
+    rw (← e) (ltb-false room (length (messageOf d rows)) (k .0))
+
+pub within : (s : List ℕ) (room : ℕ) (r : Written) → toldLength r ≡ lengthOf (toMessage s room) → (n : ℕ) → r ≡ Wrote n → n ≤ room
+unfolding toMessage
+within s room r t n f =
+    toldCases (readSheet s)
+    (λ rows e. toldCases (messageTold base rows room)
+    (λ m g. let h : n ≡ length m = cc (t, f, e, g) in rw h (has-room base rows room m g))
+    (λ k a b g. absurd (let o : _≡_ {A = ℕ} 0 1 = cc (t, f, e, g) in omega arith)))
+    (λ k a b e. absurd (let o : _≡_ {A = ℕ} 0 1 = cc (t, f, e) in omega arith))
 
 -- ---- the end of a sheet
 last-more : (x y : ℕ) (p q : List ℕ) (ps : List (List ℕ)) → empty (last ((x ∷ p) ∷ ps)) ≡ empty (last ((y ∷ q) ∷ ps))

@@ -5,7 +5,7 @@ use rules::Delims;
 use rules::Kind;
 use rules::Written;
 ghost use mathlib.Core.Path.{_≡_};
-ghost use Prim.Native.Nat.{_≤_};
+ghost use Prim.Native.Nat.{ℕ, _≤_};
 ghost use lib.ListN.{length};
 ghost use Rattle.rules.specs.Told.{gives, over, toldLength, lengthOf};
 ghost use Rattle.rules.specs.Lists.{empty, last, split};
@@ -57,6 +57,7 @@ fn write(out: &mut [u8], sheet: &[u8], size: Size, d: Delims) -> Written
 pub fn to_message(sheet: &[u8], out: &mut [u8]) -> Written
     ensures told { λ r. ⌜ toldLength r ≡ lengthOf (toMessage (now (sheet .entry)) (length (now (out .entry)))) ⌝ }
     ensures buffer { λ r. ⌜ now (out .exit) ≡ over (toMessage (now (sheet .entry)) (length (now (out .entry)))) (now (out .entry)) ⌝ }
+    ensures within { λ r. ⌜ ((n : ℕ) → r ≡ Written.Wrote n → n ≤ length (now (out .entry))) ⌝ }
 {
     if 65536 < sheet.len() {
         return Written::NotWritten(compose::refused(Kind::SheetTooLong, 0));
