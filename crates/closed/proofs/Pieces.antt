@@ -88,6 +88,12 @@ unfolding onward
 onward-add sep zero b s = rw zero-add
 onward-add sep (suc a) b s = rw suc-add (onward-add sep a b (after sep s))
 
+-- from the end of a piece on, the next pieces are the same
+pub after-piece : (sep : ℕ) (s : List ℕ) → after sep (drop (length (until (is sep) s)) s) ≡ after sep s
+unfolding until after
+after-piece sep [] = refl
+after-piece sep (x ∷ s) = cases (eqb x sep) (λ e. cc) (λ e. cc (after-piece sep s))
+
 -- ---- how many pieces there are
 pub after-none : (sep : ℕ) (s : List ℕ) → has sep s ≡ false → after sep s ≡ []
 unfolding after

@@ -1,15 +1,14 @@
 -- The laws of a segment's lines. Assumes nothing.
-use Prim.Native.Nat.{ℕ, zero, suc, _+_, _-_, _≤_, _<_}
+use Prim.Native.Nat.{ℕ, suc, _+_, _-_, _≤_}
 use native.Mathlib.Omega.{arith}
-use mathlib.Core.Path.{_≡_, refl, sym, ap, _∙_}
-use mathlib.Core.List.{List, [], _∷_, _++_, map}
-use mathlib.Core.Bool.{Bool, true, false, cond, not, _&&_}
+use mathlib.Core.Path.{_≡_, sym, ap, _∙_}
+use mathlib.Core.List.{List, [], _∷_, _++_}
+use mathlib.Core.Bool.{Bool, true, false, _&&_}
 use borrow.Author.Tests.{ne-eqb}
 use lib.Dec.{eqb}
-use lib.ListN.{length, getD, take, drop}
+use lib.ListN.{length, take}
 use Rattle.rules.specs.declared.Delims.{Delims}
-use Rattle.rules.specs.declared.Name.{Name}
-use Rattle.rules.specs.declared.Name.the-variants.{Msh, Pid, Pv1, Spm, Obr, Orc, Obx, Other}
+use Rattle.rules.specs.declared.Name.the-variants.{Msh, Pid, Pv1, Spm, Obr, Obx}
 use Rattle.rules.specs.Lists.{bytes, has, nth, same, split}
 use Rattle.rules.specs.Shift.{marks, met}
 use Rattle.rules.specs.Places.{places}
@@ -20,11 +19,12 @@ use Rattle.rules.specs.Row.{line, lines}
 use Rattle.rules.specs.Sheet.{keyOf, linesText}
 use Rattle.rules.proofs.Logic.{cases}
 use Rattle.rules.proofs.Lists.{part-length}
-use Rattle.scan.specs.Scan.{until, is, ends, after, onward, next, CutOf, TailOf, Proper}
+use Rattle.scan.specs.Scan.{until, is, ends, onward, next, TailOf, Proper}
 use Rattle.scan.proofs.Laws.{piece-met}
 use Rattle.judge.specs.Judge.{fill}
 use Rattle.closed.specs.Closed.{forward, MarkedOf}
-use Rattle.closed.proofs.Pieces.{met-length, first-piece, piece-at, onward-within, onward-add, until-free, repetition-is, component-at, forward-short}
+use Rattle.closed.proofs.Pieces.{met-length, first-piece, piece-at, onward-within, onward-add, until-free, repetition-is, component-at}
+use Rattle.closed.proofs.Laws.{head-met, last-within}
 use Rattle.report.specs.Fill.{Filled, Lined, keyed}
 use Rattle.report.proofs.Filling.{lined-then}
 use Rattle.report.specs.Section.{linesIn, modeLines, nameLines, namesLines, birthLines, itemLines, fourLines, fourIn, statusLines}
@@ -35,10 +35,7 @@ field-within sep n t r e = omega (arith, met-length r, met-length t, ap length e
 
 pub behind-within : (d : Delims) (t r : List ℕ) → Proper d → met r ≡ next d (met t) → length r ≤ length t
 unfolding forward
-behind-within d t r p e = omega (arith, met-length r, met-length t, ap length e, forward-short d p 1 (met t))
-
-pub component-is : (d : Delims) (t : List ℕ) (n : ℕ) (clean : Bool) → CutOf d t n clean → met (take n t) ≡ until (ends d) (met t)
-component-is d t n clean c = ap (λ k. met (take k t)) (c .long) ∙ piece-met (ends d) t
+behind-within d t r p e = last-within t r d 1 p e
 
 pub component-within : (t : List ℕ) (n : ℕ) → n ≤ length t → length (take n t) ≤ length t
 component-within t n h = omega (arith, part-length n t h)
@@ -56,10 +53,16 @@ raw-is d q body p n =
     (component-at d q n (onward (d .field) p body))
 
 -- ---- the segments
-module _ (d : Delims) (q : Proper d) (s : List ℕ) where
-  first-is : (t a : List ℕ) (p : ℕ) → met t ≡ onward (d .field) p (met s) → met a ≡ until (ends d) (met t) → met a ≡ rawIn d (met s) p 1
-  unfolding forward
-  first-is t a p e f = f ∙ ap (until (ends d)) e ∙ sym (raw-is d q (met s) p 0)
+first-at : (d : Delims) → Proper d → (s t : List ℕ) (a : ℕ) → met t ≡ onward (d .field) a (met s) → until (ends d) (met t) ≡ rawIn d (met s) a 1
+unfolding forward
+first-at d q s t a e = ap (until (ends d)) e ∙ sym (raw-is d q (met s) a 0)
+
+name-at : (d : Delims) → Proper d → (s t : List ℕ) (a : ℕ) → met t ≡ onward (d .field) a (met s) → until (ends d) (next d (met t)) ≡ rawIn d (met s) a 2
+unfolding forward
+name-at d q s t a e = ap (λ m. until (ends d) (next d m)) e ∙ sym (raw-is d q (met s) a 1)
+
+first-is : (d : Delims) → Proper d → (s t a : List ℕ) (p : ℕ) → met t ≡ onward (d .field) p (met s) → met a ≡ until (ends d) (met t) → met a ≡ rawIn d (met s) p 1
+first-is d q s t a p e f = f ∙ first-at d q s t p e
 
 -- to name it is to compute the lines of a segment from the tables
 unfoldable tables : Unit {0}
@@ -211,14 +214,6 @@ patient-is d s t u w id k x y z o r i j q et ei eu ew ek p1 p2 p3 =
     rw (ek, first-is d q s t id 3 et ei, field-of d s u 5 u5, field-at d q s w 7 0 w7, field-at d q s w 7 1 w7) at (lined-then (lined-then p1 p2) p3)
 
 -- ---- OBX
-name-at : (d : Delims) → Proper d → (s t : List ℕ) (a : ℕ) → met t ≡ onward (d .field) a (met s) → until (ends d) (next d (met t)) ≡ rawIn d (met s) a 2
-unfolding forward
-name-at d q s t a e = ap (λ m. until (ends d) (next d m)) e ∙ sym (raw-is d q (met s) a 1)
-
-first-at : (d : Delims) → Proper d → (s t : List ℕ) (a : ℕ) → met t ≡ onward (d .field) a (met s) → until (ends d) (met t) ≡ rawIn d (met s) a 1
-unfolding forward
-first-at d q s t a e = ap (until (ends d)) e ∙ sym (raw-is d q (met s) a 0)
-
 pub result-is : (d : Delims) (s t u v w kind x y z o : List ℕ) (r i j : ℕ) → Proper d → met t ≡ onward (d .field) 2 (met s) → met kind ≡ until (ends d) (met t)
     → met u ≡ onward (d .field) 1 (met t) → met v ≡ onward (d .field) 2 (met u) → met w ≡ onward (d .field) 1 (met v)
     → Lined 0 x (itemLines d (met u) (met kind)) r y
@@ -235,7 +230,7 @@ result-is d s t u v w kind x y z o r i j q et ek eu ev ew p1 p2 p3 =
 
 pub ruleset field·laws = (field-within)
 
-pub ruleset component·laws = (component-is, component-within, part-length)
+pub ruleset component·laws = (head-met, component-within, part-length)
 
 pub ruleset behind·laws = (behind-within)
 

@@ -1,8 +1,8 @@
+-- `report::fill::all_clear` meets its contract.
 use borrow.Author.Needs.{needs}
-use native.Mathlib.Omega.{arith}
-use Prim.Native.Nat.{ℕ, _+_, _-_, _*_, _≤_, _<_}
+use Prim.Native.Nat.{_-_, _≤_}
 use mathlib.Core.Path.{_≡_}
-use lib.ListN.{length, take, drop}
+use lib.ListN.{length, drop}
 use Rattle.rules.specs.Lists.{all}
 use Rattle.report.specs.Fill.{clearOf}
 use Rattle.report.proofs.Filling.{all-clear·laws}

@@ -1,10 +1,6 @@
+-- `report::fill::plain` meets its contract.
 use borrow.Author.Needs.{needs}
-use native.Mathlib.Omega.{arith}
-use Prim.Native.Nat.{ℕ, _+_, _-_, _*_, _≤_, _<_}
-use mathlib.Core.Path.{_≡_}
-use lib.ListN.{length, take, drop}
 use Rattle.report.proofs.Filling.{plain·laws}
-use borrow.Author.Needs.{needs}
 use Rattle.report.proofs.fill.plain.Statement.{statement}
 use Rattle.report.proofs.fill.plain.Tie as tie
 

@@ -1,10 +1,6 @@
+-- `report::section::component` meets its contract.
 use borrow.Author.Needs.{needs}
-use native.Mathlib.Omega.{arith}
-use Prim.Native.Nat.{ℕ, _+_, _-_, _*_, _≤_, _<_}
-use mathlib.Core.Path.{_≡_}
-use lib.ListN.{length, take, drop}
 use Rattle.report.proofs.Sections.{component·laws}
-use borrow.Author.Needs.{needs}
 use Rattle.report.proofs.section.component.Statement.{statement}
 use Rattle.report.proofs.section.component.Tie as tie
 

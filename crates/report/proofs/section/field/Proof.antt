@@ -1,10 +1,6 @@
+-- `report::section::field` meets its contract.
 use borrow.Author.Needs.{needs}
-use native.Mathlib.Omega.{arith}
-use Prim.Native.Nat.{ℕ, _+_, _-_, _*_, _≤_, _<_}
-use mathlib.Core.Path.{_≡_}
-use lib.ListN.{length, take, drop}
 use Rattle.report.proofs.Sections.{field·laws}
-use borrow.Author.Needs.{needs}
 use Rattle.report.proofs.section.field.Statement.{statement}
 use Rattle.report.proofs.section.field.Tie as tie
 
