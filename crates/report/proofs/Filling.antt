@@ -18,7 +18,7 @@ use Rattle.rules.specs.Shift.{isOne, mark, marks, met, byteOf, step}
 use Rattle.rules.specs.Escape.{At, plain, opened, named, letters, meaning, push, unescapeAt, unescape}
 use Rattle.rules.specs.Judge.{plainOf, unescapedOr}
 use Rattle.rules.proofs.Logic.{cases, optionCases, both, not-true, not-false, neither, and-false}
-use Rattle.rules.proofs.Lists.{here, over, rest-is, part-length, all-cons, all-first}
+use Rattle.rules.proofs.Lists.{here, over, rest-is, all-cons, all-first}
 use Rattle.rules.proofs.Split.{ended-append}
 use Rattle.rules.proofs.Modes.{byte-met, met-as, length-marks}
 use Rattle.scan.specs.Scan.{escapes, Proper}
@@ -209,19 +209,3 @@ module _ (at r k : ℕ) (x y z a b : List ℕ) where
 
   pub three-is : (c : List ℕ) → Lined at x (a ∷ b ∷ []) r y → Lined r y (c ∷ []) k z → Lined at x (a ∷ b ∷ c ∷ []) k z
   three-is c p q = lined-then p q
-
-pub ruleset lesser·laws = (least-first, least-second)
-
-pub ruleset put·laws = (put-fills, prefix-room, part-length)
-
-pub ruleset clear·laws = (clear-is)
-
-pub ruleset all-clear·laws = (clear-stops, clear-goes, clear-ends)
-
-pub ruleset plain·laws = (value-within, value-clear, value-got, got-within, got-short, value-faulty, value-over, part-length)
-
-pub ruleset put-at·laws = (back)
-
-pub ruleset line·laws = (line-is)
-
-pub ruleset two·laws = (two-is, three-is)

@@ -24,7 +24,7 @@ use Rattle.scan.proofs.Laws.{piece-met}
 use Rattle.judge.specs.Judge.{fill}
 use Rattle.closed.specs.Closed.{forward, MarkedOf}
 use Rattle.closed.proofs.Pieces.{met-length, first-piece, piece-at, onward-within, onward-add, until-free, repetition-is, component-at}
-use Rattle.closed.proofs.Laws.{head-met, last-within}
+use Rattle.closed.proofs.Laws.{last-within}
 use Rattle.report.specs.Fill.{Filled, Lined, keyed}
 use Rattle.report.proofs.Filling.{lined-then}
 use Rattle.report.specs.Section.{linesIn, modeLines, nameLines, namesLines, birthLines, itemLines, fourLines, fourIn, statusLines}
@@ -227,37 +227,3 @@ result-is d s t u v w kind x y z o r i j q et ek eu ev ew p1 p2 p3 =
     let k2 : met kind ≡ rawIn d (met s) 2 1 = first-is d q s t kind 2 et ek in
     let i3 : until (ends d) (met u) ≡ rawIn d (met s) 3 1 = first-at d q s u 3 u3 in
     rw (i3, name-at d q s u 3 u3, k2, field-of d s v 5 v5, field-at d q s w 6 0 w6, field-at d q s w 6 2 w6, field-at d q s w 6 5 w6) at (lined-then (lined-then p1 p2) p3)
-
-pub ruleset field·laws = (field-within)
-
-pub ruleset component·laws = (head-met, component-within, part-length)
-
-pub ruleset behind·laws = (behind-within)
-
-pub ruleset visit·laws = (visit-is)
-
-pub ruleset specimen·laws = (specimen-is)
-
-pub ruleset order·laws = (order-is)
-
-pub ruleset modes·laws = (modes-is)
-
-pub ruleset status·laws = (status-is)
-
-pub ruleset item·laws = (item-is)
-
-pub ruleset header·laws = (header-is)
-
-pub ruleset piece·laws = (piece-is, component-within, part-length)
-
-pub ruleset four·laws = (four-is)
-
-pub ruleset numbers·laws = (numbers-is)
-
-pub ruleset beyond·laws = (field-within)
-
-pub ruleset parts·laws = (parts-sn, parts-one)
-
-pub ruleset is-sn·laws = (sn-is)
-
-pub ruleset result·laws = (result-is)

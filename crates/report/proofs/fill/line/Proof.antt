@@ -1,6 +1,6 @@
 -- `report::fill::line` meets its contract.
 use borrow.Author.Needs.{needs}
-use Rattle.report.proofs.Filling.{line·laws}
+use Rattle.report.proofs.Filling.{line-is}
 use Rattle.report.proofs.fill.line.Statement.{statement}
 use Rattle.report.proofs.fill.line.Tie as tie
 
@@ -20,7 +20,7 @@ same-length : tie.Need-same-length
 same-length c = search needs
 
 returns : tie.Need-returns
-returns c = search (line·laws, needs)
+returns c = search (line-is, needs)
 
 pub line-spec : {M : Type 1} → statement M
 line-spec =

@@ -1,6 +1,6 @@
 -- `report::fill::put_at` meets its contract.
 use borrow.Author.Needs.{needs}
-use Rattle.report.proofs.Filling.{put-at·laws}
+use Rattle.report.proofs.Filling.{back}
 use Rattle.report.proofs.fill.put_at.Statement.{statement}
 use Rattle.report.proofs.fill.put_at.Tie as tie
 
@@ -26,7 +26,7 @@ same-length : tie.Need-same-length
 same-length c = search needs
 
 returns : tie.Need-returns
-returns c = search (put-at·laws, needs)
+returns c = search (back, needs)
 
 pub put-at-spec : {M : Type 1} → statement M
 put-at-spec =

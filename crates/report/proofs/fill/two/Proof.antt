@@ -1,6 +1,6 @@
 -- `report::fill::two` meets its contract.
 use borrow.Author.Needs.{needs}
-use Rattle.report.proofs.Filling.{two·laws}
+use Rattle.report.proofs.Filling.{two-is}
 use Rattle.report.proofs.fill.two.Statement.{statement}
 use Rattle.report.proofs.fill.two.Tie as tie
 
@@ -14,7 +14,7 @@ same-length : tie.Need-same-length
 same-length c = search needs
 
 returns : tie.Need-returns
-returns c = search (two·laws, needs)
+returns c = search (two-is, needs)
 
 pub two-spec : {M : Type 1} → statement M
 two-spec = tie.close (tie.spec line-requires line-requires-2 same-length returns)

@@ -1,6 +1,6 @@
 -- `report::section::beyond` meets its contract.
 use borrow.Author.Needs.{needs}
-use Rattle.report.proofs.Sections.{beyond·laws}
+use Rattle.report.proofs.Sections.{field-within}
 use Rattle.report.proofs.section.beyond.Statement.{statement}
 use Rattle.report.proofs.section.beyond.Tie as tie
 
@@ -8,7 +8,7 @@ skip-requires : tie.Need-skip-requires
 skip-requires c κs = search needs
 
 returns : tie.Need-returns
-returns c = search (beyond·laws, needs)
+returns c = search (field-within, needs)
 
 pub beyond-spec : {M : Type 1} → statement M
 beyond-spec = tie.close (tie.spec skip-requires returns)

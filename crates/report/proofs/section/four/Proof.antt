@@ -1,7 +1,7 @@
 -- `report::section::four` meets its contract.
 use borrow.Author.Needs.{needs}
 use Rattle.rules.specs.Lists.{bytes}
-use Rattle.report.proofs.Sections.{four·laws}
+use Rattle.report.proofs.Sections.{four-is}
 use Rattle.report.proofs.section.four.Statement.{statement}
 use Rattle.report.proofs.section.four.Tie as tie
 
@@ -28,7 +28,7 @@ same-length c = search needs
 
 returns : tie.Need-returns
 unfolding bytes
-returns c = search (four·laws, needs)
+returns c = search (four-is, needs)
 
 pub four-spec : {M : Type 1} → statement M
 four-spec =

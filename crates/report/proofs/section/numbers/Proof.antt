@@ -1,6 +1,6 @@
 -- `report::section::numbers` meets its contract.
 use borrow.Author.Needs.{needs}
-use Rattle.report.proofs.Sections.{numbers·laws}
+use Rattle.report.proofs.Sections.{numbers-is}
 use Rattle.report.proofs.section.numbers.Statement.{statement}
 use Rattle.report.proofs.section.numbers.Tie as tie
 
@@ -32,7 +32,7 @@ same-length : tie.Need-same-length
 same-length c = search needs
 
 returns : tie.Need-returns
-returns c = search (numbers·laws, needs)
+returns c = search (numbers-is, needs)
 
 pub numbers-spec : {M : Type 1} → statement M
 numbers-spec =

@@ -1,7 +1,7 @@
 -- `report::section::visit` meets its contract.
 use borrow.Author.Needs.{needs}
 use Rattle.rules.specs.Lists.{bytes}
-use Rattle.report.proofs.Sections.{visit·laws}
+use Rattle.report.proofs.Sections.{visit-is}
 use Rattle.report.proofs.section.visit.Statement.{statement}
 use Rattle.report.proofs.section.visit.Tie as tie
 
@@ -22,7 +22,7 @@ same-length c = search needs
 
 returns : tie.Need-returns
 unfolding bytes
-returns c = search (visit·laws, needs)
+returns c = search (visit-is, needs)
 
 pub visit-spec : {M : Type 1} → statement M
 visit-spec =
