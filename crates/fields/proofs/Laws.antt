@@ -17,7 +17,6 @@ use Rattle.rules.specs.Judge as J
 use Rattle.rules.specs.View.{componentOf, firstRepetition, seenIn}
 use Rattle.rules.proofs.Logic.{never, not-true, not-false, then-zero}
 use Rattle.rules.proofs.Lists.{rest-is, part-length}
-use Rattle.rules.proofs.Modes.{length-marks}
 use Rattle.scan.specs.Scan.{until, is, ends, after, next, onward, plainText, CutOf, TailOf, Proper}
 use Rattle.scan.proofs.Laws.{from-met, piece-met, ends-far, far-is}
 use Rattle.value.specs.Rules.{ruleOf, faultNo, fineOf}
@@ -26,14 +25,13 @@ use Rattle.value.specs.declared.Fault.the-variants.{Nothing, Repeated}
 use Rattle.value.specs.declared.Rule.{Rule}
 use Rattle.judge.specs.Judge.{Raw, Small}
 use Rattle.closed.specs.Closed.{forward, charsetFault, ClosedOf, ValueOf}
-use Rattle.closed.proofs.Pieces.{piece-at, repetition-is, component-at, forward-repeats, forward-long, forward-short, rest-long, rest-more}
+use Rattle.closed.proofs.Pieces.{met-length, piece-at, after-piece, repetition-is, component-at, forward-repeats, forward-long, forward-short, rest-long, rest-more}
 use Rattle.value.specs.declared.Place.{Place}
 use Rattle.value.specs.declared.Place.the-variants.{Unread, Must, May}
 use Rattle.fields.specs.declared.Form.{Form}
 use Rattle.fields.specs.declared.Form.the-variants.{One, Three, Charset, Names}
 use Rattle.fields.specs.declared.Walk.{Walk}
 use Rattle.fields.specs.Fields.{placeFault, Smalls, JudgedOf, componentsFault, ComponentsOf, entriesFrom, entriesFault, formFault, formHead, SmallForm, ReadOf, Ready, Went, To, ValueTo}
-use Rattle.fields.proofs.Pieces.{after-field}
 
 -- ---- faults
 pub fine-zero : (f : Fault) → fineOf f ≡ true → faultNo f ≡ 0
@@ -120,10 +118,6 @@ one-read d p place t f n k more j e =
 
 pub part-within : (t : List ℕ) (n k : ℕ) → n ≤ length t → k ≤ length (take (length t - n) (drop n t)) → n + k ≤ length t
 part-within t n k h e = omega (arith, part-long t n)
-
-met-length : (t : List ℕ) → length (met t) ≡ length t
-unfolding met
-met-length t = length-marks 0x0D _ t
 
 -- a component before the others
 module _ (d : Delims) (p : Proper d) (t u : List ℕ) (e : met u ≡ next d (met t)) where
@@ -248,7 +242,7 @@ module _ (d : Delims) (s : List ℕ) (n : ℕ) (own : List ℕ → ℕ) (first :
           told = x .told ∙ ap (λ l. own (until (is (d .field)) l)) g;
           numbered = a;
           raw = sym (ap (λ l. map byteOf (first l)) g) ∙ x .raw ∙ ap (λ i. take (r .head) (drop i s)) (sym b);
-          rest = ap (λ l. after (d .field) (met l)) m ∙ ap (after (d .field)) (sym (from-met (is (d .field)) (far-is (d .field) (omega (arith, p .field .high))) t)) ∙ after-field (d .field) (met t) ∙ ap (after (d .field)) g;
+          rest = ap (λ l. after (d .field) (met l)) m ∙ ap (after (d .field)) (sym (from-met (is (d .field)) (far-is (d .field) (omega (arith, p .field .high))) t)) ∙ after-piece (d .field) (met t) ∙ ap (after (d .field)) g;
         };
   }
 

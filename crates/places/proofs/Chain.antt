@@ -29,7 +29,7 @@ use Rattle.fields.specs.declared.Form.{Form}
 use Rattle.fields.specs.declared.Form.the-variants.{One, Three, Charset, Names}
 use Rattle.fields.specs.Fields.{entryFor, entriesFrom, entriesFault, formFault, formHead, Begins, Judged, Went, To}
 use Rattle.places.specs.Check.{here, segment, Walked, FoundIn}
-use Rattle.fields.proofs.Pieces.{onward-add}
+use Rattle.closed.proofs.Pieces.{onward-add}
 use Rattle.places.proofs.Plain.{lettersOnly, raw-value}
 use Rattle.fields.proofs.Laws.{fine-zero, fault-some, component-is}
 
