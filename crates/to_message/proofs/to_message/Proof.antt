@@ -1,7 +1,7 @@
-use Rattle.sheet.proofs.Calling.{call-40, call-41, call-41-end, call-refused, call-size, call-all, within}
+use Rattle.to_message.proofs.Calling.{call-40, call-41, call-41-end, call-refused, call-size, call-all, within}
 use borrow.Author.Needs.{needs}
-use Rattle.sheet.proofs.to_message.Statement.{statement}
-use Rattle.sheet.proofs.to_message.Tie as tie
+use Rattle.to_message.proofs.to_message.Statement.{statement}
+use Rattle.to_message.proofs.to_message.Tie as tie
 
 refused-requires : tie.Need-refused-requires
 refused-requires c κs = search needs

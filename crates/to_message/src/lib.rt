@@ -10,7 +10,7 @@ ghost use lib.ListN.{length};
 ghost use Rattle.rules.specs.Told.{gives, over, toldLength, lengthOf};
 ghost use Rattle.rules.specs.Lists.{empty, last, split};
 ghost use Rattle.rules.specs.Message.{base, toMessage};
-ghost use Rattle.sheet.specs.Call.{sizeIn, messageIn, Composed};
+ghost use Rattle.to_message.specs.Call.{sizeIn, messageIn, Composed};
 
 // Whether a sheet is empty or ends in 0A.
 fn ends(s: &[u8]) -> bool

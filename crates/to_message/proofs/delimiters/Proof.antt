@@ -1,7 +1,7 @@
 use mathlib.Core.Path.{refl}
 use Rattle.rules.specs.Message.{base}
-use Rattle.sheet.proofs.delimiters.Statement.{statement}
-use Rattle.sheet.proofs.delimiters.Tie as tie
+use Rattle.to_message.proofs.delimiters.Statement.{statement}
+use Rattle.to_message.proofs.delimiters.Tie as tie
 
 returns : tie.Need-returns
 unfolding base

@@ -1,7 +1,7 @@
-use Rattle.sheet.proofs.Calling.{ends-none, ends-some}
+use Rattle.to_message.proofs.Calling.{ends-none, ends-some}
 use borrow.Author.Needs.{needs}
-use Rattle.sheet.proofs.ends.Statement.{statement}
-use Rattle.sheet.proofs.ends.Tie as tie
+use Rattle.to_message.proofs.ends.Statement.{statement}
+use Rattle.to_message.proofs.ends.Tie as tie
 
 returns : tie.Need-returns
 returns c = search (ends-none, needs)

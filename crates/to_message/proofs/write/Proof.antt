@@ -1,7 +1,7 @@
-use Rattle.sheet.proofs.Calling.{write-44, write-45, write-all}
+use Rattle.to_message.proofs.Calling.{write-44, write-45, write-all}
 use borrow.Author.Needs.{needs}
-use Rattle.sheet.proofs.write.Statement.{statement}
-use Rattle.sheet.proofs.write.Tie as tie
+use Rattle.to_message.proofs.write.Statement.{statement}
+use Rattle.to_message.proofs.write.Tie as tie
 
 refused-requires : tie.Need-refused-requires
 refused-requires c κs = search needs

@@ -26,7 +26,7 @@ use Rattle.compose.specs.declared.Size.{Size}
 use Rattle.compose.specs.declared.Passed.{Passed}
 use Rattle.compose.specs.declared.Passed.the-variants.{All, Not}
 use Rattle.compose.specs.Compose.{refusalAt, toldSize, sizeOf, rowsIn, Pass}
-use Rattle.sheet.specs.Call.{Composed}
+use Rattle.to_message.specs.Call.{Composed}
 
 composed-as : {t u : Told (List ℕ)} {x : List ℕ} {r : Written} {y : List ℕ} → t ≡ u → Composed u x r y → Composed t x r y
 composed-as e p = rw e p
