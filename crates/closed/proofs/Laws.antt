@@ -247,6 +247,9 @@ module _ (d : Delims) (f : List ℕ) (at k : ℕ) where
   pub past-within : at < length f → k ≤ length (take (length f - at) (drop at f)) → at + k ≤ length f
   past-within h e = omega (arith, ap length (rest-is f at), length-drop at f)
 
+pub rest-within : (f : List ℕ) (at : ℕ) → length (take (length f - at) (drop at f)) ≤ length f
+rest-within f at = omega (arith, ap length (rest-is f at), length-drop at f)
+
 pub name-is : (t given : List ℕ) (d : Delims) (f g r : ℕ) → Proper d → met given ≡ forward d 1 (met t) → f ≡ judge d true (ruleOf (Text 48)) (componentAt d t)
     → g ≡ judge d false (ruleOf (Text 48)) (componentAt d given) → r ≡ (f then g) → r ≡ nameFault d (repetitionAt d t)
 unfolding nameFault componentOf ruleOf forward

@@ -121,9 +121,10 @@ fn marked(t: &[u8], d: Delims, mark: u8) -> bool
 }
 
 // The rest of the field f from its first repetition on that bears the mark; nothing where none does.
-fn repetition(f: &[u8], d: Delims, mark: u8) -> &[u8]
+pub fn repetition(f: &[u8], d: Delims, mark: u8) -> &[u8]
     requires { ⌜ Proper d × (has (d .field) (met (now f)) ≡ false) ⌝ }
     ensures { λ r. ⌜ MarkedOf d mark (met (now (f .entry))) (now r) ⌝ }
+    ensures within { λ r. ⌜ length (now r) ≤ length (now (f .entry)) ⌝ }
 {
     let mut at = 0;
     while at < f.len() {
