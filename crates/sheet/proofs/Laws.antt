@@ -7,7 +7,7 @@ use native.Mathlib.Numerals.{add-one}
 use native.Mathlib.Omega.{arith}
 use borrow.Author.Tests.{leb-true, lt-ltb, le-ltb}
 use lib.Dec.{eqb, leb, ltb}
-use lib.ListN.{length, getD, take, drop, length-drop}
+use lib.ListN.{length, getD, take, drop, length-append, length-drop}
 use lib.Seq.{drop-drop}
 use Rattle.rules.specs.declared.Delims.{Delims}
 use Rattle.rules.specs.declared.Counts.{Counts}
@@ -247,3 +247,11 @@ module _ (m : List ℕ) (a : Answer) (e : told a ≡ checkTold m) where
 
     pub refused-buffer : (room : ℕ) (x : List ℕ) → x ≡ over (toSheet m room) x
     refused-buffer room x = ap (λ (t : Told (List ℕ)). over t x) (sym (not-told room))
+
+-- ---- what is written lies in the buffer
+pub wrote-within : (t : Told (List ℕ)) (x y : List ℕ) (r : Written) (k : ℕ) → y ≡ over t x → toldLength r ≡ lengthOf t → r ≡ Wrote k → k ≤ length y
+wrote-within (gives w) x y r k b h e =
+    let z : gives k ≡ gives (length w) = sym (ap toldLength e) ∙ h in
+    let q : k ≡ length w = cc in
+    omega (arith, ap length b, length-append w (drop (length w) x))
+wrote-within (refused n i f) x y r k b h e = not-given (sym (sym (ap toldLength e) ∙ h))

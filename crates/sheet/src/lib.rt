@@ -42,7 +42,7 @@ fn write(out: &mut [u8], m: &[u8], d: Delims) -> Written
     requires { ⌜ Sound (now m) d ⌝ }
     ensures { λ r. ⌜ Answered (sheetTold (view (now (m .entry))) (length (now (out .entry)))) (now (out .entry)) r (now (out .exit)) ⌝ }
 {
-    let mut nothing = [0u8; 1];
+    let mut nothing = [0u8; 0];
     let n = pass(&mut nothing, m, d);
     if out.len() < n {
         return Written::NotWritten(Refusal {
