@@ -166,7 +166,7 @@ unfolding fill
 fill-nil [] = refl
 fill-nil (x ∷ b) = refl
 
-length-fill : (w old : List ℕ) → length (fill w old) ≡ length old
+pub length-fill : (w old : List ℕ) → length (fill w old) ≡ length old
 unfolding fill
 length-fill [] old = refl
 length-fill (x ∷ w) [] = refl
