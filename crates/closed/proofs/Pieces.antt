@@ -1,6 +1,5 @@
 -- The specification's pieces, as the walk finds them. Assumes nothing.
 use Prim.Native.Nat.{ℕ, zero, suc, _+_, _≤_, _<_}
-use native.Mathlib.Nat.{zero-add, suc-add}
 use native.Mathlib.Omega.{arith}
 use mathlib.Core.Path.{_≡_, refl, sym, ap, _∙_}
 use mathlib.Core.List.{List, [], _∷_}
@@ -9,20 +8,13 @@ use borrow.Author.Tests.{eqb-true, lt-ltb, le-ltb}
 use lib.Dec.{eqb, ltb, leb·suc-suc}
 use lib.ListN.{length, drop}
 use Rattle.rules.specs.declared.Delims.{Delims}
-use Rattle.rules.specs.declared.Mode.the-variants.{One}
 use Rattle.rules.specs.Lists.{split, onto, has, nth}
-use Rattle.rules.specs.Shift.{met}
 use Rattle.rules.proofs.Logic.{cases, never, neither, or-false}
 use Rattle.rules.proofs.Lists.{has-nil, has-here, has-there, has-first}
 use Rattle.rules.proofs.Split.{split-nil, split-here, split-there, split-none, pieces-length}
-use Rattle.rules.proofs.Modes.{length-marks}
 use Rattle.scan.specs.Scan.{until, is, ends, after, onward, next, nextFrom, Proper}
 use Rattle.scan.proofs.Laws.{until-yes, until-no, until-nil}
 use Rattle.closed.specs.Closed.{endsRepetition, forward}
-
-pub met-length : (t : List ℕ) → length (met t) ≡ length t
-unfolding met
-met-length t = length-marks 0x0D One t
 
 -- ---- the n-th piece
 onto-head : (x : ℕ) (ps : List (List ℕ)) → nth (onto x ps) 0 ≡ x ∷ nth ps 0
@@ -82,17 +74,6 @@ pub onward-within : (sep n : ℕ) (s : List ℕ) → length (onward sep n s) ≤
 unfolding onward
 onward-within sep zero s = omega arith
 onward-within sep (suc n) s = omega (arith, onward-within sep n (after sep s), after-within sep s)
-
-pub onward-add : (sep a b : ℕ) (s : List ℕ) → onward sep b (onward sep a s) ≡ onward sep (a + b) s
-unfolding onward
-onward-add sep zero b s = rw zero-add
-onward-add sep (suc a) b s = rw suc-add (onward-add sep a b (after sep s))
-
--- from the end of a piece on, the next pieces are the same
-pub after-piece : (sep : ℕ) (s : List ℕ) → after sep (drop (length (until (is sep) s)) s) ≡ after sep s
-unfolding until after
-after-piece sep [] = refl
-after-piece sep (x ∷ s) = cases (eqb x sep) (λ e. cc) (λ e. cc (after-piece sep s))
 
 -- ---- how many pieces there are
 pub after-none : (sep : ℕ) (s : List ℕ) → has sep s ≡ false → after sep s ≡ []

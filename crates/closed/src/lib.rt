@@ -2,13 +2,13 @@
 use rules::Delims;
 use value::Fault;
 use value::Rule;
+use value::earlier;
 use value::table;
 ghost use mathlib.Core.Path.{_≡_};
 ghost use mathlib.Core.Bool.{false};
 ghost use mathlib.Core.List.{List, [], _∷_};
 ghost use Prim.Native.Nat.{ℕ, _≤_};
 ghost use lib.ListN.{length};
-ghost use Rattle.rules.specs.Told.{_then_};
 ghost use Rattle.rules.specs.Lists.{bytes, empty, filled, same, has};
 ghost use Rattle.rules.specs.Shift.{met};
 ghost use Rattle.rules.specs.Places.{Four, valueRules};
@@ -63,16 +63,6 @@ fn part(t: &[u8], d: Delims, required: bool, rule: Rule) -> Fault
     let c = scan::first(t, d);
     let n = c.len;
     judge::judge(&t[..n], c.clean, d, required, rule)
-}
-
-// The earlier of two faults.
-fn earlier(a: Fault, b: Fault) -> Fault
-    ensures { λ r. ⌜ faultNo r ≡ (faultNo a then faultNo b) ⌝ }
-{
-    if value::fine(a) {
-        return b;
-    }
-    a
 }
 
 // Whether s is the byte b and then the word.

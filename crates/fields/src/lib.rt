@@ -25,16 +25,6 @@ pub enum Form {
 
 // ---- faults
 
-// The first of two faults.
-pub fn first_of(f: Fault, g: Fault) -> Fault
-    ensures { λ r. ⌜ faultNo r ≡ (faultNo f then faultNo g) ⌝ }
-{
-    if value::fine(f) {
-        return g;
-    }
-    f
-}
-
 // A fault where something doesn't hold.
 pub fn unless(holds: bool, f: Fault) -> Fault
     ensures { λ r. ⌜ faultNo r ≡ (faultNo f when not holds) ⌝ }
@@ -123,7 +113,7 @@ fn two(t: &[u8], d: Delims, a: Place, b: Place) -> Components
     let g = r.fault;
     Components {
         repeats: r.repeats,
-        fault: first_of(f, g),
+        fault: value::earlier(f, g),
         head,
         len: t.len() - u.len() + r.len,
     }
@@ -142,7 +132,7 @@ fn three(t: &[u8], d: Delims, a: Place, b: Place, c: Place) -> Components
     let g = r.fault;
     Components {
         repeats: r.repeats,
-        fault: first_of(f, g),
+        fault: value::earlier(f, g),
         head,
         len: t.len() - u.len() + r.len,
     }

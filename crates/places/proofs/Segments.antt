@@ -30,7 +30,7 @@ use Rattle.fields.specs.declared.Walk.{Walk}
 use Rattle.fields.specs.Fields.{entryFor, entriesFrom, Begins, To, ValueTo}
 use Rattle.places.specs.Check.{ResultAt, here, segment, Walked, FoundIn, OrderAt}
 use Rattle.places.proofs.Plain.{lettersOnly}
-use Rattle.fields.proofs.Laws.{fine-zero}
+use Rattle.value.proofs.Laws.{fine-zero}
 use Rattle.places.proofs.Chain.{begins, step, go, last, field-from, found, then-by, earlier-fine, earlier-zero, value-read}
 
 whole-piece : (f : ℕ) → f ≡ f - 0

@@ -7,7 +7,6 @@ use fields::Valued;
 use fields::Walk;
 use fields::begin;
 use fields::field;
-use fields::first_of;
 use fields::unless;
 use fields::value_field;
 use rules::Delims;
@@ -125,7 +124,7 @@ pub fn orc(s: &[u8], d: Delims, order: &[u8]) -> Found
     let at = w.start;
     let end = at + w.head;
     let same = value::equal(&s[at..end], order);
-    let fault = first_of(f, unless(same, Fault::Differs));
+    let fault = value::earlier(f, unless(same, Fault::Differs));
     Found {
         fault,
         field: w.field,
@@ -162,7 +161,7 @@ pub fn obx(s: &[u8], d: Delims) -> Found
     let at = w.start;
     let end = at + w.head;
     let agrees = value::agrees(&s[at..end], v.filled, v.beside);
-    let fault = first_of(f, unless(agrees, Fault::Status));
+    let fault = value::earlier(f, unless(agrees, Fault::Status));
     Found {
         fault,
         field: w.field,

@@ -19,11 +19,12 @@ use Rattle.rules.specs.Row.{line, lines}
 use Rattle.rules.specs.Sheet.{keyOf, linesText}
 use Rattle.rules.proofs.Logic.{cases}
 use Rattle.rules.proofs.Lists.{part-length}
+use Rattle.rules.proofs.Modes.{length-met}
 use Rattle.scan.specs.Scan.{until, is, ends, onward, next, TailOf, Proper}
-use Rattle.scan.proofs.Laws.{piece-met}
+use Rattle.scan.proofs.Laws.{piece-met, onward-add}
 use Rattle.judge.specs.Judge.{fill}
 use Rattle.closed.specs.Closed.{forward, MarkedOf}
-use Rattle.closed.proofs.Pieces.{met-length, first-piece, piece-at, onward-within, onward-add, until-free, repetition-is, component-at}
+use Rattle.closed.proofs.Pieces.{first-piece, piece-at, onward-within, until-free, repetition-is, component-at}
 use Rattle.closed.proofs.Laws.{last-within}
 use Rattle.report.specs.Fill.{Filled, Lined, keyed}
 use Rattle.report.proofs.Filling.{lined-then}
@@ -31,7 +32,7 @@ use Rattle.report.specs.Section.{linesIn, modeLines, nameLines, namesLin
 
 -- ---- walking
 pub field-within : (sep n : ℕ) (t r : List ℕ) → met r ≡ onward sep n (met t) → length r ≤ length t
-field-within sep n t r e = omega (arith, met-length r, met-length t, ap length e, onward-within sep n (met t))
+field-within sep n t r e = omega (arith, length-met r, length-met t, ap length e, onward-within sep n (met t))
 
 pub behind-within : (d : Delims) (t r : List ℕ) → Proper d → met r ≡ next d (met t) → length r ≤ length t
 unfolding forward

@@ -3,6 +3,7 @@ ghost use mathlib.Core.Path.{_≡_};
 ghost use mathlib.Core.List.{List, foldl};
 ghost use Prim.Native.Nat.{ℕ, _+_, _-_, _<_, _≤_};
 ghost use lib.ListN.{length};
+ghost use Rattle.rules.specs.Told.{_then_};
 ghost use Rattle.rules.specs.Lists.{all, same, filled, isOneOf};
 ghost use Rattle.rules.specs.Shift.{within};
 ghost use Rattle.rules.specs.Frame.{digit, capitalOrDigit};
@@ -81,6 +82,16 @@ pub fn fine(f: Fault) -> bool
         Fault::Status => false,
         Fault::Differs => false,
     }
+}
+
+// The earlier of two faults.
+pub fn earlier(a: Fault, b: Fault) -> Fault
+    ensures { λ r. ⌜ faultNo r ≡ (faultNo a then faultNo b) ⌝ }
+{
+    if fine(a) {
+        return b;
+    }
+    a
 }
 
 // ---- digits, and capitals or digits

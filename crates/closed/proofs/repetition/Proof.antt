@@ -2,7 +2,7 @@
 use borrow.Author.Needs.{needs}
 use Prim.Native.Nat.{_-_, _≤_}
 use lib.ListN.{length}
-use Rattle.closed.proofs.Laws.{Looking, looking-ends, looking-finds, looking-on, looking-starts, past-less, past-within, rest-within}
+use Rattle.closed.proofs.Laws.{Looking, looking-ends, looking-finds, looking-on, looking-starts, past-less, past-within, rest-fits}
 use Rattle.closed.proofs.repetition.Statement.{statement}
 use Rattle.closed.proofs.repetition.Tie as tie
 
@@ -28,7 +28,7 @@ marked-requires : tie.Need-marked-requires Inv-loop μ-loop
 marked-requires c κs = search needs
 
 returns : tie.Need-returns Inv-loop μ-loop
-returns c = search (looking-finds, rest-within, needs)
+returns c = search (looking-finds, rest-fits, needs)
 
 past-requires : tie.Need-past-requires Inv-loop μ-loop
 past-requires c κs = search needs
@@ -52,7 +52,7 @@ part-result-end : tie.Need-part-result-end Inv-loop μ-loop
 part-result-end c = search needs
 
 returns-2 : tie.Need-returns-2 Inv-loop μ-loop
-returns-2 c = search (looking-ends, rest-within, needs)
+returns-2 c = search (looking-ends, rest-fits, needs)
 
 pub repetition-spec : {M : Type 1} → statement M
 repetition-spec =
