@@ -315,7 +315,7 @@ fn is_result(name: Name) -> bool
     }
 }
 
-fn refused(kind: Kind, line: usize) -> Refusal
+pub fn refused(kind: Kind, line: usize) -> Refusal
     ensures { λ r. ⌜ r ≡ refusalAt kind line ⌝ }
 {
     Refusal {
@@ -359,7 +359,7 @@ fn unread(v: Verdict, line: usize) -> Passed
 }
 
 // One pass: a buffer too short for the message is left in any state, and one with room has the message over its front.
-fn pass(out: &mut [u8], sheet: &[u8], d: Delims) -> Passed
+pub fn pass(out: &mut [u8], sheet: &[u8], d: Delims) -> Passed
     requires { ⌜ length (now sheet) ≤ 65536 ⌝ }
     ensures { λ r. ⌜ Pass d (now (sheet .entry)) (now (out .entry)) r (now (out .exit)) ⌝ }
 {

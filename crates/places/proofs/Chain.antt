@@ -23,15 +23,16 @@ use Rattle.value.specs.declared.Fault.{Fault}
 use Rattle.value.specs.declared.Rule.{Rule}
 use Rattle.closed.specs.Closed.{forward, charsetFault}
 use Rattle.closed.proofs.Pieces.{piece-at}
-use Rattle.fields.specs.declared.Place.the-variants.{Must}
+use Rattle.value.specs.declared.Place.the-variants.{Must}
 use Rattle.fields.specs.declared.Walk.{Walk}
 use Rattle.fields.specs.declared.Form.{Form}
 use Rattle.fields.specs.declared.Form.the-variants.{One, Three, Charset, Names}
 use Rattle.fields.specs.Fields.{entryFor, entriesFrom, entriesFault, formFault, formHead, Begins, Judged, Went, To}
 use Rattle.places.specs.Check.{here, segment, Walked, FoundIn}
-use Rattle.fields.proofs.Pieces.{onward-add}
+use Rattle.scan.proofs.Laws.{onward-add}
 use Rattle.places.proofs.Plain.{lettersOnly, raw-value}
-use Rattle.fields.proofs.Laws.{fine-zero, fault-some, component-is}
+use Rattle.value.proofs.Laws.{fine-zero, fault-some}
+use Rattle.fields.proofs.Laws.{component-is}
 
 pub begins : {n : Name} {d : Delims} {order s : List ℕ} {k : ℕ} {w : Walk} → ((f : ℕ) → pieceOf n f ≡ f - k) → Begins k w → Walked n d order s (places n) w
 unfolding segmentOf faultTold onward

@@ -24,13 +24,13 @@ use Rattle.value.specs.declared.Fault.the-variants.{Nothing, Status, Differs}
 use Rattle.value.specs.Rules.{ruleOf, textOf, faultNo, fineOf}
 use Rattle.value.specs.declared.Words.the-variants.{Oul, R22, OulR22, Modes, Version, Sexes, Classes, Jc10, Group, Re, Types, Flags, Statuses}
 use Rattle.value.specs.declared.Rule.the-variants.{Time, Date, Text, Digits, Capitals, OneOf}
-use Rattle.fields.specs.declared.Place.the-variants.{Unread, Must, May}
+use Rattle.value.specs.declared.Place.the-variants.{Unread, Must, May}
 use Rattle.fields.specs.declared.Form.the-variants.{One, Three, Charset, Names}
 use Rattle.fields.specs.declared.Walk.{Walk}
 use Rattle.fields.specs.Fields.{entryFor, entriesFrom, Begins, To, ValueTo}
 use Rattle.places.specs.Check.{ResultAt, here, segment, Walked, FoundIn, OrderAt}
 use Rattle.places.proofs.Plain.{lettersOnly}
-use Rattle.fields.proofs.Laws.{fine-zero}
+use Rattle.value.proofs.Laws.{fine-zero}
 use Rattle.places.proofs.Chain.{begins, step, go, last, field-from, found, then-by, earlier-fine, earlier-zero, value-read}
 
 whole-piece : (f : ℕ) → f ≡ f - 0

@@ -6,16 +6,19 @@ use native.Mathlib.Omega.{arith}
 use mathlib.Core.Path.{_≡_, refl, sym, ap, _∙_}
 use mathlib.Core.List.{List, [], _∷_, foldl}
 use mathlib.Core.Bool.{Bool, true, false, cond, not, _&&_, _||_}
-use borrow.Author.Tests.{ltb-true, ltb-false, eqb-true, ne-eqb, eq-eqb, le-leb, lt-leb, not-true, not-false}
+use borrow.Author.Tests.{ltb-true, ltb-false, eqb-true, eqb-false, ne-eqb, eq-eqb, le-leb, lt-leb, not-true, not-false}
 use lib.Dec.{eqb, leb, ltb}
-use lib.ListN.{length, getD, take, drop, length-drop}
+use lib.ListN.{length, getD, take, drop}
 use lib.Seq.{take-all}
-use Rattle.rules.specs.Lists.{bytes, all, any, count, same, split, onto, isOneOf}
+use Rattle.rules.specs.Lists.{bytes, empty, filled, all, any, count, same, split, onto, isOneOf}
 use Rattle.rules.specs.Shift.{within}
+use Rattle.rules.specs.Told.{_then_}
 use Rattle.rules.specs.Frame.{digit, capitalOrDigit}
 use Rattle.rules.specs.Value as Val
+use Rattle.rules.specs.Places.{Four}
+use Rattle.rules.specs.Judge.{agrees, beside}
 use Rattle.rules.proofs.Logic.{cases, both, and-false, or-assoc, and-true, or-false}
-use Rattle.rules.proofs.Lists.{here, over, rest-is, part-length, empty-zero, filled-some, all-cons, any-cons, any-nil}
+use Rattle.rules.proofs.Lists.{here, over, rest-is, rest-shorter, part-length, empty-zero, filled-some, all-cons, any-cons, any-nil}
 use Rattle.scan.specs.Scan.{until, is}
 use Rattle.value.specs.Rules.{oneOf, textOf, ruleOf, faultNo, fineOf}
 use Rattle.value.specs.Number.{readByte, unread}
@@ -75,10 +78,6 @@ module _ {A : Type 0} (f : A → ℕ → A) (t₀ t : A) (s : List ℕ) (i : ℕ
 
 pub ruleset fold·laws = (fold-goes, fold-ends)
 
--- a part from a on is no longer
-pub rest-shorter : (s : List ℕ) (a k : ℕ) → length s ≤ k → length (take (length s - a) (drop a s)) ≤ k
-rest-shorter s a k h = rw rest-is (omega (arith, length-drop a s))
-
 -- ---- general: what stands before the first separator
 until-length : (sep x : ℕ) (s : List ℕ) → length (until (is sep) (x ∷ s)) ≡ cond (eqb x sep) 0 (suc (length (until (is sep) s)))
 unfolding until
@@ -121,6 +120,24 @@ split-more sep (x ∷ s) h =
 -- ---- no fault
 pub fine-is : (f x : Fault) (r : Bool) → f ≡ x → r ≡ fineOf x → r ≡ fineOf f
 fine-is f x r e h = cc
+
+pub fine-zero : (f : Fault) → fineOf f ≡ true → faultNo f ≡ 0
+unfolding fineOf
+fine-zero f h = eqb-true (faultNo f) 0 h
+
+pub fault-some : (f : Fault) → fineOf f ≡ false → faultNo f ≡ suc (faultNo f - 1)
+unfolding fineOf
+fault-some f h = let z : faultNo f ≡ 0 → ⊥ = eqb-false (faultNo f) 0 h in omega arith
+
+-- the earlier of two
+module _ (a b : Fault) (q : Bool) (e : q ≡ fineOf a) where
+  pub earlier-second : q ≡ true → faultNo b ≡ (faultNo a then faultNo b)
+  earlier-second h = rw (fine-zero a (sym e ∙ h))
+
+  pub earlier-first : q ≡ false → faultNo a ≡ (faultNo a then faultNo b)
+  earlier-first h = rw (fault-some a (sym e ∙ h))
+
+pub ruleset earlier·laws = (earlier-second, earlier-first)
 
 -- ---- n digits, at most n capitals or digits
 pub digits-other : (v : List ℕ) (n : ℕ) → (length v ≡ n → ⊥) → false ≡ Val.digitsOk n v
@@ -340,3 +357,13 @@ module _ (required : Bool) (rule : Rule) (v : List ℕ) where
     fault-value q y g z = cc (filled-some v h, e v refl)
 
 pub ruleset fault_of·laws = (fault-missing, fault-blank, fault-long, fault-none, fault-value)
+
+-- ---- OBX-11 against OBX-5
+module _ (status : List ℕ) (number parts y : Bool) (e : y ≡ oneOf (70 ∷ 32 ∷ 80 ∷ 32 ∷ 67 ∷ []) status) where
+  pub agrees-filled : y ≡ true → (c : Four (List ℕ)) → number ≡ filled (c .value) → parts ≡ beside c → number ≡ agrees status c
+  unfolding agrees isOneOf oneOf bytes
+  agrees-filled h c en ep = rw (sym e ∙ h) en
+
+  pub agrees-empty : y ≡ false → (c : Four (List ℕ)) → number ≡ filled (c .value) → parts ≡ beside c → (not number && not parts) ≡ agrees status c
+  unfolding agrees isOneOf oneOf bytes
+  agrees-empty h c en ep = rw (sym e ∙ h) (cases (empty (c .value)) (λ q. cc) (λ q. cc))

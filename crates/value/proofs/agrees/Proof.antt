@@ -1,8 +1,8 @@
--- `closed::agrees` meets its contract.
+-- `value::agrees` meets its contract.
 use borrow.Author.Needs.{needs}
-use Rattle.closed.proofs.Laws.{agrees-empty, agrees-filled}
-use Rattle.closed.proofs.agrees.Statement.{statement}
-use Rattle.closed.proofs.agrees.Tie as tie
+use Rattle.value.proofs.Laws.{agrees-empty, agrees-filled}
+use Rattle.value.proofs.agrees.Statement.{statement}
+use Rattle.value.proofs.agrees.Tie as tie
 
 slice-aggregate-one-of : tie.Need-slice-aggregate-one-of
 slice-aggregate-one-of c = search needs

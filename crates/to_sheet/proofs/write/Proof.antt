@@ -1,0 +1,28 @@
+-- `write` meets its contract. Assumes nothing.
+use Rattle.to_sheet.proofs.Laws.{write-short, write-whole}
+use borrow.Author.Needs.{needs}
+use Rattle.to_sheet.proofs.write.Statement.{statement}
+use Rattle.to_sheet.proofs.write.Tie as tie
+
+slice-aggregate-pass : tie.Need-slice-aggregate-pass
+slice-aggregate-pass c = search needs
+
+pass-requires : tie.Need-pass-requires
+pass-requires c κs = search needs
+
+returns : tie.Need-returns
+returns c = search (write-short, needs)
+
+pass-requires-2 : tie.Need-pass-requires-2
+pass-requires-2 c κs = search needs
+
+same-length : tie.Need-same-length
+same-length c = search needs
+
+returns-2 : tie.Need-returns-2
+returns-2 c = search (write-whole, needs)
+
+pub write-spec : {M : Type 1} → statement M
+write-spec =
+    tie.close
+    (tie.spec slice-aggregate-pass pass-requires returns pass-requires-2 same-length returns-2)
