@@ -24,7 +24,7 @@ use Rattle.compose.specs.declared.Size.{Size}
 use Rattle.compose.specs.declared.Passed.{Passed}
 use Rattle.compose.specs.declared.Passed.the-variants.{All, Not}
 
--- the bytes of a known name
+-- x is the known name n; its bound is said too, for those who measure it
 pub record Named (x : List ℕ) (n : Name) : Type 0 where
   pub is : x ≡ spelling n
   pub short : length x ≤ 3
