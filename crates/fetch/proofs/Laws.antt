@@ -85,7 +85,7 @@ module _ (sep : ℕ) (s : List ℕ) (number at len : ℕ) (inv : Walked sep s nu
   abbrev rest : List ℕ
   rest = met (drop at s)
 
-  pub walked-on : (next : ℕ) → Printable sep → at + len ≤ length s → (at + len ≡ length s → ⊥)
+  walked-on : (next : ℕ) → Printable sep → at + len ≤ length s → (at + len ≡ length s → ⊥)
       → next ≡ length (until (is sep) (marks 0x0D One (take (length s - (at + len + 1)) (drop (at + len + 1) s)))) → Walked sep s (number + 1) (at + len + 1) next
   unfolding met
   walked-on next p h g e =
@@ -102,6 +102,11 @@ module _ (sep : ℕ) (s : List ℕ) (number at len : ℕ) (inv : Walked sep s nu
         place = span-end (inv .passed) (take len rest) ∙ omega (arith, inv .place, length-take-le len rest (omega (arith, length-met (drop at s))));
         long = e ∙ ap (λ l. length (until (is sep) (met l))) (rest-is s (at + len + 1));
       }
+
+  pub walked-next : (next i a l : ℕ) → Printable sep → at + len ≤ length s → (at + len ≡ length s → ⊥)
+      → next ≡ length (until (is sep) (marks 0x0D One (take (length s - (at + len + 1)) (drop (at + len + 1) s))))
+      → i ≡ number + 1 → a ≡ at + len + 1 → l ≡ next → Walked sep s i a l
+  walked-next next i a l p h g e ei ea el = rw (ei, ea, el) (walked-on next p h g e)
 
   -- the piece that stands there
   piece-is : PieceOf sep number s at len

@@ -206,8 +206,6 @@ fn part_in(f: &[u8], d: Delims, component: usize) -> Span
     let from = first.start;
     let to = from + first.len;
     let c = pieces::nth_piece(&f[from..to], d.component, component - 1);
-    Span {
-        start: from + c.start,
-        len: c.len,
-    }
+    let start = from + c.start;
+    Span { start, len: c.len }
 }

@@ -1,7 +1,7 @@
 // The pieces of a text between separators that act, by their places.
 use rules::Span;
 ghost use mathlib.Core.Path.{_≡_};
-ghost use Prim.Native.Nat.{_+_, _≤_};
+ghost use Prim.Native.Nat.{_+_, _<_, _≤_, _^_};
 ghost use lib.ListN.{length};
 ghost use Rattle.scan.specs.Scan.{Printable};
 ghost use Rattle.fetch.specs.Place.{PieceOf, Reached};
@@ -13,24 +13,37 @@ pub struct Piece {
     pub len: usize,
 }
 
-// The n-th piece, from 0; the last where there are fewer. An empty piece counts like any other.
+// The n-th piece, from 0; the last where there are fewer.
 pub fn reach(s: &[u8], sep: u8, n: usize) -> Piece
     requires { ⌜ Printable sep ⌝ }
     ensures { λ r. ⌜ Reached sep n (now (s .entry)) (r .number) (r .start) (r .len) ⌝ }
     ensures within { λ r. ⌜ r .start + r .len ≤ length (now (s .entry)) ⌝ }
 {
-    let mut number = 0;
-    let mut start = 0;
-    let mut len = scan::find(s, 0x0D, sep);
-    while number < n {
-        let end = start + len;
+    let first = scan::find(s, 0x0D, sep);
+    let mut p = Piece {
+        number: 0,
+        start: 0,
+        len: first,
+    };
+    while p.number < n {
+        let end = p.start + p.len;
         if end == s.len() {
-            return Piece { number, start, len };
+            return p;
         }
-        start = end + 1;
-        len = scan::find(&s[start..], 0x0D, sep);
-        number += 1;
+        let start = end + 1;
+        let len = scan::find(&s[start..], 0x0D, sep);
+        let next = following(p, start, len);
+        p = next;
     }
+    p
+}
+
+// The piece after p, by its own place. An empty piece counts like any other.
+fn following(p: Piece, start: usize, len: usize) -> Piece
+    requires { ⌜ p .number + 1 < 2 ^ 64 ⌝ }
+    ensures { λ r. ⌜ (r .number ≡ p .number + 1) × (r .start ≡ start) × (r .len ≡ len) ⌝ }
+{
+    let number = p.number + 1;
     Piece { number, start, len }
 }
 

@@ -25,8 +25,8 @@ sub-nth-piece-2 c = search needs
 nth-piece-requires : tie.Need-nth-piece-requires
 nth-piece-requires c κs = search needs
 
-add-t9 : tie.Need-add-t9
-add-t9 c = search needs
+add-start : tie.Need-add-start
+add-start c = search needs
 
 returns : tie.Need-returns
 returns c = search (in-is, in-within, needs)
@@ -42,5 +42,5 @@ part-in-spec =
     part-nth-piece-end
     sub-nth-piece-2
     nth-piece-requires
-    add-t9
+    add-start
     returns)

@@ -2,15 +2,15 @@
 use borrow.Author.Needs.{needs}
 use Prim.Native.Nat.{_+_, _-_, _≤_}
 use lib.ListN.{length}
-use Rattle.fetch.proofs.Laws.{Walked, reach-last, reach-there, walked-on, walked-starts}
+use Rattle.fetch.proofs.Laws.{Walked, reach-last, reach-there, walked-next, walked-starts}
 use Rattle.fetch.proofs.pieces.reach.Statement.{statement}
 use Rattle.fetch.proofs.pieces.reach.Tie as tie
 
 abbrev Inv-loop : tie.InvT-loop
-Inv-loop s sep n number₀ start₀ len₀ number start len = (start + len ≤ length s) × (number ≤ n) × Walked sep s number start len
+Inv-loop s sep n first p₀ p = (p .start + p .len ≤ length s) × (p .number ≤ n) × Walked sep s (p .number) (p .start) (p .len)
 
 abbrev μ-loop : tie.MeasureT-loop
-μ-loop s sep n number₀ start₀ len₀ number start len = length s - start
+μ-loop s sep n first p₀ p = length s - p .start
 
 find-requires : tie.Need-find-requires Inv-loop μ-loop
 find-requires c κs = search needs
@@ -39,14 +39,14 @@ part-find-end c = search needs
 find-requires-2 : tie.Need-find-requires-2 Inv-loop μ-loop
 find-requires-2 c κs = search needs
 
-add-number : tie.Need-add-number Inv-loop μ-loop
-add-number c = search needs
+following-requires : tie.Need-following-requires Inv-loop μ-loop
+following-requires c κs = search needs
 
 loop-less : tie.Need-loop-less Inv-loop μ-loop
 loop-less c = search needs
 
 loop-again : tie.Need-loop-again Inv-loop μ-loop
-loop-again c = search (walked-on, needs)
+loop-again c = search (walked-next, needs)
 
 returns-2 : tie.Need-returns-2 Inv-loop μ-loop
 returns-2 c = search (reach-there, needs)
@@ -66,7 +66,7 @@ reach-spec =
     part-find-start
     part-find-end
     find-requires-2
-    add-number
+    following-requires
     loop-less
     loop-again
     returns-2)
