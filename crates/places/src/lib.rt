@@ -13,6 +13,7 @@ use fields::field;
 use fields::unless;
 use fields::value_field;
 use rules::Delims;
+use rules::Kind;
 use rules::Name;
 use value::Fault;
 use value::Rule::Capitals;
@@ -136,7 +137,7 @@ pub fn orc(s: &[u8], d: Delims, order: &[u8]) -> Found
     let at = w.start;
     let end = at + w.head;
     let same = value::equal(&s[at..end], order);
-    let fault = value::earlier(f, unless(same, Fault::Differs));
+    let fault = value::earlier(f, unless(same, Fault::Found(Kind::Differs)));
     Found {
         fault,
         field: w.field,
@@ -173,7 +174,7 @@ pub fn obx(s: &[u8], d: Delims) -> Found
     let at = w.start;
     let end = at + w.head;
     let agrees = closed::agrees(&s[at..end], v.filled, v.beside);
-    let fault = value::earlier(f, unless(agrees, Fault::Status));
+    let fault = value::earlier(f, unless(agrees, Fault::Found(Kind::Status)));
     Found {
         fault,
         field: w.field,
