@@ -40,7 +40,7 @@ static int answer(const struct ask *a) {
     default:
         return 0;
     }
-    return fwrite(said, sizeof said, 1, stdout) == 1 && fwrite(buffer, 1, lent, stdout) == lent;
+    return fwrite(said, sizeof said, 1, stdout) == 1 && fwrite(buffer, 1, lent, stdout) == lent && fflush(stdout) == 0;
 }
 
 int main(void) {
@@ -52,5 +52,5 @@ int main(void) {
             return 1;
         }
     }
-    return fflush(stdout) != 0;
+    return 0;
 }

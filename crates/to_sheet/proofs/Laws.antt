@@ -40,7 +40,7 @@ use Rattle.frame.proofs.Rules.{check-refused, sound}
 use Rattle.frame.proofs.Laws.{segments-next, ok-next, ok-unended, header-long}
 use Rattle.report.specs.Fill.{least, Filled, fillAt, Added, Lined}
 use Rattle.report.specs.Section.{linesIn, sections}
-use Rattle.report.proofs.Filling.{back, length-fill, lined-then}
+use Rattle.report.proofs.Filling.{back, fill-nil, length-fill, lined-then}
 use Rattle.report.proofs.Sheet.{sheet-is}
 use Rattle.to_sheet.specs.Sheet.{Answered}
 
@@ -195,14 +195,20 @@ module _ (m : List ℕ) (d : Delims) (s : Sound m d) (room : ℕ) where
   unfolding sheetTold
   told-whole h = rw (text-is, le-ltb room (length text) h)
 
-module _ (m : List ℕ) (d : Delims) (s : Sound m d) (x z w : List ℕ) (n : ℕ) (measured : Filled n z (sections d (segments m)) w) where
-  pub write-short : (k : Refusal) → length x < n → k ≡ record { kind = Room; segment = 0; field = 0 } → Answered (sheetTold (view m) (length x)) x (NotWritten k) x
-  write-short k h e = answered-as (told-short m d s (length x) (omega (arith, measured .ends))) (rw e (record { told = refl; buffer = refl }))
+-- measured where nothing is lent, z, so the buffer is x still
+module _ (m : List ℕ) (d : Delims) (s : Sound m d) (x z : List ℕ) (n : ℕ) (measured : Filled n z (sections d (segments m)) []) where
+  still : z ++ x ≡ x
+  still = ap (λ (l : List ℕ). l ++ x) (measured .is ∙ fill-nil (sections d (segments m)))
 
-  pub write-whole : (r : ℕ) (y : List ℕ) → n ≤ length x → Filled r y (sections d (segments m)) x → Answered (sheetTold (view m) (length x)) x (Wrote n) y
+  pub write-short : (k : Refusal) → length (z ++ x) < n → k ≡ record { kind = Room; segment = 0; field = 0 }
+      → Answered (sheetTold (view m) (length x)) x (NotWritten k) (z ++ x)
+  write-short k h e = answered-as (told-short m d s (length x) (omega (arith, measured .ends, ap length still))) (rw e (record { told = refl; buffer = still }))
+
+  pub write-whole : (r : ℕ) (y : List ℕ) → n ≤ length (z ++ x) → Filled r y (sections d (segments m)) (z ++ x) → Answered (sheetTold (view m) (length x)) x (Wrote n) y
   write-whole r y h f =
-      let room : length (sections d (segments m)) ≤ length x = omega (arith, measured .ends) in
-      answered-as (told-whole m d s (length x) room) (record { told = ap gives (measured .ends); buffer = f .is ∙ fits (sections d (segments m)) x room })
+      let room : length (sections d (segments m)) ≤ length x = omega (arith, measured .ends, ap length still) in
+      answered-as (told-whole m d s (length x) room)
+      (record { told = ap gives (measured .ends); buffer = f .is ∙ ap (fill (sections d (segments m))) still ∙ fits (sections d (segments m)) x room })
 
 -- ---- the check first
 framed : (t : Told (Unit {0})) (u : Told Counts) (c : Counts) → (t >> u) ≡ gives c → t ≡ gives tt

@@ -37,13 +37,13 @@ pub fn to_sheet(m: &[u8], out: &mut [u8]) -> Written
     }
 }
 
-// 45, or the sheet: nothing is written before its length is known.
+// 45, or the sheet. It is measured first, where nothing of the buffer is lent.
 fn write(out: &mut [u8], m: &[u8], d: Delims) -> Written
     requires { ⌜ Sound (now m) d ⌝ }
     ensures { λ r. ⌜ Answered (sheetTold (view (now (m .entry))) (length (now (out .entry)))) (now (out .entry)) r (now (out .exit)) ⌝ }
 {
-    let mut nothing = [0u8; 0];
-    let n = pass(&mut nothing, m, d);
+    let lent = 0;
+    let n = pass(&mut out[..lent], m, d);
     if out.len() < n {
         return Written::NotWritten(Refusal {
             kind: Kind::Room,

@@ -111,7 +111,8 @@ pub fn ask(case: &Case, salt: u8, to: &mut impl Write) -> io::Result<()> {
     for number in [call, one, two, three, salt.into(), case.input.len()] {
         to.write_all(&(number as u64).to_le_bytes())?;
     }
-    to.write_all(&case.input)
+    to.write_all(&case.input)?;
+    to.flush()
 }
 
 #[cfg(test)]

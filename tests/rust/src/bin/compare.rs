@@ -10,7 +10,7 @@ use oul_tests::cases::{Call, Case};
 use oul_tests::generate;
 use oul_tests::refusal::number;
 use std::collections::BTreeMap;
-use std::io::{self, BufReader, BufWriter, Write};
+use std::io::{self, BufReader, BufWriter};
 use std::process::{Command, ExitCode, Stdio};
 use std::sync::atomic::{AtomicU64, Ordering};
 use std::sync::{mpsc, Mutex};
@@ -100,7 +100,7 @@ impl Run {
                         break;
                     }
                 }
-                to.flush()
+                Ok(())
             });
             let mut told = Told::default();
             for (place, (case, ours)) in answered.iter().enumerate() {
