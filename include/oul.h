@@ -24,6 +24,13 @@ size_t oul_check(const unsigned char *message, size_t length, size_t told[3]);
  * long it is, and 0. The part is still escaped and lies in the first repetition; an absent one has length 0. The check's refusals first, then 31, then 30. */
 size_t oul_locate(const unsigned char *message, size_t length, size_t ordinal, size_t field, size_t component, size_t told[3]);
 
+/* Writes the sheet of a message into the room bytes at out. Answer 0: told: how many bytes the sheet has, 0 and 0; the bytes past it stay. Every refusal leaves
+ * all of them: 10 to 27, then 45 where the room is too short; 65,536 bytes hold any sheet. */
+size_t oul_to_sheet(const unsigned char *message, size_t length, unsigned char *out, size_t room, size_t told[3]);
+
+/* Writes the message of a sheet in the same way; 32,768 bytes hold any message. Refusals 40 to 45, with the line in told[0]. */
+size_t oul_to_message(const unsigned char *sheet, size_t length, unsigned char *out, size_t room, size_t told[3]);
+
 #ifdef __cplusplus
 }
 #endif

@@ -21,6 +21,7 @@ pub fn typical() -> Vec<u8> {
         let flag = ["N", "", "H", "L"][n % 4];
         (n < 30).then(|| result(item, name, "NM", &value, unit, flag))
     })
+    .expect("a good sheet")
 }
 
 /// Just so many bytes at most, with small results.
@@ -36,7 +37,7 @@ pub fn small_segments(bytes: usize) -> Vec<u8> {
 pub fn kanji(bytes: usize) -> Vec<u8> {
     full(bytes, |n| {
         let (item, ..) = ITEMS[n % ITEMS.len()];
-        let text = "F|K\\8l\\".repeat(32);
+        let text = "F|K\\8l".repeat(32);
         let text = format!("\x1B$B{text}\x1B(B");
         result(item, "\x1B$B=j8+\x1B(B", "ST", &text, "", "")
     })
@@ -46,12 +47,13 @@ pub fn kanji(bytes: usize) -> Vec<u8> {
 fn full(bytes: usize, result: impl Fn(usize) -> String) -> Vec<u8> {
     const SEGMENTS_BEFORE: usize = 6;
     let of = |count: usize| message(|n| (n < count).then(|| result(n)));
-    let fits = |&count: &usize| of(count).len() <= bytes;
-    let most = (1..=512 - SEGMENTS_BEFORE).take_while(fits).last();
-    of(most.expect("room for one result"))
+    let fits = |&count: &usize| of(count).is_some_and(|m| m.len() <= bytes);
+    let counts: Vec<usize> = (1..=512 - SEGMENTS_BEFORE).collect();
+    of(counts.partition_point(fits)).expect("room for one result")
 }
 
-fn message(result: impl Fn(usize) -> Option<String>) -> Vec<u8> {
+/// None where the message would be too long.
+fn message(result: impl Fn(usize) -> Option<String>) -> Option<Vec<u8>> {
     let mut sheet = "version=1\nmode=P\nsent=20240401093000\ncontrol=K0001\npatient=0000123456\n\
                      family=\x1B$B;3ED\x1B(B\ngiven=\x1B$BB@O:\x1B(B\n\
                      kanafamily=\x1B$B%d%^%@\x1B(B\nkanagiven=\x1B$B%?%m%&\x1B(B\n\
@@ -59,7 +61,7 @@ fn message(result: impl Fn(usize) -> Option<String>) -> Vec<u8> {
                      order=000000000000042\ngroup=E000\n"
         .to_string();
     sheet.extend((0..).map_while(result));
-    to_message(sheet.as_bytes(), MESSAGE_LIMIT).expect("a good sheet")
+    to_message(sheet.as_bytes(), MESSAGE_LIMIT).ok()
 }
 
 fn result(item: &str, name: &str, kind: &str, value: &str, unit: &str, flag: &str) -> String {

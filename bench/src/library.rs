@@ -11,6 +11,20 @@ mod c {
             component: usize,
             told: *mut [usize; 3],
         ) -> usize;
+        pub fn oul_to_sheet(
+            m: *const u8,
+            length: usize,
+            out: *mut u8,
+            room: usize,
+            told: *mut [usize; 3],
+        ) -> usize;
+        pub fn oul_to_message(
+            sheet: *const u8,
+            length: usize,
+            out: *mut u8,
+            room: usize,
+            told: *mut [usize; 3],
+        ) -> usize;
     }
 }
 
@@ -36,5 +50,35 @@ pub fn locate(m: &[u8], ordinal: usize, field: usize, component: usize) -> Told 
     // SAFETY: as for `check`.
     let number =
         unsafe { c::oul_locate(m.as_ptr(), m.len(), ordinal, field, component, &mut numbers) };
+    told(number, numbers)
+}
+
+pub fn to_sheet(m: &[u8], out: &mut [u8]) -> Told {
+    let mut numbers = [0; 3];
+    // SAFETY: as for `check`, and what is written overlaps nothing that is read.
+    let number = unsafe {
+        c::oul_to_sheet(
+            m.as_ptr(),
+            m.len(),
+            out.as_mut_ptr(),
+            out.len(),
+            &mut numbers,
+        )
+    };
+    told(number, numbers)
+}
+
+pub fn to_message(sheet: &[u8], out: &mut [u8]) -> Told {
+    let mut numbers = [0; 3];
+    // SAFETY: as for `to_sheet`.
+    let number = unsafe {
+        c::oul_to_message(
+            sheet.as_ptr(),
+            sheet.len(),
+            out.as_mut_ptr(),
+            out.len(),
+            &mut numbers,
+        )
+    };
     told(number, numbers)
 }

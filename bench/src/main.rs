@@ -4,14 +4,15 @@
 mod inputs;
 mod library;
 
-use oul_tests::{check, locate, MESSAGE_LIMIT};
+use oul_tests::{check, locate, to_message, to_sheet, MESSAGE_LIMIT, SHEET_LIMIT};
 use std::hint::black_box;
 use std::time::{Duration, Instant};
 
-/// So many times each side has its turn; the fastest turn counts.
-const TURNS: usize = 15;
-/// So long a turn lasts at least.
-const TURN: Duration = Duration::from_millis(20);
+/// So long a turn lasts at least. The sides take turns, and the fastest of each counts.
+const TURN: Duration = Duration::from_millis(2);
+/// So long they do so at least, and so many times.
+const RACE: Duration = Duration::from_millis(1500);
+const TURNS: usize = 5;
 
 /// The read places of a segment: field and component.
 type Places = &'static [(usize, usize)];
@@ -44,7 +45,8 @@ fn ratios() {
     ] {
         let m = m.as_slice();
         let places = places(m);
-        agree(m, &places);
+        let sheet = agree(m, &places);
+        let mut out = vec![0; SHEET_LIMIT];
         let row = |call: &str, times: (f64, f64)| {
             let (rust, library) = times;
             let (bytes, ratio) = (m.len(), rust / library);
@@ -74,6 +76,20 @@ fn ratios() {
                 },
             ),
         );
+        row(
+            "message to sheet",
+            race(
+                || keep(to_sheet(m, SHEET_LIMIT)),
+                || keep(library::to_sheet(m, &mut out)),
+            ),
+        );
+        row(
+            "sheet to message",
+            race(
+                || keep(to_message(&sheet, MESSAGE_LIMIT)),
+                || keep(library::to_message(&sheet, &mut out[..MESSAGE_LIMIT])),
+            ),
+        );
     }
 }
 
@@ -88,8 +104,18 @@ fn growth() {
     ];
     for (name, input) in inputs {
         let messages = [4, 8, 16, 32].map(|kib| input(kib * 1024));
-        let times = messages.map(|m| race(|| (), || keep(library::check(&m))).1);
+        let times = messages
+            .each_ref()
+            .map(|m| alone(|| keep(library::check(m))));
         grown(name, "check", times);
+        let mut out = vec![0; SHEET_LIMIT];
+        let times = messages
+            .each_ref()
+            .map(|m| alone(|| keep(library::to_sheet(m, &mut out))));
+        grown(name, "message to sheet", times);
+        let sheets = messages.map(|m| to_sheet(&m, SHEET_LIMIT).expect("a good message"));
+        let times = sheets.map(|sheet| alone(|| keep(library::to_message(&sheet, &mut out))));
+        grown(name, "sheet to message", times);
     }
 }
 
@@ -111,8 +137,8 @@ fn places(m: &[u8]) -> Vec<(usize, usize, usize)> {
         .collect()
 }
 
-/// Both sides answer alike, and accept.
-fn agree(m: &[u8], places: &[(usize, usize, usize)]) {
+/// Both sides answer alike, and accept. Gives the message's sheet.
+fn agree(m: &[u8], places: &[(usize, usize, usize)]) -> Vec<u8> {
     let counts = check(m).expect("a good message");
     let counts = [counts.specimens, counts.orders, counts.results];
     assert_eq!(library::check(m), Ok(counts));
@@ -121,6 +147,13 @@ fn agree(m: &[u8], places: &[(usize, usize, usize)]) {
         let told = library::locate(m, ordinal, field, component);
         assert_eq!(told, Ok([part.start, part.len(), 0]));
     }
+    let sheet = to_sheet(m, SHEET_LIMIT).expect("a good message");
+    let mut out = vec![0; SHEET_LIMIT];
+    assert_eq!(library::to_sheet(m, &mut out), Ok([sheet.len(), 0, 0]));
+    assert_eq!(out[..sheet.len()], sheet);
+    assert_eq!(library::to_message(&sheet, &mut out), Ok([m.len(), 0, 0]));
+    assert_eq!(out[..m.len()], *m);
+    sheet
 }
 
 /// An answer that the compiler may not leave out.
@@ -128,11 +161,18 @@ fn keep<T>(answer: T) {
     black_box(answer);
 }
 
+fn alone(call: impl FnMut()) -> f64 {
+    race(|| (), call).1
+}
+
 /// Microseconds for one call of each, in turn, the fastest of all turns.
 fn race(mut one: impl FnMut(), mut other: impl FnMut()) -> (f64, f64) {
     let (calls_of_one, calls_of_other) = (calls(&mut one), calls(&mut other));
     let mut best = (f64::INFINITY, f64::INFINITY);
-    for _ in 0..TURNS {
+    let start = Instant::now();
+    let mut turns = 0;
+    while turns < TURNS || start.elapsed() < RACE {
+        turns += 1;
         best.0 = best.0.min(time(calls_of_one, &mut one));
         best.1 = best.1.min(time(calls_of_other, &mut other));
     }

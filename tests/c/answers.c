@@ -27,6 +27,12 @@ static void prepare(void) {
         before[i] = (unsigned char)(7 * i);
 }
 
+/* Fills the buffer; how many bytes of it are shown. */
+static size_t lend(const struct ask *a) {
+    memcpy(buffer, before + a->salt, a->one + GUARD);
+    return a->one + GUARD;
+}
+
 static int answer(const struct ask *a) {
     size_t said[4] = {0};
     size_t lent = 0;
@@ -36,6 +42,14 @@ static int answer(const struct ask *a) {
         break;
     case LOCATE:
         said[0] = oul_locate(input, a->length, a->one, a->two, a->three, said + 1);
+        break;
+    case TO_SHEET:
+        lent = lend(a);
+        said[0] = oul_to_sheet(input, a->length, buffer, a->one, said + 1);
+        break;
+    case TO_MESSAGE:
+        lent = lend(a);
+        said[0] = oul_to_message(input, a->length, buffer, a->one, said + 1);
         break;
     default:
         return 0;
@@ -47,7 +61,8 @@ int main(void) {
     struct ask a;
     prepare();
     while (fread(&a, sizeof a, 1, stdin) == 1) {
-        if (a.length > INPUT || a.salt > 255 || fread(input, 1, a.length, stdin) != a.length || !answer(&a)) {
+        int good = a.length <= INPUT && a.salt <= 255 && (a.call < TO_SHEET || a.one <= ROOM);
+        if (!good || fread(input, 1, a.length, stdin) != a.length || !answer(&a)) {
             fprintf(stderr, "answers: no case\n");
             return 1;
         }

@@ -1,9 +1,11 @@
 -- An answer as numbers: 0 or the refusal's number, and three numbers beside it.
+use mathlib.Core.Path.{_≡_}
 use mathlib.Core.List.{List, [], _∷_}
 use Prim.Native.Nat.{ℕ}
 use Rattle.rules.specs.declared.Counts.{Counts}
 use Rattle.rules.specs.declared.Span.{Span}
-use Rattle.rules.specs.Told.{Told, gives, refused}
+use Rattle.rules.specs.declared.Written.{Written}
+use Rattle.rules.specs.Told.{Told, gives, refused, toldLength}
 
 -- 0 where what was asked for is given, else the number of the refusal
 abbrev pub numberOf : {A : Type 0} → Told A → ℕ
@@ -28,3 +30,8 @@ stretchOf (refused n s f) = placeOf s f
 abbrev pub writtenOf : Told ℕ → List ℕ
 writtenOf (gives n) = n ∷ 0 ∷ 0 ∷ []
 writtenOf (refused n s f) = placeOf s f
+
+-- the number and the three numbers of what a writer answers
+pub record Says (a : Written) (n : ℕ) (x : List ℕ) : Type 0 where
+  pub answers : n ≡ numberOf (toldLength a)
+  pub fills : x ≡ writtenOf (toldLength a)

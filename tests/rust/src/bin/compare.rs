@@ -76,7 +76,6 @@ impl Run {
     fn cases(&self) -> impl Iterator<Item = (Case, u8)> {
         let count = self.count as usize;
         generate::cases(self.seed)
-            .filter(offered)
             .take(count)
             .zip((0..=u8::MAX).cycle())
     }
@@ -124,16 +123,6 @@ impl Run {
     }
 }
 
-/// The calls that the library has so far.
-fn offered(case: &Case) -> bool {
-    matches!(case.call, Call::Check | Call::Fetch { .. })
-}
-
-/// The refusals that they can give.
-fn given(refusal: &u8) -> bool {
-    *refusal < number::SHEET_TOO_LONG
-}
-
 fn name(case: &Case) -> &'static str {
     match case.call {
         Call::Check => "check",
@@ -166,10 +155,7 @@ impl Tally {
             println!("{difference}");
         }
         let met = |refusal: u8| told.answers.keys().any(|&(_, n)| n == refusal.into());
-        let missed = number::ALL
-            .into_iter()
-            .filter(given)
-            .find(|&refusal| !met(refusal));
+        let missed = number::ALL.into_iter().find(|&refusal| !met(refusal));
         if let (RUN, Some(missed)) = (run.count, missed) {
             println!("seed {seed}: no refusal {missed}");
         }
