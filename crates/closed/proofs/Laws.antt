@@ -11,13 +11,13 @@ use lib.Seq.{drop-drop}
 use Rattle.rules.specs.declared.Delims.{Delims}
 use Rattle.rules.specs.declared.Mode.the-variants.{One}
 use Rattle.rules.specs.Told.{_then_, _when_}
-use Rattle.rules.specs.Lists.{bytes, empty, filled, same, all, has, nth, split, isOneOf}
+use Rattle.rules.specs.Lists.{bytes, empty, filled, same, all, has, nth, split}
 use Rattle.rules.specs.Shift.{isOne, mark, marks, met, within, byteOf}
 use Rattle.rules.specs.Value as Val
 use Rattle.rules.specs.Escape.{unescape, unescapeAt}
 use Rattle.rules.specs.Places.{Four, valueRules}
 use Rattle.rules.specs.View.{componentOf}
-use Rattle.rules.specs.Judge.{judge, faultOr23, firstMarked, kanji, nameFault, namesFault, isSN, rawFour, beside, unjoined, partsFault, valueFault, agrees}
+use Rattle.rules.specs.Judge.{judge, faultOr23, firstMarked, kanji, nameFault, namesFault, isSN, rawFour, beside, unjoined, partsFault, valueFault}
 use Rattle.rules.proofs.Logic.{cases, cond-same, and-comm, then-none, then-zero, then-assoc, when-none}
 use Rattle.rules.proofs.Lists.{here, over, rest-is, empty-zero, filled-some, all-cons, same-eq}
 use Rattle.rules.proofs.Split.{split-nil, split-none}
@@ -25,9 +25,10 @@ use Rattle.rules.proofs.Modes.{length-marks}
 use Rattle.rules.proofs.Clean.{same-met}
 use Rattle.scan.specs.Scan.{until, is, ends, after, next, plainText, CutOf, TailOf, Proper}
 use Rattle.scan.proofs.Laws.{from-met, piece-met, ends-far}
-use Rattle.value.specs.Rules.{faultNo, ruleOf, textOf, oneOf}
+use Rattle.value.specs.Rules.{faultNo, ruleOf, textOf}
 use Rattle.value.specs.declared.Fault.{Fault}
-use Rattle.value.specs.declared.Fault.the-variants.{Nothing, Repeated, Escape, Value}
+use Rattle.rules.specs.declared.Kind.the-variants.{Repeated, Escape, Value}
+use Rattle.value.specs.declared.Fault.the-variants.{Nothing, Found}
 use Rattle.value.specs.declared.Words.the-variants.{Comparators, Joiners}
 use Rattle.value.specs.declared.Rule.{Rule}
 use Rattle.value.specs.declared.Rule.the-variants.{Number, Text, OneOf}
@@ -126,7 +127,7 @@ module _ (t : List ℕ) (d : Delims) (n : ℕ) (more y : Bool) (p : Proper d) (e
   unfolding charsetFault faultNo
   charset-right h = record { told = cc (charset-same); long = e .long }
 
-  pub charset-wrong : y ≡ false → ClosedOf (charsetFault d) (fieldAt d t) (faultNo Value) n
+  pub charset-wrong : y ≡ false → ClosedOf (charsetFault d) (fieldAt d t) (faultNo (Found Value)) n
   unfolding charsetFault faultNo
   charset-wrong h = record { told = cc (charset-same); long = e .long }
 
@@ -258,11 +259,11 @@ module _ (t last : List ℕ) (d : Delims) (n k j : ℕ) (clean more : Bool) (p :
   shape-within h g =
       omega (arith, last-within t last d n p e, ap length (rest-is last k), length-drop k last)
 
-  pub shape-repeats : more ≡ true → ClosedOf (shapeFault d n) (fieldAt d t) (faultNo Repeated) (length t - length last + k + j)
+  pub shape-repeats : more ≡ true → ClosedOf (shapeFault d n) (fieldAt d t) (faultNo (Found Repeated)) (length t - length last + k + j)
   unfolding shapeFault faultNo
   shape-repeats h = record { told = cc (shape-more); long = shape-long }
 
-  pub shape-excess : more ≡ false → 0 < j → ClosedOf (shapeFault d n) (fieldAt d t) (faultNo Escape) (length t - length last + k + j)
+  pub shape-excess : more ≡ false → 0 < j → ClosedOf (shapeFault d n) (fieldAt d t) (faultNo (Found Escape)) (length t - length last + k + j)
   unfolding shapeFault faultNo
   shape-excess h l = record { told = cc (shape-more, shape-over h, lt-ltb 0 j l); long = shape-long }
 
@@ -334,7 +335,7 @@ unfolding comparedFault valueRules ruleOf textOf same bytes
 compared-is d x y beside f g r e h k = cc
 
 module _ (x y : List ℕ) (p q : Bool) (e : p ≡ empty x) (f : q ≡ empty y) where
-  pub unjoined-yes : (p && not q) ≡ true → faultNo Value ≡ unjoinedFault x y
+  pub unjoined-yes : (p && not q) ≡ true → faultNo (Found Value) ≡ unjoinedFault x y
   unfolding unjoinedFault faultNo
   unjoined-yes h = cc (and-comm (empty x) (not (empty y)))
 

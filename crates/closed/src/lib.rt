@@ -1,5 +1,6 @@
 // The closed fields MSH-18, PID-5 and OBX-5, judged: each at the start of what is left of its segment.
 use rules::Delims;
+use rules::Kind;
 use value::Fault;
 use value::Rule;
 use value::earlier;
@@ -11,7 +12,7 @@ ghost use Prim.Native.Nat.{ℕ, _≤_};
 ghost use lib.ListN.{length};
 ghost use Rattle.rules.specs.Lists.{bytes, empty, filled, same, has};
 ghost use Rattle.rules.specs.Shift.{met};
-ghost use Rattle.rules.specs.Places.{Four, valueRules};
+ghost use Rattle.rules.specs.Places.{valueRules};
 ghost use Rattle.rules.specs.View.{componentOf};
 ghost use Rattle.rules.specs.Judge as J;
 ghost use Rattle.scan.specs.Scan.{Proper};
@@ -92,7 +93,7 @@ pub fn charset(t: &[u8], d: Delims) -> ClosedRead
         };
     }
     ClosedRead {
-        fault: Fault::Value,
+        fault: Fault::Found(Kind::Value),
         len,
     }
 }
@@ -178,13 +179,13 @@ fn shape(t: &[u8], d: Delims, n: usize) -> ClosedRead
     let len = t.len() - last.len() + k + e.len;
     if e.repeats {
         return ClosedRead {
-            fault: Fault::Repeated,
+            fault: Fault::Found(Kind::Repeated),
             len,
         };
     }
     if 0 < e.len {
         return ClosedRead {
-            fault: Fault::Escape,
+            fault: Fault::Found(Kind::Escape),
             len,
         };
     }
@@ -236,7 +237,7 @@ fn unjoined(joiner: &[u8], second: &[u8], d: Delims) -> Fault
     ensures { λ r. ⌜ faultNo r ≡ unjoinedFault (componentAt d (now (joiner .entry))) (componentAt d (now (second .entry))) ⌝ }
 {
     if blank(joiner, d) & !blank(second, d) {
-        return Fault::Value;
+        return Fault::Found(Kind::Value);
     }
     Fault::Nothing
 }

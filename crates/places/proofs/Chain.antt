@@ -5,7 +5,6 @@ use native.Mathlib.Numerals.{add-one}
 use mathlib.Core.Path.{_≡_, refl, sym, ap, subst, _∙_}
 use mathlib.Core.List.{List, [], _∷_, map}
 use mathlib.Core.Bool.{true, false}
-use borrow.Author.Tests.{eq-eqb}
 use lib.ListN.{take, drop}
 use Rattle.rules.specs.declared.Delims.{Delims}
 use Rattle.rules.specs.declared.Name.{Name}
@@ -130,8 +129,7 @@ then-by (suc n) a b h = refl
 
 -- ---- what was read
 zero-fine : (f : Fault) → faultNo f ≡ 0 → fineOf f ≡ true
-unfolding fineOf
-zero-fine f h = eq-eqb (faultNo f) 0 h
+zero-fine f h = cases (fineOf f) (λ e. e) (λ e. absurd (omega (arith, fault-some f e)))
 
 -- where no fault is found, none was before
 pub earlier-fine : {d : Delims} {s : List ℕ} {f : ℕ} {own : List ℕ → ℕ} {first : List ℕ → List ℕ} {w r : Walk} → Went d s f own first w r

@@ -161,7 +161,7 @@ module _ (d : Delims) (raw : List ℕ) where
       absurd (omega (arith, w .long, w .over, value-short (w .text) (w .is)))
 
 -- one text after another, where what is left of the buffer was lent for the second
-fill-nil : (b : List ℕ) → fill b [] ≡ []
+pub fill-nil : (b : List ℕ) → fill b [] ≡ []
 unfolding fill
 fill-nil [] = refl
 fill-nil (x ∷ b) = refl

@@ -13,7 +13,7 @@ use Rattle.rules.specs.declared.Refusal.{Refusal}
 use Rattle.rules.specs.declared.Written.{Written}
 use Rattle.rules.specs.declared.Written.the-variants.{Wrote, NotWritten}
 use Rattle.rules.specs.Told as T
-use Rattle.rules.specs.Told.{Told, gives, refused, refusal, toldLength, lengthOf, _>>=_}
+use Rattle.rules.specs.Told.{Told, gives, refused, refusal, toldLength, lengthOf, Call, _>>=_}
 use Rattle.rules.specs.Lists.{empty, split, onto, last}
 use Rattle.rules.specs.Shift.{keeps}
 use Rattle.rules.specs.Row.{Row}
@@ -26,9 +26,8 @@ use Rattle.compose.specs.declared.Size.{Size}
 use Rattle.compose.specs.declared.Passed.{Passed}
 use Rattle.compose.specs.declared.Passed.the-variants.{All, Not}
 use Rattle.compose.specs.Compose.{refusalAt, toldSize, sizeOf, rowsIn, Pass}
-use Rattle.to_message.specs.Call.{Composed}
 
-composed-as : {t u : Told (List ℕ)} {x : List ℕ} {r : Written} {y : List ℕ} → t ≡ u → Composed u x r y → Composed t x r y
+composed-as : {t u : Told (List ℕ)} {x : List ℕ} {r : Written} {y : List ℕ} → t ≡ u → Call u x r y → Call t x r y
 composed-as e p = rw e p
 
 over-is : (w x : List ℕ) → Over.over w x ≡ T.over (gives w) x
@@ -40,7 +39,7 @@ abbrev cross : Told Size → Told (List ℕ)
 cross (gives n) = gives []
 cross (refused n a b) = refused n a b
 
-refuses : (t : Told (List ℕ)) (x : List ℕ) (k : Refusal) → t ≡ refusal k → Composed t x (NotWritten k) x
+refuses : (t : Told (List ℕ)) (x : List ℕ) (k : Refusal) → t ≡ refusal k → Call t x (NotWritten k) x
 refuses t x k e = composed-as e (record { told = refl; buffer = refl })
 
 -- ---- 44, 45, and the message
@@ -74,17 +73,17 @@ module _ (d : Delims) (s x : List ℕ) (size : Size) (g : gives size ≡ (rowsIn
       other : {P : Type 0} (n a b : ℕ) → gives size ≡ refused n a b → P
       other n a b h = absurd (let z : _≡_ {A = ℕ} 0 1 = cc in omega arith)
 
-  pub write-44 : (k : Refusal) → (ltb 32768 (size .bytes) || ltb 512 (size .segments)) ≡ true → k ≡ refusalAt Overflow 0 → Composed whole x (NotWritten k) x
+  pub write-44 : (k : Refusal) → (ltb 32768 (size .bytes) || ltb 512 (size .segments)) ≡ true → k ≡ refusalAt Overflow 0 → Call whole x (NotWritten k) x
   write-44 k h f =
       sized (λ rows e q.
       refuses whole x k (ap (λ (t : Told (List Row)). t >>= λ r. messageTold d r (length x)) e ∙ told-44 d rows (length x) (rw q at h) ∙ ap refusal (sym f)))
 
-  pub write-45 : (k : Refusal) → (ltb 32768 (size .bytes) || ltb 512 (size .segments)) ≡ false → length x < size .bytes → k ≡ refusalAt Room 0 → Composed whole x (NotWritten k) x
+  pub write-45 : (k : Refusal) → (ltb 32768 (size .bytes) || ltb 512 (size .segments)) ≡ false → length x < size .bytes → k ≡ refusalAt Room 0 → Call whole x (NotWritten k) x
   write-45 k h l f =
       sized (λ rows e q.
       refuses whole x k (ap (λ (t : Told (List Row)). t >>= λ r. messageTold d r (length x)) e ∙ told-45 d rows (length x) (rw q at h) (rw q at l) ∙ ap refusal (sym f)))
 
-  pub write-all : (ltb 32768 (size .bytes) || ltb 512 (size .segments)) ≡ false → size .bytes ≤ length x → (r : Passed) (y : List ℕ) → Pass d s x r y → Composed whole x (Wrote (size .bytes)) y
+  pub write-all : (ltb 32768 (size .bytes) || ltb 512 (size .segments)) ≡ false → size .bytes ≤ length x → (r : Passed) (y : List ℕ) → Pass d s x r y → Call whole x (Wrote (size .bytes)) y
   write-all h l r y p =
       sized (λ rows e q.
       let t : whole ≡ gives (messageOf d rows) = ap (λ (t : Told (List Row)). t >>= λ r. messageTold d r (length x)) e ∙ told-all d rows (length x) (rw q at h) (rw q at l) in
@@ -96,17 +95,17 @@ module _ (s x : List ℕ) where
   abbrev asked : Told (List ℕ)
   asked = toMessage s (length x)
 
-  pub call-40 : (k : Refusal) → 65536 < length s → k ≡ refusalAt SheetTooLong 0 → Composed asked x (NotWritten k) x
+  pub call-40 : (k : Refusal) → 65536 < length s → k ≡ refusalAt SheetTooLong 0 → Call asked x (NotWritten k) x
   unfolding toMessage readSheet
   call-40 k l f = refuses asked x k (rw (lt-ltb 65536 (length s) l) (ap refusal (sym f)))
 
   module _ (l : length s ≤ 65536) (q : Bool) (e : q ≡ keeps 0x0A s) where
-    pub call-41 : (k : Refusal) → not q ≡ true → k ≡ refusalAt SheetBytes 0 → Composed asked x (NotWritten k) x
+    pub call-41 : (k : Refusal) → not q ≡ true → k ≡ refusalAt SheetBytes 0 → Call asked x (NotWritten k) x
     unfolding toMessage readSheet
     call-41 k h f = refuses asked x k (rw (le-ltb 65536 (length s) l, ← e, not-true q h) (ap refusal (sym f)))
 
     module _ (h : not q ≡ false) (u : Bool) (g : u ≡ empty (last (split 0x0A s))) where
-      pub call-41-end : (k : Refusal) → not u ≡ true → k ≡ refusalAt SheetBytes 0 → Composed asked x (NotWritten k) x
+      pub call-41-end : (k : Refusal) → not u ≡ true → k ≡ refusalAt SheetBytes 0 → Call asked x (NotWritten k) x
       unfolding toMessage readSheet
       call-41-end k w f = refuses asked x k (rw (le-ltb 65536 (length s) l, ← e, not-false q h, ← g, not-true u w) (ap refusal (sym f)))
 
@@ -115,14 +114,14 @@ module _ (s x : List ℕ) where
       call-on w = rw (le-ltb 65536 (length s) l, ← e, not-false q h, ← g, not-false u w)
 
       module _ (w : not u ≡ false) (d : Delims) (b : d ≡ base) where
-        pub call-all : (r : Written) (y : List ℕ) → Composed (rowsIn s >>= λ rows. messageTold d rows (length x)) x r y → Composed asked x r y
+        pub call-all : (r : Written) (y : List ℕ) → Call (rowsIn s >>= λ rows. messageTold d rows (length x)) x r y → Call asked x r y
         call-all r y c = composed-as (call-on w) (rw b at c)
 
         module _ (p : Passed) (t : toldSize p ≡ (rowsIn s >>= λ rows. gives (sizeOf d rows))) where
           pub call-size : (size : Size) → p ≡ All size → gives size ≡ (rowsIn s >>= λ rows. gives (sizeOf d rows))
           call-size size f = rw f at t
 
-          pub call-refused : (k : Refusal) → p ≡ Not k → Composed asked x (NotWritten k) x
+          pub call-refused : (k : Refusal) → p ≡ Not k → Call asked x (NotWritten k) x
           call-refused k f = refuses asked x k (call-on w ∙ toldCases (rowsIn s) (λ rows e. both-ways rows e) (λ n a c e. rw e (sym (ap cross (rw (f, e) at t)))))
             where
               both-ways : (rows : List Row) → rowsIn s ≡ gives rows → (rowsIn s >>= λ rows. messageTold base rows (length x)) ≡ refusal k

@@ -1,10 +1,8 @@
--- What the call from sheet to message answers and leaves.
-use mathlib.Core.Path.{_≡_}
+-- The message of a sheet's lines, and its size.
 use mathlib.Core.List.{List}
 use Prim.Native.Nat.{ℕ}
 use Rattle.rules.specs.declared.Delims.{Delims}
-use Rattle.rules.specs.declared.Written.{Written}
-use Rattle.rules.specs.Told.{Told, gives, toldLength, lengthOf, over, _>>=_}
+use Rattle.rules.specs.Told.{Told, gives, _>>=_}
 use Rattle.rules.specs.Message.{messageTold}
 use Rattle.compose.specs.declared.Size.{Size}
 use Rattle.compose.specs.Compose.{sizeOf, rowsIn}
@@ -15,8 +13,3 @@ sizeIn d s = rowsIn s >>= λ rows. gives (sizeOf d rows)
 
 abbrev pub messageIn : Delims → List ℕ → ℕ → Told (List ℕ)
 messageIn d s room = rowsIn s >>= λ rows. messageTold d rows room
-
--- where t is the message or a refusal: what is answered, and what the buffer x then holds
-pub record Composed (t : Told (List ℕ)) (x : List ℕ) (r : Written) (y : List ℕ) : Type 0 where
-  pub told : toldLength r ≡ lengthOf t
-  pub buffer : y ≡ over t x

@@ -7,10 +7,10 @@ use rules::Written;
 ghost use mathlib.Core.Path.{_≡_};
 ghost use Prim.Native.Nat.{ℕ, _≤_};
 ghost use lib.ListN.{length};
-ghost use Rattle.rules.specs.Told.{gives, over, toldLength, lengthOf};
+ghost use Rattle.rules.specs.Told.{gives, over, toldLength, lengthOf, Call};
 ghost use Rattle.rules.specs.Lists.{empty, last, split};
 ghost use Rattle.rules.specs.Message.{base, toMessage};
-ghost use Rattle.to_message.specs.Call.{sizeIn, messageIn, Composed};
+ghost use Rattle.to_message.specs.Call.{sizeIn, messageIn};
 
 // Whether a sheet is empty or ends in 0A.
 fn ends(s: &[u8]) -> bool
@@ -39,7 +39,7 @@ fn delimiters() -> Delims
 // 44, 45, and the message of a sheet whose rows have this size.
 fn write(out: &mut [u8], sheet: &[u8], size: Size, d: Delims) -> Written
     requires { ⌜ (length (now sheet) ≤ 65536) × (gives size ≡ sizeIn d (now sheet)) ⌝ }
-    ensures { λ r. ⌜ Composed (messageIn d (now (sheet .entry)) (length (now (out .entry)))) (now (out .entry)) r (now (out .exit)) ⌝ }
+    ensures { λ r. ⌜ Call (messageIn d (now (sheet .entry)) (length (now (out .entry)))) (now (out .entry)) r (now (out .exit)) ⌝ }
 {
     let bytes = size.bytes;
     let segments = size.segments;

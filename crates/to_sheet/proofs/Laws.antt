@@ -19,7 +19,7 @@ use Rattle.rules.specs.declared.Name.{Name}
 use Rattle.rules.specs.declared.Name.the-variants.{Orc, Other}
 use Rattle.rules.specs.declared.Written.{Written}
 use Rattle.rules.specs.declared.Written.the-variants.{Wrote, NotWritten}
-use Rattle.rules.specs.Told.{Told, gives, refused, refusal, told, toldLength, lengthOf, over, _>>_}
+use Rattle.rules.specs.Told.{Told, gives, refused, refusal, told, toldLength, lengthOf, over, Call, _>>_}
 use Rattle.rules.specs.Lists.{split, allButLast, ended}
 use Rattle.rules.specs.Shift.{met}
 use Rattle.rules.specs.Frame.{delimsOf, headerOk, segments, segmentsOk, nameOf}
@@ -40,9 +40,8 @@ use Rattle.frame.proofs.Rules.{check-refused, sound}
 use Rattle.frame.proofs.Laws.{segments-next, ok-next, ok-unended, header-long}
 use Rattle.report.specs.Fill.{least, Filled, fillAt, Added, Lined}
 use Rattle.report.specs.Section.{linesIn, sections}
-use Rattle.report.proofs.Filling.{back, length-fill, lined-then}
+use Rattle.report.proofs.Filling.{back, fill-nil, length-fill, lined-then}
 use Rattle.report.proofs.Sheet.{sheet-is}
-use Rattle.to_sheet.specs.Sheet.{Answered}
 
 -- ---- the lines of a segment, by its name
 module _ (d : Delims) (n : Name) (body x : List ℕ) where
@@ -177,7 +176,7 @@ fits [] old h = refl
 fits (x ∷ w) [] h = absurd (omega arith)
 fits (x ∷ w) (o ∷ old) h = ap (λ (l : List ℕ). x ∷ l) (fits w old (omega arith))
 
-answered-as : {t u : Told (List ℕ)} {x : List ℕ} {r : Written} {y : List ℕ} → t ≡ u → Answered u x r y → Answered t x r y
+answered-as : {t u : Told (List ℕ)} {x : List ℕ} {r : Written} {y : List ℕ} → t ≡ u → Call u x r y → Call t x r y
 answered-as e p = rw e p
 
 module _ (m : List ℕ) (d : Delims) (s : Sound m d) (room : ℕ) where
@@ -195,14 +194,20 @@ module _ (m : List ℕ) (d : Delims) (s : Sound m d) (room : ℕ) where
   unfolding sheetTold
   told-whole h = rw (text-is, le-ltb room (length text) h)
 
-module _ (m : List ℕ) (d : Delims) (s : Sound m d) (x z w : List ℕ) (n : ℕ) (measured : Filled n z (sections d (segments m)) w) where
-  pub write-short : (k : Refusal) → length x < n → k ≡ record { kind = Room; segment = 0; field = 0 } → Answered (sheetTold (view m) (length x)) x (NotWritten k) x
-  write-short k h e = answered-as (told-short m d s (length x) (omega (arith, measured .ends))) (rw e (record { told = refl; buffer = refl }))
+-- measured where nothing is lent, z, so the buffer is x still
+module _ (m : List ℕ) (d : Delims) (s : Sound m d) (x z : List ℕ) (n : ℕ) (measured : Filled n z (sections d (segments m)) []) where
+  still : z ++ x ≡ x
+  still = ap (λ (l : List ℕ). l ++ x) (measured .is ∙ fill-nil (sections d (segments m)))
 
-  pub write-whole : (r : ℕ) (y : List ℕ) → n ≤ length x → Filled r y (sections d (segments m)) x → Answered (sheetTold (view m) (length x)) x (Wrote n) y
+  pub write-short : (k : Refusal) → length (z ++ x) < n → k ≡ record { kind = Room; segment = 0; field = 0 }
+      → Call (sheetTold (view m) (length x)) x (NotWritten k) (z ++ x)
+  write-short k h e = answered-as (told-short m d s (length x) (omega (arith, measured .ends, ap length still))) (rw e (record { told = refl; buffer = still }))
+
+  pub write-whole : (r : ℕ) (y : List ℕ) → n ≤ length (z ++ x) → Filled r y (sections d (segments m)) (z ++ x) → Call (sheetTold (view m) (length x)) x (Wrote n) y
   write-whole r y h f =
-      let room : length (sections d (segments m)) ≤ length x = omega (arith, measured .ends) in
-      answered-as (told-whole m d s (length x) room) (record { told = ap gives (measured .ends); buffer = f .is ∙ fits (sections d (segments m)) x room })
+      let room : length (sections d (segments m)) ≤ length x = omega (arith, measured .ends, ap length still) in
+      answered-as (told-whole m d s (length x) room)
+      (record { told = ap gives (measured .ends); buffer = f .is ∙ ap (fill (sections d (segments m))) still ∙ fits (sections d (segments m)) x room })
 
 -- ---- the check first
 framed : (t : Told (Unit {0})) (u : Told Counts) (c : Counts) → (t >> u) ≡ gives c → t ≡ gives tt
@@ -231,10 +236,10 @@ module _ (m : List ℕ) (a : Answer) (e : told a ≡ checkTold m) where
     unfolding toSheet
     sheet-told room = rw accepted
 
-    pub wrote-told : (x : List ℕ) (r : Written) (y : List ℕ) → Answered (sheetTold (view m) (length x)) x r y → toldLength r ≡ lengthOf (toSheet m (length x))
+    pub wrote-told : (x : List ℕ) (r : Written) (y : List ℕ) → Call (sheetTold (view m) (length x)) x r y → toldLength r ≡ lengthOf (toSheet m (length x))
     wrote-told x r y w = w .told ∙ ap lengthOf (sym (sheet-told (length x)))
 
-    pub wrote-buffer : (x : List ℕ) (r : Written) (y : List ℕ) → Answered (sheetTold (view m) (length x)) x r y → y ≡ over (toSheet m (length x)) x
+    pub wrote-buffer : (x : List ℕ) (r : Written) (y : List ℕ) → Call (sheetTold (view m) (length x)) x r y → y ≡ over (toSheet m (length x)) x
     wrote-buffer x r y w = w .buffer ∙ ap (λ (t : Told (List ℕ)). over t x) (sym (sheet-told (length x)))
 
   module _ (k : Refusal) (h : a ≡ Refused k) where

@@ -12,7 +12,7 @@ use rules::Written;
 ghost use mathlib.Core.Path.{_≡_};
 ghost use Prim.Native.Nat.{_+_, _≤_};
 ghost use lib.ListN.{length};
-ghost use Rattle.rules.specs.Told.{toldLength, lengthOf, over};
+ghost use Rattle.rules.specs.Told.{toldLength, lengthOf, over, Call};
 ghost use Rattle.rules.specs.Shift.{met};
 ghost use Rattle.rules.specs.Frame.{nameOf, segments};
 ghost use Rattle.rules.specs.View.{view};
@@ -21,7 +21,6 @@ ghost use Rattle.scan.specs.Scan.{Proper};
 ghost use Rattle.frame.specs.Frame.{Sound};
 ghost use Rattle.report.specs.Fill.{Filled, Lined};
 ghost use Rattle.report.specs.Section.{linesIn, sections};
-ghost use Rattle.to_sheet.specs.Sheet.{Answered};
 
 // Message to sheet: the check's refusal first, 45 last.
 pub fn to_sheet(m: &[u8], out: &mut [u8]) -> Written
@@ -37,13 +36,13 @@ pub fn to_sheet(m: &[u8], out: &mut [u8]) -> Written
     }
 }
 
-// 45, or the sheet: nothing is written before its length is known.
+// 45, or the sheet. It is measured first, where nothing of the buffer is lent.
 fn write(out: &mut [u8], m: &[u8], d: Delims) -> Written
     requires { ⌜ Sound (now m) d ⌝ }
-    ensures { λ r. ⌜ Answered (sheetTold (view (now (m .entry))) (length (now (out .entry)))) (now (out .entry)) r (now (out .exit)) ⌝ }
+    ensures { λ r. ⌜ Call (sheetTold (view (now (m .entry))) (length (now (out .entry)))) (now (out .entry)) r (now (out .exit)) ⌝ }
 {
-    let mut nothing = [0u8; 0];
-    let n = pass(&mut nothing, m, d);
+    let lent = 0;
+    let n = pass(&mut out[..lent], m, d);
     if out.len() < n {
         return Written::NotWritten(Refusal {
             kind: Kind::Room,

@@ -1,4 +1,5 @@
 // The value rules of the read places, over plain bytes: a component that is unescaped, or a value of a sheet.
+use rules::Kind;
 ghost use mathlib.Core.Path.{_≡_};
 ghost use mathlib.Core.List.{List, foldl};
 ghost use Prim.Native.Nat.{ℕ, _+_, _-_, _<_, _≤_};
@@ -16,17 +17,10 @@ ghost use Rattle.value.specs.Number.{readByte, unread};
 
 pub mod table;
 
-// What a read place breaks, with its number in document 01.
+// What a read place breaks: nothing, or the refusal's kind.
 pub enum Fault {
     Nothing,
-    Missing, // 20
-    Null, // 21
-    Repeated, // 22
-    Escape, // 23
-    Long, // 24
-    Value, // 25
-    Status, // 26
-    Differs, // 27
+    Found(Kind),
 }
 
 // The words that a place may hold.
@@ -73,14 +67,7 @@ pub fn fine(f: Fault) -> bool
 {
     match f {
         Fault::Nothing => true,
-        Fault::Missing => false,
-        Fault::Null => false,
-        Fault::Repeated => false,
-        Fault::Escape => false,
-        Fault::Long => false,
-        Fault::Value => false,
-        Fault::Status => false,
-        Fault::Differs => false,
+        Fault::Found(_) => false,
     }
 }
 
@@ -413,17 +400,17 @@ pub fn fault_of(required: bool, rule: Rule, v: &[u8]) -> Fault
 {
     if v.len() == 0 {
         if required {
-            return Fault::Missing;
+            return Fault::Found(Kind::Missing);
         }
         return Fault::Nothing;
     }
     if too_long(rule, v.len()) {
-        return Fault::Long;
+        return Fault::Found(Kind::Long);
     }
     if holds(rule, v) {
         return Fault::Nothing;
     }
-    Fault::Value
+    Fault::Found(Kind::Value)
 }
 
 // 26: whether the status of OBX-11 agrees with what OBX-5 fills: a value, a part beside it.

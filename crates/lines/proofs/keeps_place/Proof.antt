@@ -20,13 +20,13 @@ keeps-requires-2 : tie.Need-keeps-requires-2
 keeps-requires-2 c κs = search needs
 
 returns : tie.Need-returns
-returns c = search (fits-unread, fits-must, fits-may, needs)
+returns c = search (fits-unread, needs)
 
 returns-2 : tie.Need-returns-2
-returns-2 c = search (fits-unread, fits-must, fits-may, needs)
+returns-2 c = search (fits-must, needs)
 
 returns-3 : tie.Need-returns-3
-returns-3 c = search (fits-unread, fits-must, fits-may, needs)
+returns-3 c = search (fits-may, needs)
 
 pub keeps-place-spec : {M : Type 1} → statement M
 keeps-place-spec =

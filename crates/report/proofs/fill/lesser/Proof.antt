@@ -5,10 +5,10 @@ use Rattle.report.proofs.fill.lesser.Statement.{statement}
 use Rattle.report.proofs.fill.lesser.Tie as tie
 
 returns : tie.Need-returns
-returns c = search (least-first, needs)
+returns c = (search (least-first, needs), search needs)
 
 returns-2 : tie.Need-returns-2
-returns-2 c = search (least-second, needs)
+returns-2 c = (search (least-second, needs), search needs)
 
 pub lesser-spec : {M : Type 1} → statement M
 lesser-spec = tie.close (tie.spec returns returns-2)

@@ -20,7 +20,7 @@ same-length : tie.Need-same-length
 same-length c = search needs
 
 returns : tie.Need-returns
-returns c = search (line-is, needs)
+returns c = (search (line-is, needs), search needs)
 
 pub line-spec : {M : Type 1} → statement M
 line-spec =

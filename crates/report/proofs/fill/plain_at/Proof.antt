@@ -26,7 +26,7 @@ same-length : tie.Need-same-length
 same-length c = search needs
 
 returns : tie.Need-returns
-returns c = search (back, needs)
+returns c = (search (back, needs), search needs)
 
 pub plain-at-spec : {M : Type 1} → statement M
 plain-at-spec =

@@ -14,7 +14,7 @@ same-length : tie.Need-same-length
 same-length c = search needs
 
 returns : tie.Need-returns
-returns c = search (three-is, needs)
+returns c = (search (three-is, needs), search needs)
 
 pub three-spec : {M : Type 1} → statement M
 three-spec = tie.close (tie.spec two-requires line-requires same-length returns)

@@ -14,7 +14,7 @@ same-length : tie.Need-same-length
 same-length c = search needs
 
 returns : tie.Need-returns
-returns c = search (two-is, needs)
+returns c = (search (two-is, needs), search needs)
 
 pub two-spec : {M : Type 1} → statement M
 two-spec = tie.close (tie.spec line-requires line-requires-2 same-length returns)

@@ -11,7 +11,7 @@ behind-requires : tie.Need-behind-requires
 behind-requires c κs = search needs
 
 returns : tie.Need-returns
-returns c = search (behind-within, needs)
+returns c = (search needs, search (behind-within, needs))
 
 pub behind-spec : {M : Type 1} → statement M
 behind-spec = tie.close (tie.spec first-requires behind-requires returns)

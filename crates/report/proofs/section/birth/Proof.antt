@@ -28,7 +28,7 @@ same-length c = search needs
 
 returns : tie.Need-returns
 unfolding bytes
-returns c = search (birth-is, needs)
+returns c = (search (birth-is, needs), search needs)
 
 pub birth-spec : {M : Type 1} → statement M
 birth-spec =

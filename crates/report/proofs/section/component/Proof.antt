@@ -13,7 +13,7 @@ slice-aggregate-result : tie.Need-slice-aggregate-result
 slice-aggregate-result c = search (part-length, needs)
 
 returns : tie.Need-returns
-returns c = search (head-met, component-within, needs)
+returns c = (search (head-met, needs), search (component-within, needs))
 
 pub component-spec : {M : Type 1} → statement M
 component-spec = tie.close (tie.spec first-requires slice-aggregate-result returns)

@@ -8,7 +8,7 @@ skip-requires : tie.Need-skip-requires
 skip-requires c κs = search needs
 
 returns : tie.Need-returns
-returns c = search (field-within, needs)
+returns c = (search needs, search (field-within, needs))
 
 pub field-spec : {M : Type 1} → statement M
 field-spec = tie.close (tie.spec skip-requires returns)

@@ -28,7 +28,7 @@ same-length c = search needs
 
 returns : tie.Need-returns
 unfolding bytes
-returns c = search (four-is, needs)
+returns c = (search (four-is, needs), search needs)
 
 pub four-spec : {M : Type 1} → statement M
 four-spec =

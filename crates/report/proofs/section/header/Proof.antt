@@ -25,7 +25,7 @@ same-length c = search needs
 
 returns : tie.Need-returns
 unfolding bytes
-returns c = search (header-is, needs)
+returns c = (search (header-is, needs), search needs)
 
 pub header-spec : {M : Type 1} → statement M
 header-spec =

@@ -31,7 +31,7 @@ same-length c = search needs
 
 returns : tie.Need-returns
 unfolding bytes
-returns c = search (item-is, needs)
+returns c = (search (item-is, needs), search needs)
 
 pub item-spec : {M : Type 1} → statement M
 item-spec =

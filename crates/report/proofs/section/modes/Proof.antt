@@ -37,7 +37,7 @@ same-length c = search needs
 
 returns : tie.Need-returns
 unfolding bytes
-returns c = search (modes-is, needs)
+returns c = (search (modes-is, needs), search needs)
 
 pub modes-spec : {M : Type 1} → statement M
 modes-spec =

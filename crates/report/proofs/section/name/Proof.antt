@@ -23,7 +23,7 @@ same-length : tie.Need-same-length
 same-length c = search needs
 
 returns : tie.Need-returns
-returns c = search (name-is, needs)
+returns c = (search (name-is, needs), search needs)
 
 pub name-spec : {M : Type 1} → statement M
 name-spec =

@@ -31,7 +31,7 @@ same-length c = search needs
 
 returns : tie.Need-returns
 unfolding bytes
-returns c = search (names-are, needs)
+returns c = (search (names-are, needs), search needs)
 
 pub names-spec : {M : Type 1} → statement M
 names-spec =

@@ -32,7 +32,7 @@ same-length : tie.Need-same-length
 same-length c = search needs
 
 returns : tie.Need-returns
-returns c = search (numbers-is, needs)
+returns c = (search (numbers-is, needs), search needs)
 
 pub numbers-spec : {M : Type 1} → statement M
 numbers-spec =

@@ -31,7 +31,7 @@ same-length c = search needs
 
 returns : tie.Need-returns
 unfolding bytes
-returns c = search (order-is, needs)
+returns c = (search (order-is, needs), search needs)
 
 pub order-spec : {M : Type 1} → statement M
 order-spec =

@@ -19,7 +19,7 @@ same-length c = search needs
 
 returns : tie.Need-returns
 unfolding bytes
-returns c = search (parts-sn, needs)
+returns c = (search (parts-sn, needs), search needs)
 
 piece-requires-2 : tie.Need-piece-requires-2
 piece-requires-2 c κs = search needs
@@ -41,7 +41,7 @@ same-length-2 c = search needs
 
 returns-2 : tie.Need-returns-2
 unfolding bytes
-returns-2 c = search (parts-one, needs)
+returns-2 c = (search (parts-one, needs), search needs)
 
 pub parts-spec : {M : Type 1} → statement M
 parts-spec =

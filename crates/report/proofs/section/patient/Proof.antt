@@ -34,7 +34,7 @@ same-length c = search needs
 
 returns : tie.Need-returns
 unfolding bytes
-returns c = search (patient-is, needs)
+returns c = (search (patient-is, needs), search needs)
 
 pub patient-spec : {M : Type 1} → statement M
 patient-spec =

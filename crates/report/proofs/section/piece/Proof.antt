@@ -12,7 +12,7 @@ slice-aggregate-result : tie.Need-slice-aggregate-result
 slice-aggregate-result c = search (part-length, needs)
 
 returns : tie.Need-returns
-returns c = search (piece-is, component-within, needs)
+returns c = (search (piece-is, needs), search (component-within, needs))
 
 pub piece-spec : {M : Type 1} → statement M
 piece-spec = tie.close (tie.spec finish-requires slice-aggregate-result returns)

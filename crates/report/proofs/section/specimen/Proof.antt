@@ -31,7 +31,7 @@ same-length c = search needs
 
 returns : tie.Need-returns
 unfolding bytes
-returns c = search (specimen-is, needs)
+returns c = (search (specimen-is, needs), search needs)
 
 pub specimen-spec : {M : Type 1} → statement M
 specimen-spec =

@@ -37,7 +37,7 @@ same-length c = search needs
 
 returns : tie.Need-returns
 unfolding bytes
-returns c = search (status-is, needs)
+returns c = (search (status-is, needs), search needs)
 
 pub status-spec : {M : Type 1} → statement M
 status-spec =

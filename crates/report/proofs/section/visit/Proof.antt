@@ -22,7 +22,7 @@ same-length c = search needs
 
 returns : tie.Need-returns
 unfolding bytes
-returns c = search (visit-is, needs)
+returns c = (search (visit-is, needs), search needs)
 
 pub visit-spec : {M : Type 1} → statement M
 visit-spec =
