@@ -4,29 +4,31 @@ use native.Mathlib.Omega.{arith}
 use mathlib.Core.Path.{_≡_, refl, sym, ap, subst, _∙_}
 use mathlib.Core.Bool.{Bool, true, false, cond, not, _&&_, _||_}
 use mathlib.Core.List.{List, [], _∷_, map}
-use borrow.Author.Tests.{eqb-true, eqb-false, leb-true, le-leb, lt-ltb, le-ltb}
-use lib.Dec.{eqb, leb, ltb}
+use borrow.Author.Tests.{le-leb, lt-ltb, le-ltb}
+use lib.Dec.{eqb, ltb}
 use lib.ListN.{length, getD, take, drop, length-drop}
 use lib.Seq.{drop-drop}
 use Rattle.rules.specs.declared.Delims.{Delims}
 use Rattle.rules.specs.declared.Mode.the-variants.{One}
 use Rattle.rules.specs.Told.{_then_, _when_}
-use Rattle.rules.specs.Lists.{bytes, empty, filled, same, all, has, nth, split, isOneOf}
-use Rattle.rules.specs.Shift.{step, isOne, mark, marks, met, within, byteOf}
+use Rattle.rules.specs.Lists.{bytes, empty, filled, same, all, has, nth, split}
+use Rattle.rules.specs.Shift.{isOne, mark, marks, met, within, byteOf}
 use Rattle.rules.specs.Value as Val
 use Rattle.rules.specs.Escape.{unescape, unescapeAt}
 use Rattle.rules.specs.Places.{Four, valueRules}
 use Rattle.rules.specs.View.{componentOf}
-use Rattle.rules.specs.Judge.{judge, faultOr23, firstMarked, kanji, nameFault, namesFault, isSN, rawFour, beside, unjoined, partsFault, valueFault, agrees}
-use Rattle.rules.proofs.Logic.{cases, cond-same, and-true, and-false, both, zeroCases, then-none, then-zero, when-none}
-use Rattle.rules.proofs.Lists.{here, over, rest-is, empty-zero, filled-some, all-cons, all-first, same-eq}
+use Rattle.rules.specs.Judge.{judge, faultOr23, firstMarked, kanji, nameFault, namesFault, isSN, rawFour, beside, unjoined, partsFault, valueFault}
+use Rattle.rules.proofs.Logic.{cases, cond-same, and-comm, then-none, then-zero, then-assoc, when-none}
+use Rattle.rules.proofs.Lists.{here, over, rest-is, empty-zero, filled-some, all-cons, same-eq}
 use Rattle.rules.proofs.Split.{split-nil, split-none}
-use Rattle.rules.proofs.Modes.{length-marks, still-one}
+use Rattle.rules.proofs.Modes.{length-marks}
+use Rattle.rules.proofs.Clean.{same-met}
 use Rattle.scan.specs.Scan.{until, is, ends, after, next, plainText, CutOf, TailOf, Proper}
 use Rattle.scan.proofs.Laws.{from-met, piece-met, ends-far}
-use Rattle.value.specs.Rules.{faultNo, fineOf, ruleOf, textOf, oneOf}
+use Rattle.value.specs.Rules.{faultNo, ruleOf, textOf}
 use Rattle.value.specs.declared.Fault.{Fault}
-use Rattle.value.specs.declared.Fault.the-variants.{Nothing, Missing, Null, Repeated, Escape, Long, Value, Status, Differs}
+use Rattle.rules.specs.declared.Kind.the-variants.{Repeated, Escape, Value}
+use Rattle.value.specs.declared.Fault.the-variants.{Nothing, Found}
 use Rattle.value.specs.declared.Words.the-variants.{Comparators, Joiners}
 use Rattle.value.specs.declared.Rule.{Rule}
 use Rattle.value.specs.declared.Rule.the-variants.{Number, Text, OneOf}
@@ -35,45 +37,11 @@ use Rattle.closed.specs.Closed.{endsRepetition, fieldAt, repetitionAt, c
 use Rattle.closed.proofs.Pieces.{after-free, after-none, after-short, component-at, components-over, forward-long, forward-repeats, forward-short, repetition-is, rest-long, rest-more, rest-none, split-after, until-free, until-none, whole-field}
 
 -- ---- general
-and-comm : (a b : Bool) → (a && b) ≡ (b && a)
-and-comm true b = sym (and-true b)
-and-comm false b = sym (and-false b)
-
--- printable bytes are met as they are
-same-met : (s w : List ℕ) → all (within 0x20 0x7E) w ≡ true → same (met s) w ≡ same s w
-unfolding met marks same mark isOne
-same-met [] [] h = refl
-same-met [] (b ∷ w) h = refl
-same-met (a ∷ s) [] h = refl
-same-met (a ∷ s) (b ∷ w) h =
-    cases (eqb a b)
-    (λ e. let q = all-first (within 0x20 0x7E) b w h in
-    let r = both (leb 0x20 b) (leb b 0x7E) (q .0) in
-    let o : step 0x0D One a ≡ One = rw (eqb-true a b e) (still-one 0x0D b (leb-true 0x20 b (r .0)) (leb-true b 0x7E (r .1))) in
-    cc (same-met s w (q .1)))
-    (λ e. cc)
-
 same-one : (s : List ℕ) (b : ℕ) → same (met s) (b ∷ []) ≡ same s (b ∷ [])
 unfolding met marks same mark isOne
 same-one [] b = refl
 same-one (a ∷ []) b = refl
 same-one (a ∷ c ∷ s) b = cases (eqb a b) (λ e. cc) (λ e. cc)
-
-then-assoc : (a b c : ℕ) → ((a then b) then c) ≡ (a then (b then c))
-then-assoc zero b c = refl
-then-assoc (suc a) b c = refl
-
-fine-zero : (f : Fault) → fineOf f ≡ eqb (faultNo f) 0
-unfolding fineOf faultNo
-fine-zero Nothing = refl
-fine-zero Missing = refl
-fine-zero Null = refl
-fine-zero Repeated = refl
-fine-zero Escape = refl
-fine-zero Long = refl
-fine-zero Value = refl
-fine-zero Status = refl
-fine-zero Differs = refl
 
 -- ---- at the start of t
 -- the field by itself
@@ -133,13 +101,6 @@ unfolding empty until met marks mark isOne ends
 blank-some [] d h = absurd (h refl)
 blank-some (b ∷ t) d h = cases (ends d b) (λ e. cc) (λ e. cc)
 
-pub earlier-second : (a b : Fault) (y : Bool) → y ≡ fineOf a → y ≡ true → faultNo b ≡ (faultNo a then faultNo b)
-earlier-second a b y e h = rw (eqb-true (faultNo a) 0 (sym (fine-zero a) ∙ sym e ∙ h))
-
-pub earlier-first : (a b : Fault) (y : Bool) → y ≡ fineOf a → y ≡ false → faultNo a ≡ (faultNo a then faultNo b)
-earlier-first a b y e h =
-    zeroCases (faultNo a) (λ z. absurd (eqb-false (faultNo a) 0 (sym (fine-zero a) ∙ sym e ∙ h) z)) (λ k z. rw z)
-
 pub led-none : (s : List ℕ) (b : ℕ) (w : List ℕ) → length s ≡ 0 → false ≡ same s (b ∷ w)
 unfolding same
 led-none [] b w h = refl
@@ -166,7 +127,7 @@ module _ (t : List ℕ) (d : Delims) (n : ℕ) (more y : Bool) (p : Proper d) (e
   unfolding charsetFault faultNo
   charset-right h = record { told = cc (charset-same); long = e .long }
 
-  pub charset-wrong : y ≡ false → ClosedOf (charsetFault d) (fieldAt d t) (faultNo Value) n
+  pub charset-wrong : y ≡ false → ClosedOf (charsetFault d) (fieldAt d t) (faultNo (Found Value)) n
   unfolding charsetFault faultNo
   charset-wrong h = record { told = cc (charset-same); long = e .long }
 
@@ -247,6 +208,9 @@ module _ (d : Delims) (f : List ℕ) (at k : ℕ) where
   pub past-within : at < length f → k ≤ length (take (length f - at) (drop at f)) → at + k ≤ length f
   past-within h e = omega (arith, ap length (rest-is f at), length-drop at f)
 
+pub rest-fits : (f : List ℕ) (at : ℕ) → length (take (length f - at) (drop at f)) ≤ length f
+rest-fits f at = omega (arith, ap length (rest-is f at), length-drop at f)
+
 pub name-is : (t given : List ℕ) (d : Delims) (f g r : ℕ) → Proper d → met given ≡ forward d 1 (met t) → f ≡ judge d true (ruleOf (Text 48)) (componentAt d t)
     → g ≡ judge d false (ruleOf (Text 48)) (componentAt d given) → r ≡ (f then g) → r ≡ nameFault d (repetitionAt d t)
 unfolding nameFault componentOf ruleOf forward
@@ -295,11 +259,11 @@ module _ (t last : List ℕ) (d : Delims) (n k j : ℕ) (clean more : Bool) (p :
   shape-within h g =
       omega (arith, last-within t last d n p e, ap length (rest-is last k), length-drop k last)
 
-  pub shape-repeats : more ≡ true → ClosedOf (shapeFault d n) (fieldAt d t) (faultNo Repeated) (length t - length last + k + j)
+  pub shape-repeats : more ≡ true → ClosedOf (shapeFault d n) (fieldAt d t) (faultNo (Found Repeated)) (length t - length last + k + j)
   unfolding shapeFault faultNo
   shape-repeats h = record { told = cc (shape-more); long = shape-long }
 
-  pub shape-excess : more ≡ false → 0 < j → ClosedOf (shapeFault d n) (fieldAt d t) (faultNo Escape) (length t - length last + k + j)
+  pub shape-excess : more ≡ false → 0 < j → ClosedOf (shapeFault d n) (fieldAt d t) (faultNo (Found Escape)) (length t - length last + k + j)
   unfolding shapeFault faultNo
   shape-excess h l = record { told = cc (shape-more, shape-over h, lt-ltb 0 j l); long = shape-long }
 
@@ -371,7 +335,7 @@ unfolding comparedFault valueRules ruleOf textOf same bytes
 compared-is d x y beside f g r e h k = cc
 
 module _ (x y : List ℕ) (p q : Bool) (e : p ≡ empty x) (f : q ≡ empty y) where
-  pub unjoined-yes : (p && not q) ≡ true → faultNo Value ≡ unjoinedFault x y
+  pub unjoined-yes : (p && not q) ≡ true → faultNo (Found Value) ≡ unjoinedFault x y
   unfolding unjoinedFault faultNo
   unjoined-yes h = cc (and-comm (empty x) (not (empty y)))
 
@@ -433,13 +397,3 @@ module _ (d : Delims) (word f : List ℕ) (fault n : ℕ) (y z v w : Bool) (ev :
     pub value-st : w ≡ false → ((type : List ℕ) → isSN type ≡ false → valueRules type .value ≡ ruleOf (Text 200) → ValueOf d type f fault n y z) → ValueOf d word f fault n y z
     unfolding bytes valueRules ruleOf
     value-st h g = g word (sym ev ∙ hv) (rw (sym ev ∙ hv, sym ew ∙ h))
-
--- ---- OBX-11 against OBX-5
-module _ (status : List ℕ) (number parts y : Bool) (e : y ≡ oneOf (70 ∷ 32 ∷ 80 ∷ 32 ∷ 67 ∷ []) status) where
-  pub agrees-filled : y ≡ true → (c : Four (List ℕ)) → number ≡ filled (c .value) → parts ≡ beside c → number ≡ agrees status c
-  unfolding agrees isOneOf oneOf bytes
-  agrees-filled h c en ep = rw (sym e ∙ h) en
-
-  pub agrees-empty : y ≡ false → (c : Four (List ℕ)) → number ≡ filled (c .value) → parts ≡ beside c → (not number && not parts) ≡ agrees status c
-  unfolding agrees isOneOf oneOf bytes
-  agrees-empty h c en ep = rw (sym e ∙ h) (cases (empty (c .value)) (λ q. cc) (λ q. cc))

@@ -54,7 +54,7 @@ split-after sep (x ∷ s) h =
     cases (eqb x sep) (λ e. cc (split-here sep x s e))
     (λ e. cc (split-there sep x s e, split-after sep s (sym (has-there sep x s e) ∙ h)))
 
-after-within : (sep : ℕ) (s : List ℕ) → length (after sep s) ≤ length s
+pub after-within : (sep : ℕ) (s : List ℕ) → length (after sep s) ≤ length s
 unfolding after
 after-within sep [] = omega arith
 after-within sep (x ∷ s) = cases (eqb x sep) (λ e. rw (e, after) (omega arith)) (λ e. rw (e, after) (omega (arith, after-within sep s)))
@@ -68,6 +68,12 @@ pub after-free : (sep x : ℕ) (s : List ℕ) → has x s ≡ false → has x (a
 unfolding after
 after-free sep x [] h = h
 after-free sep x (b ∷ s) h = let q = has-first x b s h in cases (eqb b sep) (λ e. cc (q .1)) (λ e. cc (after-free sep x s (q .1)))
+
+-- from one separator to a later one
+pub onward-within : (sep n : ℕ) (s : List ℕ) → length (onward sep n s) ≤ length s
+unfolding onward
+onward-within sep zero s = omega arith
+onward-within sep (suc n) s = omega (arith, onward-within sep n (after sep s), after-within sep s)
 
 -- ---- how many pieces there are
 pub after-none : (sep : ℕ) (s : List ℕ) → has sep s ≡ false → after sep s ≡ []

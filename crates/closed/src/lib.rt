@@ -1,17 +1,18 @@
 // The closed fields MSH-18, PID-5 and OBX-5, judged: each at the start of what is left of its segment.
 use rules::Delims;
+use rules::Kind;
 use value::Fault;
 use value::Rule;
-use value::Words;
+use value::earlier;
+use value::table;
 ghost use mathlib.Core.Path.{_≡_};
 ghost use mathlib.Core.Bool.{false};
 ghost use mathlib.Core.List.{List, [], _∷_};
 ghost use Prim.Native.Nat.{ℕ, _≤_};
 ghost use lib.ListN.{length};
-ghost use Rattle.rules.specs.Told.{_then_};
 ghost use Rattle.rules.specs.Lists.{bytes, empty, filled, same, has};
 ghost use Rattle.rules.specs.Shift.{met};
-ghost use Rattle.rules.specs.Places.{Four, valueRules};
+ghost use Rattle.rules.specs.Places.{valueRules};
 ghost use Rattle.rules.specs.View.{componentOf};
 ghost use Rattle.rules.specs.Judge as J;
 ghost use Rattle.scan.specs.Scan.{Proper};
@@ -65,16 +66,6 @@ fn part(t: &[u8], d: Delims, required: bool, rule: Rule) -> Fault
     judge::judge(&t[..n], c.clean, d, required, rule)
 }
 
-// The earlier of two faults.
-fn earlier(a: Fault, b: Fault) -> Fault
-    ensures { λ r. ⌜ faultNo r ≡ (faultNo a then faultNo b) ⌝ }
-{
-    if value::fine(a) {
-        return b;
-    }
-    a
-}
-
 // Whether s is the byte b and then the word.
 fn led(s: &[u8], b: u8, word: &[u8]) -> bool
     ensures { λ r. ⌜ r ≡ same (now (s .entry)) (b ∷ now (word .entry)) ⌝ }
@@ -102,7 +93,7 @@ pub fn charset(t: &[u8], d: Delims) -> ClosedRead
         };
     }
     ClosedRead {
-        fault: Fault::Value,
+        fault: Fault::Found(Kind::Value),
         len,
     }
 }
@@ -121,9 +112,10 @@ fn marked(t: &[u8], d: Delims, mark: u8) -> bool
 }
 
 // The rest of the field f from its first repetition on that bears the mark; nothing where none does.
-fn repetition(f: &[u8], d: Delims, mark: u8) -> &[u8]
+pub fn repetition(f: &[u8], d: Delims, mark: u8) -> &[u8]
     requires { ⌜ Proper d × (has (d .field) (met (now f)) ≡ false) ⌝ }
     ensures { λ r. ⌜ MarkedOf d mark (met (now (f .entry))) (now r) ⌝ }
+    ensures within { λ r. ⌜ length (now r) ≤ length (now (f .entry)) ⌝ }
 {
     let mut at = 0;
     while at < f.len() {
@@ -143,8 +135,8 @@ fn name(t: &[u8], d: Delims) -> Fault
 {
     let given = component(t, d, 1);
     earlier(
-        part(t, d, true, Rule::Text(48)),
-        part(given, d, false, Rule::Text(48)),
+        part(t, d, true, table::NAME),
+        part(given, d, false, table::NAME),
     )
 }
 
@@ -187,13 +179,13 @@ fn shape(t: &[u8], d: Delims, n: usize) -> ClosedRead
     let len = t.len() - last.len() + k + e.len;
     if e.repeats {
         return ClosedRead {
-            fault: Fault::Repeated,
+            fault: Fault::Found(Kind::Repeated),
             len,
         };
     }
     if 0 < e.len {
         return ClosedRead {
-            fault: Fault::Escape,
+            fault: Fault::Found(Kind::Escape),
             len,
         };
     }
@@ -235,8 +227,8 @@ fn compared(t: &[u8], number: &[u8], d: Delims, beside: bool) -> Fault
     ensures { λ r. ⌜ faultNo r ≡ comparedFault d beside (componentAt d (now (t .entry))) (componentAt d (now (number .entry))) ⌝ }
 {
     earlier(
-        part(t, d, false, Rule::OneOf(Words::Comparators)),
-        part(number, d, beside, Rule::Number),
+        part(t, d, false, table::COMPARE),
+        part(number, d, beside, table::NUMBER),
     )
 }
 
@@ -245,7 +237,7 @@ fn unjoined(joiner: &[u8], second: &[u8], d: Delims) -> Fault
     ensures { λ r. ⌜ faultNo r ≡ unjoinedFault (componentAt d (now (joiner .entry))) (componentAt d (now (second .entry))) ⌝ }
 {
     if blank(joiner, d) & !blank(second, d) {
-        return Fault::Value;
+        return Fault::Found(Kind::Value);
     }
     Fault::Nothing
 }
@@ -256,9 +248,9 @@ fn joined(joiner: &[u8], second: &[u8], d: Delims) -> Fault
     ensures { λ r. ⌜ faultNo r ≡ joinedFault d (componentAt d (now (joiner .entry))) (componentAt d (now (second .entry))) ⌝ }
 {
     earlier(
-        part(joiner, d, false, Rule::OneOf(Words::Joiners)),
+        part(joiner, d, false, table::JOIN),
         earlier(
-            part(second, d, false, Rule::Number),
+            part(second, d, false, table::NUMBER),
             unjoined(joiner, second, d),
         ),
     )
@@ -317,17 +309,7 @@ pub fn value(t: &[u8], d: Delims, word: &[u8]) -> ValueRead
         return numbers(t, d);
     }
     if value::equal(word, b"NM") {
-        return single(t, d, Rule::Number);
+        return single(t, d, table::NUMBER);
     }
-    single(t, d, Rule::Text(200))
-}
-
-// Whether the status of OBX-11 agrees with what OBX-5 fills: a value, a part beside it.
-pub fn agrees(status: &[u8], number: bool, parts: bool) -> bool
-    ensures { λ r. ⌜ ((c : Four (List ℕ)) → number ≡ filled (c .value) → parts ≡ J.beside c → r ≡ J.agrees (now (status .entry)) c) ⌝ }
-{
-    if value::one_of(status, b"F P C") {
-        return number;
-    }
-    !number & !parts
+    single(t, d, table::TEXT)
 }

@@ -26,7 +26,7 @@ use Rattle.writer.proofs.Laws.{back}
 use Rattle.writer.specs.Woven.{delimiterOf, taken, slotText, firstText, woven, holes, sizes}
 use Rattle.writer.proofs.Decimals.{decimal-one, decimal-more-length}
 use Rattle.lines.specs.Lines.{valuesFrom}
-use Rattle.compose.specs.Compose.{rowsText, groupText, specimenText, resultText, specimensWith, resultsWith, segmentsOf, Added}
+use Rattle.compose.specs.Compose.{Named, rowsText, groupText, specimenText, resultText, specimensWith, resultsWith, segmentsOf, Added}
 
 -- to unfold this name is to unfold the patterns, the lines and the segments
 unfoldable pub shapes : Unit {0}
@@ -51,64 +51,64 @@ unfolding over
 front {r} {x} {w} {old} p = rw (p .is) (take-at w (drop (length w) old) r (sym (p .ends)))
 
 module _ (d : Delims) (ts : List (List ℕ)) (r : ℕ) (x old : List ℕ) where
-  pub visit-is : (a : RefT (List ℕ)) → a .now ≡ drop 6 (nth ts 0)
-      → Fit r x (woven d (80 ∷ 86 ∷ 49 ∷ 124 ∷ 124 ∷ 36 ∷ 13 ∷ []) (a ∷ [])) old → Fit r x (groupText d 0 0 Pv1 ts) old
+  pub visit-is : (n a : RefT (List ℕ)) → Named (n .now) Pv1 → a .now ≡ drop 6 (nth ts 0)
+      → Fit r x (woven d (35 ∷ 124 ∷ 124 ∷ 36 ∷ 13 ∷ []) (n ∷ a ∷ [])) old → Fit r x (groupText d 0 0 Pv1 ts) old
   unfolding shapes
-  visit-is a ea p = fit-as (simp (ea, append-assoc, append-nil)) p
+  visit-is n a en ea p = fit-as (simp (en .is, ea, append-nil)) p
 
-  pub order-is : (a b : RefT (List ℕ)) → a .now ≡ drop 6 (nth ts 0) → b .now ≡ drop 6 (nth ts 1)
-      → Fit r x (woven d (79 ∷ 66 ∷ 82 ∷ 124 ∷ 124 ∷ 36 ∷ 124 ∷ 124 ∷ 36 ∷ 94 ∷ 94 ∷ 57 ∷ 57 ∷ 48 ∷ 48 ∷ 51 ∷ 13 ∷ 79 ∷ 82 ∷ 67 ∷ 124 ∷ 82 ∷ 69 ∷ 124 ∷ 36 ∷ 13 ∷ []) (a ∷ b ∷ a ∷ [])) old → Fit r x (groupText d 0 0 Obr ts) old
+  pub order-is : (n a b m : RefT (List ℕ)) → Named (n .now) Obr → Named (m .now) Orc → a .now ≡ drop 6 (nth ts 0) → b .now ≡ drop 6 (nth ts 1)
+      → Fit r x (woven d (35 ∷ 124 ∷ 124 ∷ 36 ∷ 124 ∷ 124 ∷ 36 ∷ 94 ∷ 94 ∷ 57 ∷ 57 ∷ 48 ∷ 48 ∷ 51 ∷ 13 ∷ 35 ∷ 124 ∷ 82 ∷ 69 ∷ 124 ∷ 36 ∷ 13 ∷ []) (n ∷ a ∷ b ∷ m ∷ a ∷ [])) old → Fit r x (groupText d 0 0 Obr ts) old
   unfolding shapes
-  order-is a b ea eb p = fit-as (simp (ea, eb, append-assoc, append-nil)) p
+  order-is n a b m en em ea eb p = fit-as (simp (en .is, em .is, ea, eb, append-assoc, append-nil)) p
 
-  pub header-is : (a b c : RefT (List ℕ)) → a .now ≡ drop 5 (nth ts 2) → b .now ≡ drop 8 (nth ts 3) → c .now ≡ drop 5 (nth ts 1)
-      → Fit r x (woven d (77 ∷ 83 ∷ 72 ∷ 124 ∷ 94 ∷ 126 ∷ 92 ∷ 38 ∷ 124 ∷ 124 ∷ 124 ∷ 124 ∷ 124 ∷ 36 ∷ 124 ∷ 124 ∷ 79 ∷ 85 ∷ 76 ∷ 94 ∷ 82 ∷ 50 ∷ 50 ∷ 94 ∷ 79 ∷ 85 ∷ 76 ∷ 95 ∷ 82 ∷ 50 ∷ 50 ∷ 124 ∷ 36 ∷ 124 ∷ 36 ∷ 124 ∷ 50 ∷ 46 ∷ 53 ∷ 124 ∷ 124 ∷ 124 ∷ 124 ∷ 124 ∷ 124 ∷ 126 ∷ 73 ∷ 83 ∷ 79 ∷ 32 ∷ 73 ∷ 82 ∷ 56 ∷ 55 ∷ 124 ∷ 124 ∷ 73 ∷ 83 ∷ 79 ∷ 32 ∷ 50 ∷ 48 ∷ 50 ∷ 50 ∷ 45 ∷ 49 ∷ 57 ∷ 57 ∷ 52 ∷ 13 ∷ []) (a ∷ b ∷ c ∷ [])) old → Fit r x (groupText d 0 0 Msh ts) old
+  pub header-is : (n a b c : RefT (List ℕ)) → Named (n .now) Msh → a .now ≡ drop 5 (nth ts 2) → b .now ≡ drop 8 (nth ts 3) → c .now ≡ drop 5 (nth ts 1)
+      → Fit r x (woven d (35 ∷ 124 ∷ 94 ∷ 126 ∷ 92 ∷ 38 ∷ 124 ∷ 124 ∷ 124 ∷ 124 ∷ 124 ∷ 36 ∷ 124 ∷ 124 ∷ 79 ∷ 85 ∷ 76 ∷ 94 ∷ 82 ∷ 50 ∷ 50 ∷ 94 ∷ 79 ∷ 85 ∷ 76 ∷ 95 ∷ 82 ∷ 50 ∷ 50 ∷ 124 ∷ 36 ∷ 124 ∷ 36 ∷ 124 ∷ 50 ∷ 46 ∷ 53 ∷ 124 ∷ 124 ∷ 124 ∷ 124 ∷ 124 ∷ 124 ∷ 126 ∷ 73 ∷ 83 ∷ 79 ∷ 32 ∷ 73 ∷ 82 ∷ 56 ∷ 55 ∷ 124 ∷ 124 ∷ 73 ∷ 83 ∷ 79 ∷ 32 ∷ 50 ∷ 48 ∷ 50 ∷ 50 ∷ 45 ∷ 49 ∷ 57 ∷ 57 ∷ 52 ∷ 13 ∷ []) (n ∷ a ∷ b ∷ c ∷ [])) old → Fit r x (groupText d 0 0 Msh ts) old
   unfolding shapes
-  header-is a b c ea eb ec p = fit-as (simp (ea, eb, ec, append-assoc, append-nil)) p
+  header-is n a b c en ea eb ec p = fit-as (simp (en .is, ea, eb, ec, append-assoc, append-nil)) p
 
-  pub patient-plain : (a b c k e f : RefT (List ℕ)) → a .now ≡ drop 8 (nth ts 0) → b .now ≡ drop 7 (nth ts 1) → c .now ≡ drop 6 (nth ts 2) → k .now ≡ drop 11 (nth ts 3)
+  pub patient-plain : (n a b c k e f : RefT (List ℕ)) → Named (n .now) Pid → a .now ≡ drop 8 (nth ts 0) → b .now ≡ drop 7 (nth ts 1) → c .now ≡ drop 6 (nth ts 2) → k .now ≡ drop 11 (nth ts 3)
       → e .now ≡ drop 6 (nth ts 5) → f .now ≡ drop 4 (nth ts 6) → length (k .now) ≡ 0
-      → Fit r x (woven d (80 ∷ 73 ∷ 68 ∷ 124 ∷ 124 ∷ 124 ∷ 36 ∷ 124 ∷ 124 ∷ 36 ∷ 94 ∷ 36 ∷ 94 ∷ 94 ∷ 94 ∷ 94 ∷ 94 ∷ 76 ∷ 94 ∷ 73 ∷ 124 ∷ 124 ∷ 36 ∷ 124 ∷ 36 ∷ 13 ∷ []) (a ∷ b ∷ c ∷ e ∷ f ∷ [])) old → Fit r x (groupText d 0 0 Pid ts) old
+      → Fit r x (woven d (35 ∷ 124 ∷ 124 ∷ 124 ∷ 36 ∷ 124 ∷ 124 ∷ 36 ∷ 94 ∷ 36 ∷ 94 ∷ 94 ∷ 94 ∷ 94 ∷ 94 ∷ 76 ∷ 94 ∷ 73 ∷ 124 ∷ 124 ∷ 36 ∷ 124 ∷ 36 ∷ 13 ∷ []) (n ∷ a ∷ b ∷ c ∷ e ∷ f ∷ [])) old → Fit r x (groupText d 0 0 Pid ts) old
   unfolding shapes namesText
-  patient-plain a b c k e f ea eb ec ek ee ef h p =
+  patient-plain n a b c k e f en ea eb ec ek ee ef h p =
       let z : empty (drop 11 (nth ts 3)) ≡ true = rw (← ek) (empty-zero (k .now) h) in
-      fit-as (simp (ea, eb, ec, ee, ef, z, append-assoc, append-nil)) p
+      fit-as (simp (en .is, ea, eb, ec, ee, ef, z, append-assoc, append-nil)) p
 
-  pub patient-kana : (a b c k l e f : RefT (List ℕ)) → a .now ≡ drop 8 (nth ts 0) → b .now ≡ drop 7 (nth ts 1) → c .now ≡ drop 6 (nth ts 2) → k .now ≡ drop 11 (nth ts 3)
+  pub patient-kana : (n a b c k l e f : RefT (List ℕ)) → Named (n .now) Pid → a .now ≡ drop 8 (nth ts 0) → b .now ≡ drop 7 (nth ts 1) → c .now ≡ drop 6 (nth ts 2) → k .now ≡ drop 11 (nth ts 3)
       → l .now ≡ drop 10 (nth ts 4) → e .now ≡ drop 6 (nth ts 5) → f .now ≡ drop 4 (nth ts 6) → (length (k .now) ≡ 0 → ⊥)
-      → Fit r x (woven d (80 ∷ 73 ∷ 68 ∷ 124 ∷ 124 ∷ 124 ∷ 36 ∷ 124 ∷ 124 ∷ 36 ∷ 94 ∷ 36 ∷ 94 ∷ 94 ∷ 94 ∷ 94 ∷ 94 ∷ 76 ∷ 94 ∷ 73 ∷ 126 ∷ 36 ∷ 94 ∷ 36 ∷ 94 ∷ 94 ∷ 94 ∷ 94 ∷ 94 ∷ 76 ∷ 94 ∷ 80 ∷ 124 ∷ 124 ∷ 36 ∷ 124 ∷ 36 ∷ 13 ∷ []) (a ∷ b ∷ c ∷ k ∷ l ∷ e ∷ f ∷ [])) old → Fit r x (groupText d 0 0 Pid ts) old
+      → Fit r x (woven d (35 ∷ 124 ∷ 124 ∷ 124 ∷ 36 ∷ 124 ∷ 124 ∷ 36 ∷ 94 ∷ 36 ∷ 94 ∷ 94 ∷ 94 ∷ 94 ∷ 94 ∷ 76 ∷ 94 ∷ 73 ∷ 126 ∷ 36 ∷ 94 ∷ 36 ∷ 94 ∷ 94 ∷ 94 ∷ 94 ∷ 94 ∷ 76 ∷ 94 ∷ 80 ∷ 124 ∷ 124 ∷ 36 ∷ 124 ∷ 36 ∷ 13 ∷ []) (n ∷ a ∷ b ∷ c ∷ k ∷ l ∷ e ∷ f ∷ [])) old → Fit r x (groupText d 0 0 Pid ts) old
   unfolding shapes namesText
-  patient-kana a b c k l e f ea eb ec ek el ee ef h p =
+  patient-kana n a b c k l e f en ea eb ec ek el ee ef h p =
       let z : empty (drop 11 (nth ts 3)) ≡ false = rw (← ek) (filled-some (k .now) h) in
-      fit-as (simp (ea, eb, ec, ek, el, ee, ef, z, append-assoc, append-nil)) p
+      fit-as (simp (en .is, ea, eb, ec, ek, el, ee, ef, z, append-assoc, append-nil)) p
 
 module _ (d : Delims) (r : ℕ) (x old : List ℕ) where
-  pub specimen-put : (a b c : RefT (List ℕ)) → Fit r x (woven d (83 ∷ 80 ∷ 77 ∷ 124 ∷ 35 ∷ 124 ∷ 124 ∷ 124 ∷ 36 ∷ 94 ∷ 94 ∷ 74 ∷ 67 ∷ 49 ∷ 48 ∷ 124 ∷ 124 ∷ 124 ∷ 124 ∷ 124 ∷ 124 ∷ 124 ∷ 124 ∷ 124 ∷ 124 ∷ 124 ∷ 124 ∷ 124 ∷ 36 ∷ 13 ∷ []) (a ∷ b ∷ c ∷ [])) old → Fit r x (specimenText d (a .now) (b .now) (c .now)) old
+  pub specimen-put : (n a b c : RefT (List ℕ)) → Named (n .now) Spm → Fit r x (woven d (35 ∷ 124 ∷ 35 ∷ 124 ∷ 124 ∷ 124 ∷ 36 ∷ 94 ∷ 94 ∷ 74 ∷ 67 ∷ 49 ∷ 48 ∷ 124 ∷ 124 ∷ 124 ∷ 124 ∷ 124 ∷ 124 ∷ 124 ∷ 124 ∷ 124 ∷ 124 ∷ 124 ∷ 124 ∷ 124 ∷ 36 ∷ 13 ∷ []) (n ∷ a ∷ b ∷ c ∷ [])) old → Fit r x (specimenText d (a .now) (b .now) (c .now)) old
   unfolding shapes
-  specimen-put a b c p = fit-as (simp (append-assoc, append-nil)) p
+  specimen-put n a b c en p = fit-as (simp (en .is, append-assoc, append-nil)) p
 
   pub specimen-is : (ts : List (List ℕ)) (i : ℕ) (a b c : List ℕ) → a ≡ decimal (i + 1) → b ≡ drop 9 (nth ts 0) → c ≡ drop 10 (nth ts 1)
       → Fit r x (specimenText d a b c) old → Fit r x (groupText d i 0 Spm ts) old
   unfolding shapes
   specimen-is ts i a b c ea eb ec p = let z : a ≡ decimal (suc i) = ea ∙ ap decimal (add-one i) in fit-as (rw (z, eb, ec)) p
 
-  module _ (n item name type c v j s unit flag status : RefT (List ℕ)) (q : Bool) (e : q ≡ same (type .now) (83 ∷ 78 ∷ [])) where
+  module _ (m n item name type c v j s unit flag status : RefT (List ℕ)) (em : Named (m .now) Obx) (q : Bool) (e : q ≡ same (type .now) (83 ∷ 78 ∷ [])) where
     pub result-sn : (q && not (eqb (length (v .now)) 0)) ≡ true
-        → Fit r x (woven d (79 ∷ 66 ∷ 88 ∷ 124 ∷ 35 ∷ 124 ∷ 36 ∷ 124 ∷ 36 ∷ 94 ∷ 36 ∷ 94 ∷ 74 ∷ 67 ∷ 49 ∷ 48 ∷ 124 ∷ 124 ∷ 36 ∷ 94 ∷ 36 ∷ 94 ∷ 36 ∷ 94 ∷ 36 ∷ 124 ∷ 36 ∷ 124 ∷ 124 ∷ 36 ∷ 124 ∷ 124 ∷ 124 ∷ 36 ∷ 13 ∷ []) (n ∷ type ∷ item ∷ name ∷ c ∷ v ∷ j ∷ s ∷ unit ∷ flag ∷ status ∷ [])) old
+        → Fit r x (woven d (35 ∷ 124 ∷ 35 ∷ 124 ∷ 36 ∷ 124 ∷ 36 ∷ 94 ∷ 36 ∷ 94 ∷ 74 ∷ 67 ∷ 49 ∷ 48 ∷ 124 ∷ 124 ∷ 36 ∷ 94 ∷ 36 ∷ 94 ∷ 36 ∷ 94 ∷ 36 ∷ 124 ∷ 36 ∷ 124 ∷ 124 ∷ 36 ∷ 124 ∷ 124 ∷ 124 ∷ 36 ∷ 13 ∷ []) (m ∷ n ∷ type ∷ item ∷ name ∷ c ∷ v ∷ j ∷ s ∷ unit ∷ flag ∷ status ∷ [])) old
         → Fit r x (resultText d (n .now) (item .now) (name .now) (type .now) (c .now) (v .now) (j .now) (s .now) (unit .now) (flag .now) (status .now)) old
     unfolding shapes valueText
     result-sn h p =
         let t = both q (not (eqb (length (v .now)) 0)) h in
         let z : empty (v .now) ≡ false = filled-some (v .now) (λ w. never (sym (t .1) ∙ ap not (eq-eqb (length (v .now)) 0 w))) in
-        fit-as (simp (← e, t .0, z, append-assoc, append-nil)) p
+        fit-as (simp (em .is, ← e, t .0, z, append-assoc, append-nil)) p
 
     pub result-plain : (q && not (eqb (length (v .now)) 0)) ≡ false
-        → Fit r x (woven d (79 ∷ 66 ∷ 88 ∷ 124 ∷ 35 ∷ 124 ∷ 36 ∷ 124 ∷ 36 ∷ 94 ∷ 36 ∷ 94 ∷ 74 ∷ 67 ∷ 49 ∷ 48 ∷ 124 ∷ 124 ∷ 36 ∷ 124 ∷ 36 ∷ 124 ∷ 124 ∷ 36 ∷ 124 ∷ 124 ∷ 124 ∷ 36 ∷ 13 ∷ []) (n ∷ type ∷ item ∷ name ∷ v ∷ unit ∷ flag ∷ status ∷ [])) old
+        → Fit r x (woven d (35 ∷ 124 ∷ 35 ∷ 124 ∷ 36 ∷ 124 ∷ 36 ∷ 94 ∷ 36 ∷ 94 ∷ 74 ∷ 67 ∷ 49 ∷ 48 ∷ 124 ∷ 124 ∷ 36 ∷ 124 ∷ 36 ∷ 124 ∷ 124 ∷ 36 ∷ 124 ∷ 124 ∷ 124 ∷ 36 ∷ 13 ∷ []) (m ∷ n ∷ type ∷ item ∷ name ∷ v ∷ unit ∷ flag ∷ status ∷ [])) old
         → Fit r x (resultText d (n .now) (item .now) (name .now) (type .now) (c .now) (v .now) (j .now) (s .now) (unit .now) (flag .now) (status .now)) old
     unfolding shapes valueText
     result-plain h p =
         let z : (same (type .now) (83 ∷ 78 ∷ []) && not (empty (v .now))) ≡ false = rw (← e) (other (v .now) q h) in
-        fit-as (simp (z, append-assoc, append-nil)) p
+        fit-as (simp (em .is, z, append-assoc, append-nil)) p
 
   pub result-is : (ts : List (List ℕ)) (k : ℕ) (n a b c e f g h i l m : List ℕ) → n ≡ decimal (k + 1) → a ≡ drop 5 (nth ts 0) → b ≡ drop 5 (nth ts 1) → c ≡ drop 5 (nth ts 2)
       → e ≡ drop 8 (nth ts 3) → f ≡ drop 6 (nth ts 4) → g ≡ drop 5 (nth ts 5) → h ≡ drop 7 (nth ts 6) → i ≡ drop 5 (nth ts 7) → l ≡ drop 5 (nth ts 8) → m ≡ drop 7 (nth ts 9)

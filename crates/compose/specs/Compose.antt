@@ -12,7 +12,7 @@ use Rattle.rules.specs.declared.Name.the-variants.{Msh, Pid, Pv1, Spm, Obr, Orc
 use Rattle.rules.specs.Told.{Told, gives, refusal, _>>=_}
 use Rattle.rules.specs.Lists.{bytes, ended}
 use Rattle.rules.specs.Escape.{escape}
-use Rattle.rules.specs.Frame.{is}
+use Rattle.rules.specs.Frame.{is, spelling}
 use Rattle.rules.specs.Row.{Row, rowOf}
 use Rattle.rules.specs.Sheet.{rowsTold, linesOf}
 use Rattle.rules.specs.Message.{piece, composed, blanks, valueText, pieces, segmentText, written, messageOf}
@@ -23,6 +23,11 @@ use Rattle.lines.specs.Lines.{groupValues}
 use Rattle.compose.specs.declared.Size.{Size}
 use Rattle.compose.specs.declared.Passed.{Passed}
 use Rattle.compose.specs.declared.Passed.the-variants.{All, Not}
+
+-- x is the known name n; its bound is said too, for those who measure it
+pub record Named (x : List ℕ) (n : Name) : Type 0 where
+  pub is : x ≡ spelling n
+  pub short : length x ≤ 3
 
 -- the text of some rows, after i specimens and j results of the order
 unfoldable pub rowsText : Delims → ℕ → ℕ → List Row → List ℕ

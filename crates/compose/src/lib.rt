@@ -13,12 +13,12 @@ ghost use Rattle.rules.specs.Sheet.{linesOf};
 ghost use Rattle.rules.specs.Frame.{is};
 ghost use Rattle.writer.specs.Over.{Fit};
 ghost use Rattle.lines.specs.Lines.{toldOf, indexOf};
-ghost use Rattle.compose.specs.Compose.{groupText, specimenText, resultText, specimensWith, resultsWith, segmentsOf, isValue, Added, toldSize, refusalAt, Pass};
+ghost use Rattle.compose.specs.Compose.{Named, groupText, specimenText, resultText, specimensWith, resultsWith, segmentsOf, isValue, Added, toldSize, refusalAt, Pass};
 
-// ---- the groups written, each where there is room
+// ---- the groups written, each where there is room; their names are the bytes that the reader compares with
 
-fn header(out: &mut [u8], s: &[u8], d: Delims) -> usize
-    requires { ⌜ length (now s) ≤ 65536 ⌝ }
+fn header<'a>(out: &mut [u8], msh: &'a [u8], s: &'a [u8], d: Delims) -> usize
+    requires { ⌜ (length (now s) ≤ 65536) × Named (now msh) Name.Msh ⌝ }
     ensures { λ r. ⌜ Fit r (now (out .exit)) (groupText d 0 0 Name.Msh (linesOf (now (s .entry)))) (now (out .entry)) ⌝ }
     ensures within { λ r. ⌜ r ≤ 300000000 ⌝ }
 {
@@ -27,34 +27,39 @@ fn header(out: &mut [u8], s: &[u8], d: Delims) -> usize
     let control = lines::value_at(s, 3, 8);
     writer::fit_woven(
         out,
-        b"MSH|^~\\&|||||$||OUL^R22^OUL_R22|$|$|2.5||||||~ISO IR87||ISO 2022-1994\r",
-        &[sent, control, mode],
+        b"#|^~\\&|||||$||OUL^R22^OUL_R22|$|$|2.5||||||~ISO IR87||ISO 2022-1994\r",
+        &[msh, sent, control, mode],
         d,
     )
 }
 
-fn visit(out: &mut [u8], s: &[u8], d: Delims) -> usize
-    requires { ⌜ length (now s) ≤ 65536 ⌝ }
+fn visit<'a>(out: &mut [u8], pv1: &'a [u8], s: &'a [u8], d: Delims) -> usize
+    requires { ⌜ (length (now s) ≤ 65536) × Named (now pv1) Name.Pv1 ⌝ }
     ensures { λ r. ⌜ Fit r (now (out .exit)) (groupText d 0 0 Name.Pv1 (linesOf (now (s .entry)))) (now (out .entry)) ⌝ }
     ensures within { λ r. ⌜ r ≤ 300000000 ⌝ }
 {
     let class = lines::value_at(s, 0, 6);
-    writer::fit_woven(out, b"PV1||$\r", &[class], d)
+    writer::fit_woven(out, b"#||$\r", &[pv1, class], d)
 }
 
-fn order(out: &mut [u8], s: &[u8], d: Delims) -> usize
-    requires { ⌜ length (now s) ≤ 65536 ⌝ }
+fn order<'a>(out: &mut [u8], obr: &'a [u8], orc: &'a [u8], s: &'a [u8], d: Delims) -> usize
+    requires { ⌜ (length (now s) ≤ 65536) × Named (now obr) Name.Obr × Named (now orc) Name.Orc ⌝ }
     ensures { λ r. ⌜ Fit r (now (out .exit)) (groupText d 0 0 Name.Obr (linesOf (now (s .entry)))) (now (out .entry)) ⌝ }
     ensures within { λ r. ⌜ r ≤ 300000000 ⌝ }
 {
     let id = lines::value_at(s, 0, 6);
     let group = lines::value_at(s, 1, 6);
-    writer::fit_woven(out, b"OBR||$||$^^99003\rORC|RE|$\r", &[id, group, id], d)
+    writer::fit_woven(
+        out,
+        b"#||$||$^^99003\r#|RE|$\r",
+        &[obr, id, group, orc, id],
+        d,
+    )
 }
 
 // "a kana name is a second repetition with P"
-fn patient(out: &mut [u8], s: &[u8], d: Delims) -> usize
-    requires { ⌜ length (now s) ≤ 65536 ⌝ }
+fn patient<'a>(out: &mut [u8], pid: &'a [u8], s: &'a [u8], d: Delims) -> usize
+    requires { ⌜ (length (now s) ≤ 65536) × Named (now pid) Name.Pid ⌝ }
     ensures { λ r. ⌜ Fit r (now (out .exit)) (groupText d 0 0 Name.Pid (linesOf (now (s .entry)))) (now (out .entry)) ⌝ }
     ensures within { λ r. ⌜ r ≤ 300000000 ⌝ }
 {
@@ -68,40 +73,41 @@ fn patient(out: &mut [u8], s: &[u8], d: Delims) -> usize
     if kana_family.len() == 0 {
         return writer::fit_woven(
             out,
-            b"PID|||$||$^$^^^^^L^I||$|$\r",
-            &[id, family, given, birth, sex],
+            b"#|||$||$^$^^^^^L^I||$|$\r",
+            &[pid, id, family, given, birth, sex],
             d,
         );
     }
     writer::fit_woven(
         out,
-        b"PID|||$||$^$^^^^^L^I~$^$^^^^^L^P||$|$\r",
-        &[id, family, given, kana_family, kana_given, birth, sex],
+        b"#|||$||$^$^^^^^L^I~$^$^^^^^L^P||$|$\r",
+        &[pid, id, family, given, kana_family, kana_given, birth, sex],
         d,
     )
 }
 
 fn put_specimen<'a>(
     out: &mut [u8],
+    spm: &'a [u8],
     number: &'a [u8],
     kind: &'a [u8],
     collected: &'a [u8],
     d: Delims,
 ) -> usize
-    requires { ⌜ (length (now number) ≤ 65536) × (length (now kind) ≤ 65536) × (length (now collected) ≤ 65536) ⌝ }
+    requires { ⌜ Named (now spm) Name.Spm × (length (now number) ≤ 65536) × (length (now kind) ≤ 65536) × (length (now collected) ≤ 65536) ⌝ }
     ensures { λ r. ⌜ Fit r (now (out .exit)) (specimenText d (now (number .entry)) (now (kind .entry)) (now (collected .entry))) (now (out .entry)) ⌝ }
     ensures within { λ r. ⌜ r ≤ 300000000 ⌝ }
 {
     writer::fit_woven(
         out,
-        b"SPM|#|||$^^JC10|||||||||||||$\r",
-        &[number, kind, collected],
+        b"#|#|||$^^JC10|||||||||||||$\r",
+        &[spm, number, kind, collected],
         d,
     )
 }
 
-fn specimen(out: &mut [u8], s: &[u8], i: usize, d: Delims) -> usize
-    requires { ⌜ (length (now s) ≤ 65536) × (i ≤ 65536) ⌝ }
+fn specimen<'a>(out: &mut [u8], spm: &'a [u8], s: &'a [u8], i: usize, d: Delims) -> usize
+    requires { ⌜ (length (now s) ≤ 65536) × Named (now spm) Name.Spm × (i ≤ 65536) ⌝ }
     ensures { λ r. ⌜ Fit r (now (out .exit)) (groupText d i 0 Name.Spm (linesOf (now (s .entry)))) (now (out .entry)) ⌝ }
     ensures within { λ r. ⌜ r ≤ 300000000 ⌝ }
 {
@@ -109,12 +115,13 @@ fn specimen(out: &mut [u8], s: &[u8], i: usize, d: Delims) -> usize
     let collected = lines::value_at(s, 1, 10);
     let mut digits = [0u8; 5];
     let n = writer::put_number(&mut digits, i + 1);
-    put_specimen(out, &digits[..n], kind, collected, d)
+    put_specimen(out, spm, &digits[..n], kind, collected, d)
 }
 
 // "A filled SN has all three component separators".
 fn put_result<'a>(
     out: &mut [u8],
+    obx: &'a [u8],
     number: &'a [u8],
     item: &'a [u8],
     name: &'a [u8],
@@ -128,15 +135,16 @@ fn put_result<'a>(
     status: &'a [u8],
     d: Delims,
 ) -> usize
-    requires { ⌜ (length (now number) ≤ 65536) × (length (now item) ≤ 65536) × (length (now name) ≤ 65536) × (length (now kind) ≤ 65536) × (length (now compare) ≤ 65536) × (length (now value) ≤ 65536) × (length (now join) ≤ 65536) × (length (now second) ≤ 65536) × (length (now unit) ≤ 65536) × (length (now flag) ≤ 65536) × (length (now status) ≤ 65536) ⌝ }
+    requires { ⌜ Named (now obx) Name.Obx × (length (now number) ≤ 65536) × (length (now item) ≤ 65536) × (length (now name) ≤ 65536) × (length (now kind) ≤ 65536) × (length (now compare) ≤ 65536) × (length (now value) ≤ 65536) × (length (now join) ≤ 65536) × (length (now second) ≤ 65536) × (length (now unit) ≤ 65536) × (length (now flag) ≤ 65536) × (length (now status) ≤ 65536) ⌝ }
     ensures { λ r. ⌜ Fit r (now (out .exit)) (resultText d (now (number .entry)) (now (item .entry)) (now (name .entry)) (now (kind .entry)) (now (compare .entry)) (now (value .entry)) (now (join .entry)) (now (second .entry)) (now (unit .entry)) (now (flag .entry)) (now (status .entry))) (now (out .entry)) ⌝ }
     ensures within { λ r. ⌜ r ≤ 300000000 ⌝ }
 {
     if value::equal(kind, b"SN") & (value.len() != 0) {
         return writer::fit_woven(
             out,
-            b"OBX|#|$|$^$^JC10||$^$^$^$|$||$|||$\r",
+            b"#|#|$|$^$^JC10||$^$^$^$|$||$|||$\r",
             &[
+                obx,
                 number,
                 kind,
                 item,
@@ -154,14 +162,14 @@ fn put_result<'a>(
     }
     writer::fit_woven(
         out,
-        b"OBX|#|$|$^$^JC10||$|$||$|||$\r",
-        &[number, kind, item, name, value, unit, flag, status],
+        b"#|#|$|$^$^JC10||$|$||$|||$\r",
+        &[obx, number, kind, item, name, value, unit, flag, status],
         d,
     )
 }
 
-fn result(out: &mut [u8], s: &[u8], j: usize, d: Delims) -> usize
-    requires { ⌜ (length (now s) ≤ 65536) × (j ≤ 65536) ⌝ }
+fn result<'a>(out: &mut [u8], obx: &'a [u8], s: &'a [u8], j: usize, d: Delims) -> usize
+    requires { ⌜ (length (now s) ≤ 65536) × Named (now obx) Name.Obx × (j ≤ 65536) ⌝ }
     ensures { λ r. ⌜ Fit r (now (out .exit)) (groupText d 0 j Name.Obx (linesOf (now (s .entry)))) (now (out .entry)) ⌝ }
     ensures within { λ r. ⌜ r ≤ 300000000 ⌝ }
 {
@@ -179,6 +187,7 @@ fn result(out: &mut [u8], s: &[u8], j: usize, d: Delims) -> usize
     let n = writer::put_number(&mut digits, j + 1);
     put_result(
         out,
+        obx,
         &digits[..n],
         item,
         name,
@@ -201,13 +210,13 @@ fn put_group(out: &mut [u8], name: Name, s: &[u8], i: usize, j: usize, d: Delims
     ensures within { λ r. ⌜ r ≤ 300000000 ⌝ }
 {
     match name {
-        Name::Msh => header(out, s, d),
-        Name::Pid => patient(out, s, d),
-        Name::Pv1 => visit(out, s, d),
-        Name::Spm => specimen(out, s, i, d),
-        Name::Obr => order(out, s, d),
+        Name::Msh => header(out, &rules::MSH, s, d),
+        Name::Pid => patient(out, &rules::PID, s, d),
+        Name::Pv1 => visit(out, &rules::PV1, s, d),
+        Name::Spm => specimen(out, &rules::SPM, s, i, d),
+        Name::Obr => order(out, &rules::OBR, &rules::ORC, s, d),
         Name::Orc => 0,
-        Name::Obx => result(out, s, j, d),
+        Name::Obx => result(out, &rules::OBX, s, j, d),
         Name::Other => 0,
     }
 }

@@ -8,7 +8,7 @@ use borrow.Author.Tests.{eqb-true, eqb-false, ne-eqb, ltb-true, ltb-false}
 use lib.Dec.{eqb, ltb}
 use Rattle.rules.specs.declared.Delims.{Delims}
 use Rattle.rules.specs.declared.Name.{Name}
-use Rattle.rules.specs.declared.Name.the-variants.{Msh, Pid, Pv1, Spm, Obr, Orc, Obx, Other}
+use Rattle.rules.specs.declared.Name.the-variants.{Msh, Other}
 use Rattle.rules.specs.Lists.{all, any, has, split, allButLast}
 use Rattle.rules.specs.Shift.{keeps, walk, met, marks, isOne}
 use Rattle.rules.specs.Frame.{nameOf, is, Known}
@@ -16,9 +16,9 @@ use Rattle.rules.specs.Places.{Place, Field, reads, closed, places, isClosed, c
 use Rattle.rules.specs.View.{pieceOf, fieldOf, componentOf, firstRepetition, seenIn, partOf}
 use Rattle.rules.proofs.Logic.{cases, neither, not-true, or-true}
 use Rattle.rules.proofs.Lists.{all-first, all-cons, any-first, any-cons, nth-more, has-append, nth-at, nth-zero, nth-first}
-use Rattle.rules.proofs.Split.{front, later, split-glue, split-more, pieces-length, before, since, split-three}
+use Rattle.rules.proofs.Split.{front, later, split-glue, split-added, pieces-length, before, since, split-three}
 use Rattle.rules.proofs.Modes.{met-three}
-use Rattle.rules.proofs.Names.{name-stays}
+use Rattle.rules.proofs.Names.{inNames, name-stays}
 use Rattle.demands.proofs.Sight.{asKnown, shown, samePart}
 use Rattle.demands.specs.Edits.{numbered, Spot, unreadAt, unreadFrom}
 use Rattle.demands.proofs.Fields.{pieces-other, piece-other, blank-from, shown-same, fields-other}
@@ -52,14 +52,7 @@ fieldFine n (closed f k) = isClosed n f
 
 table : (n : Name) → all (fieldFine n) (places n) ≡ true
 unfolding fieldFine unreadComponent isClosed componentsRead places all has any
-table Msh = refl
-table Pid = refl
-table Pv1 = refl
-table Spm = refl
-table Obr = refl
-table Orc = refl
-table Obx = refl
-table Other = refl
+table = inNames (λ n. all (fieldFine n) (places n) ≡ true) refl refl refl refl refl refl refl refl
 
 -- a field of the table is another one, or a read one that reads nothing missed
 unfoldable pub clear : ℕ → (Place → Bool) → Field → Bool
@@ -196,7 +189,7 @@ more-components : (d : Delims) (x : Spot) (h v : List ℕ) (c : ℕ) → front (
     → componentOf d (h ++ v) c ≡ componentOf d h c
 unfolding componentOf
 more-components d x h v c e u r z =
-    rw (split-more (d .component) h v e)
+    rw (split-added (d .component) h v e)
     (nth-more (split (d .component) h) (later (d .component) v) (c - 1)
     (λ i q.
     let k = before (d .component) h in

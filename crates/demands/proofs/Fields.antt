@@ -16,7 +16,7 @@ use Rattle.rules.specs.Places.{Field, fieldNo, places, isClosed, unreadField}
 use Rattle.rules.specs.View.{pieceOf, fieldOf, partOf, segmentOf}
 use Rattle.rules.proofs.Logic.{cases, both, not-true}
 use Rattle.rules.proofs.Lists.{empty-is, all-first, nth-other, nth-more}
-use Rattle.rules.proofs.Split.{front, later, split-more, pieces-length, before, since, split-three}
+use Rattle.rules.proofs.Split.{front, later, split-added, pieces-length, before, since, split-three}
 use Rattle.rules.proofs.Modes.{met-append, met-three}
 use Rattle.rules.proofs.Names.{name-stays}
 use Rattle.demands.proofs.Sight.{asKnown, shown, samePart}
@@ -117,7 +117,7 @@ new-fields-unseen d s v hs known fv u =
     same : (g : ℕ) → unreadField (nameOf s) g ≡ false → fieldOf d (asKnown (s ++ v)) g ≡ fieldOf d (asKnown s) g
     same g e =
         unfold fieldOf asKnown in
-        (rw (name-stays s v known, met-append s v hs, split-more (d .field) (met s) (met v) fv)
+        (rw (name-stays s v known, met-append s v hs, split-added (d .field) (met s) (met v) fv)
         (nth-more (split (d .field) (met s)) (later (d .field) (met v)) (pieceOf (nameOf s) g)
         (λ i q. let k = before (d .field) (met s) in
         let z : pieceOf (nameOf s) g ≡ suc k + i = unfold before in (q ∙ ap (λ (t : ℕ). t + i) (pieces-length (d .field) (met s))) in

@@ -2,10 +2,11 @@
 use mathlib.Core.List.{[]}
 use Rattle.rules.specs.Frame.{delimsOf}
 use Rattle.rules.specs.WholeCase.{wholeMessage, sexQ, sexQSkipped}
+use Rattle.rules.specs.Demanded.{newerWith, unreadText}
 use Rattle.demands.specs.Edits.{fieldBytes}
 use Rattle.demands.specs.Covered.{Opens}
 use Rattle.demands.specs.Demand.{SameAnswers}
-use Rattle.demands.specs.Instance.{changes, newer, becomes, all-unread, both-keep, skipped, skipped-unread, sexQ-keep, patient, patient-is, patient-2, patient-2-unread}
+use Rattle.demands.specs.Instance.{changes, newer, becomes, all-unread, both-keep, skipped, skipped-unread, sexQ-keep, puts, puts-become, puts-unread, puts-keep, patient, patient-is, patient-2, patient-2-unread}
 use Rattle.demands.proofs.Demand3.{demand3, changes-unseen}
 
 pub newer-same : SameAnswers wholeMessage newer
@@ -13,6 +14,9 @@ newer-same = changes-unseen changes wholeMessage newer becomes all-unread (both-
 
 pub skipped-same : SameAnswers sexQ sexQSkipped
 skipped-same = changes-unseen skipped sexQ sexQSkipped (skipped-unread .0) (skipped-unread .1) (sexQ-keep .0) (sexQ-keep .1)
+
+pub puts-same : SameAnswers (newerWith []) (newerWith unreadText)
+puts-same = changes-unseen puts (newerWith []) (newerWith unreadText) puts-become puts-unread (puts-keep .0) (puts-keep .1)
 
 -- PID-2 may be filled with whatever holds no bar
 pub patient-2-opens : Opens wholeMessage 92 [] (fieldBytes (delimsOf wholeMessage))

@@ -10,7 +10,7 @@ use lib.ListN.{take, drop, getElem?}
 use Rattle.rules.specs.declared.Delims.{Delims}
 use Rattle.rules.specs.declared.Span.{Span}
 use Rattle.rules.specs.declared.Name.{Name}
-use Rattle.rules.specs.declared.Name.the-variants.{Msh, Pid, Pv1, Spm, Obr, Orc, Obx, Other}
+use Rattle.rules.specs.declared.Name.the-variants.{Msh}
 use Rattle.rules.specs.Told.{Told, gives, refused, refuse_if_else_, _>>=_, _>>_}
 use Rattle.rules.specs.Lists.{bytes, any, has}
 use Rattle.rules.specs.Frame.{delimsOf, is, Known, known}
@@ -19,6 +19,7 @@ use Rattle.rules.specs.View.{fieldOf, firstRepetition, componentOf, seenIn, Par
 use Rattle.rules.specs.Check.{checkTold}
 use Rattle.rules.specs.Fetch.{spanOf, ordinal, fetchTold, bytesAt, partTold}
 use Rattle.rules.proofs.Logic.{cases, both, never, not-true, not-false, optionCases}
+use Rattle.rules.proofs.Names.{inNames}
 use Rattle.rules.proofs.Lists.{any-cons, any-nil, has-nil, has-there, has-first}
 use Rattle.rules.proofs.Modes.{met-unique}
 use Rattle.rules.proofs.Header.{Header, header-bytes}
@@ -47,14 +48,7 @@ once (F ∷ fs) = not (has (fieldNo F) (map fieldNo fs)) && once fs
 
 table : (n : Name) → once (places n) ≡ true
 unfolding once places has any
-table Msh = refl
-table Pid = refl
-table Pv1 = refl
-table Spm = refl
-table Obr = refl
-table Orc = refl
-table Obx = refl
-table Other = refl
+table = inNames (λ n. once (places n) ≡ true) refl refl refl refl refl refl refl refl
 
 -- no closed field has the number of another
 closed-apart : (f : ℕ) (fs : List Field) → has f (map fieldNo fs) ≡ false → any (closes f) fs ≡ false

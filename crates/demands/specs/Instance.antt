@@ -1,12 +1,14 @@
 -- Demand 3 on the whole case, by computation: edits of each kind, with kanji whose bytes hold 7C in what is put in; and changes that are in
 -- no unread place.
 use mathlib.Core.Path.{_≡_, refl}
-use mathlib.Core.Bool.{true, not}
+use mathlib.Core.Bool.{true, false, not}
 use mathlib.Core.List.{List, [], _∷_}
 use mathlib.Core.Option.{some}
-use Prim.Native.Nat.{ℕ}
+use Prim.Native.Nat.{ℕ, suc, _+_}
+use Prim.Native.Char.{code}
 use native.Mathlib.Omega.{arith}
-use lib.ListN.{getElem?}
+use lib.Dec.{eqb}
+use lib.ListN.{length, getElem?}
 use Prim.Native.String.{String}
 use Rattle.rules.specs.Told.{gives, accepted}
 use Rattle.rules.specs.Lists.{bytes, all, ended}
@@ -18,6 +20,7 @@ use Rattle.rules.specs.Places.{unreadField}
 use Rattle.rules.specs.View.{fieldOf}
 use Rattle.rules.specs.Fetch.{partTold}
 use Rattle.rules.specs.WholeCase.{wholeMessage, sexQ, sexQSkipped, theCase}
+use Rattle.rules.specs.Demanded.{put, newerWith, unreadText}
 use Rattle.rules.proofs.Split.{front, later, before, since}
 use Rattle.rules.proofs.Where.{fieldPlace}
 use Rattle.demands.specs.Edits.{numbered, spotIn, stands, inSegment, inField, inOpenField, unreadAt, stretch, begins, others, fieldBytes, unreadFrom, newFields, componentBytes, newComponents, segmentEdit, fieldEdit, fieldsEdit, componentEdit, componentsEdit, unread, Change, changed, changedAll, unreadAll}
@@ -99,6 +102,28 @@ newer-accepted = refl
 pub newer-group : partTold newer 5 4 1 ≡ gives (bytes "E000")
 unfolding theEdits newer
 newer-group = refl
+
+-- each `?` of a text is a place where x is put
+unfoldable pub putsFrom : ℕ → List ℕ → List ℕ → List Change
+putsFrom i x [] = []
+putsFrom i x (b ∷ s) =
+    elim (eqb b (code "?")) [ true ↦ record { at = i; out = 0; put = x } ∷ putsFrom (i + length x) x s | false ↦ putsFrom (suc i) x s ]
+
+-- those of the whole case as a newer sender has it (`Demanded.newerWith`): every unread field and component
+unfoldable pub puts : List Change
+puts = putsFrom 0 unreadText (newerWith (bytes "?"))
+
+pub puts-become : changedAll puts (newerWith []) ≡ newerWith unreadText
+unfolding theEdits put newerWith unreadText putsFrom puts
+puts-become = refl
+
+pub puts-unread : unreadAll puts (newerWith []) ≡ true
+unfolding theEdits put newerWith unreadText putsFrom puts
+puts-unread = refl
+
+pub puts-keep : Keeps (newerWith []) × Keeps (newerWith unreadText)
+unfolding theEdits put newerWith unreadText
+puts-keep = (refl, refl)
 
 -- PID-2 has a place of its own, empty after 92 bytes
 unfoldable pub patient : Known

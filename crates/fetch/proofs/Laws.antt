@@ -1,13 +1,13 @@
 -- Laws of fetch: one for each way through its code. Assumes nothing.
 use mathlib.Core.Path.{_≡_, refl, sym, ap, _∙_}
 use mathlib.Core.Bool.{Bool, true, false, cond, not, _&&_, _||_}
-use mathlib.Core.List.{List, [], _∷_}
-use Prim.Native.Nat.{ℕ, zero, suc, _+_, _-_, _≤_, _<_}
+use mathlib.Core.List.{List, [], _∷_, _++_, append-assoc}
+use Prim.Native.Nat.{ℕ, suc, _+_, _-_, _≤_, _<_}
 use native.Mathlib.Numerals.{add-one}
 use native.Mathlib.Omega.{arith}
-use borrow.Author.Tests.{eqb-false, eq-eqb, ne-eqb, leb-true, ltb-true, ltb-false, lt-ltb, le-ltb}
+use borrow.Author.Tests.{eqb-false, eq-eqb, ne-eqb, lt-ltb, le-ltb, le-leb, lt-leb}
 use lib.Dec.{eqb, leb, ltb}
-use lib.ListN.{length, getD, take, drop, length-drop}
+use lib.ListN.{length, getD, take, drop, length-append, length-drop, List·getD-eq-default}
 use lib.Seq.{drop-drop, length-take-le}
 use Rattle.rules.specs.declared.Delims.{Delims}
 use Rattle.rules.specs.declared.Counts.{Counts}
@@ -20,194 +20,133 @@ use Rattle.rules.specs.declared.Span.{Span}
 use Rattle.rules.specs.declared.Fetched.{Fetched}
 use Rattle.rules.specs.declared.Fetched.the-variants.{At, NotFetched}
 use Rattle.rules.specs.declared.Kind.the-variants.{NoOrdinal, Zero}
-use Rattle.rules.specs.declared.Mode.{Mode}
 use Rattle.rules.specs.declared.Mode.the-variants.{One}
 use Rattle.rules.specs.Told.{Told, gives, refused, told, toldSpan, _>>_, _when_}
 use Rattle.rules.specs.Lists.{bytes, starts, nth, onto, split, allButLast}
-use Rattle.rules.specs.Shift.{step, isOne, mark, marks, met, within}
+use Rattle.rules.specs.Shift.{marks, met}
 use Rattle.rules.specs.Frame.{delimsOf, delimsOk, headerOk, segments, nameOf, Known, knownFrom, known}
 use Rattle.rules.specs.Frame as Frame
 use Rattle.rules.specs.Check.{frameTold, viewTold, checkTold}
 use Rattle.rules.specs.View.{view, pieceOf, fieldOf, componentOf, firstRepetition}
 use Rattle.rules.specs.Fetch.{span, startOf, stretch, spanOf, ordinal, fetchTold, bytesAt, partTold}
-use Rattle.rules.proofs.Logic.{cases, zeroCases, both, neither, not-true, not-false, guard}
-use Rattle.rules.proofs.Lists.{over, rest-is}
-use Rattle.rules.proofs.Split.{split-nil, split-cons, split-here, split-there, later}
-use Rattle.rules.proofs.Modes.{one-is, still-one, marks-here, marks-over, take-marks}
-use Rattle.scan.specs.Scan.{until, is, meetsOf}
-use Rattle.scan.proofs.Laws.{until-yes, until-no, until-nil, take-until}
-use Rattle.value.proofs.Laws.{split-last}
+use Rattle.rules.proofs.Logic.{cases, zeroCases, both, neither, not-true, not-false}
+use Rattle.rules.proofs.Lists.{over, rest-is, take-own, nth-at}
+use Rattle.rules.proofs.Split.{front, later, split-nil, split-cons, split-here, split-there}
+use Rattle.rules.proofs.Modes.{length-met, take-marks}
+use Rattle.rules.proofs.Header.{header}
+use Rattle.rules.proofs.Pieces.{start-first}
+use Rattle.rules.proofs.Where.{framed}
+use Rattle.scan.specs.Scan.{until, is, Printable, Proper}
+use Rattle.scan.proofs.Laws.{until-yes, until-no, until-nil, take-until, after-drop}
+use Rattle.scan.proofs.Walk.{past-next}
+use Rattle.value.proofs.Laws.{split-last, split-more}
 use Rattle.frame.proofs.Laws.{segments-next}
+use Rattle.frame.proofs.Rules.{proper}
 use Rattle.fetch.specs.declared.Segment.{Segment}
 use Rattle.fetch.specs.declared.Found.{Found}
 use Rattle.fetch.specs.declared.Found.the-variants as Found
-use Rattle.fetch.specs.Place.{shown, startTold, placeTold, knownOf, foundTold, partIn, stretchOf, Begins, PieceOf}
+use Rattle.fetch.specs.Place.{shown, startTold, spanIn, placeTold, knownOf, foundTold, partIn, stretchOf, PieceOf, Reached}
 
--- ---- general: the n-th piece of a text, byte by byte
--- the first piece ends before the first separator
-pub first-until : (sep : ℕ) (s : List ℕ) → nth (split sep s) 0 ≡ until (is sep) s
+-- ---- the pieces, one after another
+-- what follows a separator that acts is met from one-byte mode on
+next-met : (sep : ℕ) → Printable sep → (u : List ℕ) (len : ℕ) → len ≡ length (until (is sep) (met u)) → len < length u → drop (suc len) (met u) ≡ met (drop (len + 1) u)
+unfolding met
+next-met sep p u len e h =
+    let k : suc len ≡ len + 1 = omega arith in
+    ap (λ n. drop n (met u)) k ∙ sym (drop-drop 1 len (met u)) ∙ ap (λ n. drop 1 (drop n (met u))) e ∙ sym (after-drop sep (met u))
+    ∙ sym (past-next u sep len p e (omega arith) (λ q. omega arith))
+
+first-piece : (sep : ℕ) (t : List ℕ) → nth (split sep t) 0 ≡ until (is sep) t
 unfolding onto
-first-until sep [] = cc (split-nil sep, until-nil (is sep))
-first-until sep (x ∷ s) =
+first-piece sep [] = cc (split-nil sep, until-nil (is sep))
+first-piece sep (x ∷ t) =
     cases (eqb x sep)
-    (λ e. cc (split-here sep x s e, until-yes (is sep) x s e))
-    (λ e. cc (split-there sep x s e, split-cons sep s, until-no (is sep) x s e, first-until sep s))
+    (λ e. cc (split-here sep x t e, until-yes (is sep) x t e))
+    (λ e. cc (split-there sep x t e, split-cons sep t, until-no (is sep) x t e, first-piece sep t))
 
-nth-nil : (sep n : ℕ) → nth (split sep []) n ≡ []
-nth-nil sep zero = ap (λ ps. nth ps 0) (split-nil sep)
-nth-nil sep (suc n) = ap (λ ps. nth ps (suc n)) (split-nil sep)
+span-end : (ps : List (List ℕ)) (p : List ℕ) → span (ps ++ (p ∷ [])) ≡ span ps + suc (length p)
+unfolding span
+span-end [] p = omega arith
+span-end (q ∷ ps) p = omega (arith, span-end ps p)
 
-nth-here : (sep n x : ℕ) (s : List ℕ) → eqb x sep ≡ true → nth (split sep (x ∷ s)) (suc n) ≡ nth (split sep s) n
-nth-here sep n x s e = ap (λ ps. nth ps (suc n)) (split-here sep x s e)
+-- after `number` pieces, at `at`, a piece of `len` bytes comes next
+pub record Walked (sep : ℕ) (s : List ℕ) (number at len : ℕ) : Type 0 where
+  pub passed : List (List ℕ)
+  pub pieces : split sep (met s) ≡ passed ++ split sep (met (drop at s))
+  pub count : length passed ≡ number
+  pub place : span passed ≡ at
+  pub long : len ≡ length (until (is sep) (met (drop at s)))
 
-nth-there : (sep n x : ℕ) (s : List ℕ) → eqb x sep ≡ false → nth (split sep (x ∷ s)) (suc n) ≡ nth (split sep s) (suc n)
-unfolding onto
-nth-there sep n x s e = cc (split-there sep x s e, split-cons sep s)
+pub walked-starts : (sep : ℕ) (s : List ℕ) (len : ℕ) → len ≡ length (until (is sep) (marks 0x0D One s)) → Walked sep s 0 0 len
+unfolding met span
+walked-starts sep s len e = record { passed = []; pieces = refl; count = refl; place = refl; long = e }
 
-start-first : (sep : ℕ) (s : List ℕ) → startOf sep 0 s ≡ 0
-unfolding startOf span
-start-first sep s = rw (split-cons sep s, lt-ltb 0 (suc (length (later sep s))) (omega arith))
+module _ (sep : ℕ) (s : List ℕ) (number at len : ℕ) (inv : Walked sep s number at len) where
+  abbrev rest : List ℕ
+  rest = met (drop at s)
 
-start-nil : (sep n : ℕ) → startOf sep n [] ≡ 0
-unfolding startOf span
-start-nil sep zero = start-first sep []
-start-nil sep (suc n) = rw (split-nil sep, le-ltb (suc n) 1 (omega arith))
+  walked-on : (next : ℕ) → Printable sep → at + len ≤ length s → (at + len ≡ length s → ⊥)
+      → next ≡ length (until (is sep) (marks 0x0D One (take (length s - (at + len + 1)) (drop (at + len + 1) s)))) → Walked sep s (number + 1) (at + len + 1) next
+  unfolding met
+  walked-on next p h g e =
+      let l : len < length (drop at s) = omega (arith, length-drop at s) in
+      let m : length (until (is sep) rest) < length rest = omega (arith, inv .long, length-met (drop at s)) in
+      let k : at + (len + 1) ≡ at + len + 1 = omega arith in
+      let after : drop (suc len) rest ≡ met (drop (at + len + 1) s) = next-met sep p (drop at s) len (inv .long) l ∙ ap met (drop-drop (len + 1) at s ∙ ap (λ n. drop n s) k) in
+      let cut : split sep rest ≡ take len rest ∷ split sep (met (drop (at + len + 1) s))
+      = rw (← inv .long) at (split-more sep rest m) ∙ ap (λ t. take len rest ∷ split sep t) after in
+      record {
+        passed = inv .passed ++ (take len rest ∷ []);
+        pieces = inv .pieces ∙ ap (λ ps. inv .passed ++ ps) cut ∙ sym (append-assoc (inv .passed) (take len rest ∷ []) (split sep (met (drop (at + len + 1) s))));
+        count = length-append (inv .passed) (take len rest ∷ []) ∙ ap (λ n. n + 1) (inv .count);
+        place = span-end (inv .passed) (take len rest) ∙ omega (arith, inv .place, length-take-le len rest (omega (arith, length-met (drop at s))));
+        long = e ∙ ap (λ l. length (until (is sep) (met l))) (rest-is s (at + len + 1));
+      }
 
-start-here : (sep n x : ℕ) (s : List ℕ) → eqb x sep ≡ true → startOf sep (suc n) (x ∷ s) ≡ suc (startOf sep n s)
-unfolding startOf span
-start-here sep n x s e =
-    rw (split-here sep x s e)
-    (cases (ltb n (length (split sep s)))
-    (λ t. let l = ltb-true n (length (split sep s)) t in rw (t, lt-ltb (suc n) (suc (length (split sep s))) (omega arith)) (omega arith))
-    (λ t. let l = ltb-false n (length (split sep s)) t in rw (t, le-ltb (suc n) (suc (length (split sep s))) (omega arith))))
+  pub walked-next : (next i a l : ℕ) → Printable sep → at + len ≤ length s → (at + len ≡ length s → ⊥)
+      → next ≡ length (until (is sep) (marks 0x0D One (take (length s - (at + len + 1)) (drop (at + len + 1) s))))
+      → i ≡ number + 1 → a ≡ at + len + 1 → l ≡ next → Walked sep s i a l
+  walked-next next i a l p h g e ei ea el = rw (ei, ea, el) (walked-on next p h g e)
 
-start-there : (sep n x : ℕ) (s : List ℕ) → eqb x sep ≡ false → startOf sep (suc n) (x ∷ s) ≡ suc (startOf sep (suc n) s)
-unfolding startOf span onto
-start-there sep n x s e =
-    rw (split-there sep x s e, split-cons sep s)
-    (cases (ltb (suc n) (suc (length (later sep s))))
-    (λ t. rw t (omega arith))
-    (λ t. rw t))
+  -- the piece that stands there
+  piece-is : PieceOf sep number s at len
+  unfolding startOf met front
+  piece-is =
+      let cut : split sep (met s) ≡ inv .passed ++ (front sep rest ∷ later sep rest) = inv .pieces ∙ ap (λ ps. inv .passed ++ ps) (split-cons sep rest) in
+      let first : nth (split sep (met s)) number ≡ until (is sep) rest
+      = ap (λ ps. nth ps number) cut ∙ rw (← inv .count) (nth-at (inv .passed) (front sep rest) (later sep rest)) ∙ first-piece sep rest in
+      let size : number < length (split sep (met s)) = omega (arith, ap length cut, length-append (inv .passed) (front sep rest ∷ later sep rest), inv .count) in
+      let before : take number (split sep (met s)) ≡ inv .passed = ap (take number) cut ∙ rw (← inv .count) (take-own (inv .passed) (front sep rest ∷ later sep rest)) in
+      record {
+        start = sym (rw (lt-ltb number (length (split sep (met s))) size, before) (inv .place));
+        own = sym (take-marks 0x0D len One (drop at s)) ∙ ap (λ n. take n rest) (inv .long) ∙ take-until (is sep) rest ∙ sym first;
+        long = inv .long ∙ ap length (sym first);
+      }
 
--- ---- a quiet byte
-pub quiet-is : (m : Mode) (b sep : ℕ) (t : Bool) → t ≡ isOne m → (t && ((leb 0x20 b && leb b 0x7E) && not (eqb b sep))) ≡ (isOne m && (within 0x20 0x7E b && not (eqb b sep)))
-quiet-is m b sep t e = cc
+  pub reach-there : (n : ℕ) → number ≤ n → n ≤ number → Reached sep n s number at len
+  reach-there n h g = record { piece = piece-is; near = h; last = λ l. absurd (omega arith) }
 
-quiet-mark : (m : Mode) (b sep : ℕ) → (isOne m && (within 0x20 0x7E b && not (eqb b sep))) ≡ true → (eqb (mark m b) sep ≡ false) × (m ≡ step 0x0D m b)
-unfolding mark
-quiet-mark m b sep h =
-    let q = both (isOne m) (within 0x20 0x7E b && not (eqb b sep)) h in
-    let p = both (within 0x20 0x7E b) (not (eqb b sep)) (q .1) in
-    let w = both (leb 0x20 b) (leb b 0x7E) (p .0) in
-    let o : m ≡ One = one-is m (q .0) in
-    (rw (q .0) (not-true (eqb b sep) (p .1)), rw o (sym (still-one 0x0D b (leb-true 0x20 b (w .0)) (leb-true b 0x7E (w .1)))))
+  pub reach-last : (n : ℕ) → number ≤ n → at + len ≡ length s → Reached sep n s number at len
+  reach-last n h e =
+      let z : length (until (is sep) rest) ≡ length rest = omega (arith, inv .long, length-met (drop at s), length-drop at s) in
+      let cut : split sep (met s) ≡ inv .passed ++ (rest ∷ []) = inv .pieces ∙ ap (λ ps. inv .passed ++ ps) (split-last sep rest z) in
+      record { piece = piece-is; near = h; last = λ l. omega (arith, ap length cut, length-append (inv .passed) (rest ∷ []), inv .count) }
 
--- ---- hit
-pub hit-yes : (m : Mode) (b sep : ℕ) (t : Bool) → t ≡ meetsOf sep (mark m b) → t ≡ true → 1 ≡ (1 when eqb (mark m b) sep)
-unfolding meetsOf
-hit-yes m b sep t e h = rw (sym e ∙ h)
+module _ (sep n : ℕ) (s : List ℕ) (number at len : ℕ) (r : Reached sep n s number at len) where
+  pub nth-there : n ≤ number → PieceOf sep n s at len
+  nth-there h = let e : number ≡ n = omega (arith, r .near) in rw (← e) (r .piece)
 
-pub hit-no : (m : Mode) (b sep : ℕ) (t : Bool) → t ≡ meetsOf sep (mark m b) → t ≡ false → 0 ≡ (1 when eqb (mark m b) sep)
-unfolding meetsOf
-hit-no m b sep t e h = rw (sym e ∙ h)
-
--- ---- before: i bytes stand before what is left
-pub record Before (sep : ℕ) (m : Mode) (s : List ℕ) (i : ℕ) (q : Mode) : Type 0 where
-  pub long : length (until (is sep) (marks 0x0D m s)) ≡ i + length (until (is sep) (marks 0x0D q (drop i s)))
-
-pub before-starts : (sep : ℕ) (m : Mode) (s : List ℕ) → Before sep m s 0 m
-before-starts sep m s = record { long = omega arith }
-
-module _ (sep : ℕ) (m : Mode) (s : List ℕ) (i : ℕ) (q : Mode) (inv : Before sep m s i q) where
-  before-next : (r : Mode) → i < length s → eqb (mark q (getD s i 0)) sep ≡ false → r ≡ step 0x0D q (getD s i 0) → Before sep m s (i + 1) r
-  before-next r h e f =
-      let x : ℕ = mark q (getD s i 0) in
-      let rest : List ℕ = marks 0x0D r (drop (i + 1) s) in
-      let u : until (is sep) (marks 0x0D q (drop i s)) ≡ x ∷ until (is sep) rest
-      = ap (until (is sep)) (marks-here 0x0D s i q h ∙ ap (λ w. x ∷ marks 0x0D w (drop (i + 1) s)) (sym f)) ∙ until-no (is sep) x rest e in
-      let z : length (until (is sep) (marks 0x0D m s)) ≡ i + suc (length (until (is sep) rest)) = inv .long ∙ ap (λ l. i + length l) u in
-      record { long = omega arith }
-
-  pub before-quiet : (t : Bool) → i < length s → t ≡ (isOne q && (within 0x20 0x7E (getD s i 0) && not (eqb (getD s i 0) sep))) → t ≡ true → Before sep m s (i + 1) q
-  before-quiet t h e y = let w = quiet-mark q (getD s i 0) sep (sym e ∙ y) in before-next q h (w .0) (w .1)
-
-  pub before-on : (t : Bool) (r : Mode) → i < length s → t ≡ meetsOf sep (mark q (getD s i 0)) → t ≡ false → r ≡ step 0x0D q (getD s i 0) → Before sep m s (i + 1) r
-  unfolding meetsOf
-  before-on t r h e n f = before-next r h (sym e ∙ n) f
-
-  before-done : until (is sep) (marks 0x0D q (drop i s)) ≡ [] → i ≡ length (until (is sep) (marks 0x0D m s))
-  before-done e = let z : length (until (is sep) (marks 0x0D m s)) ≡ i + 0 = inv .long ∙ ap (λ l. i + length l) e in omega arith
-
-  pub before-here : (t : Bool) → i < length s → t ≡ meetsOf sep (mark q (getD s i 0)) → t ≡ true → i ≡ length (until (is sep) (marks 0x0D m s))
-  unfolding meetsOf
-  before-here t h e y =
-      before-done (ap (until (is sep)) (marks-here 0x0D s i q h) ∙ until-yes (is sep) (mark q (getD s i 0)) (marks 0x0D (step 0x0D q (getD s i 0)) (drop (i + 1) s)) (sym e ∙ y))
-
-  pub before-over : length s ≤ i → i ≡ length (until (is sep) (marks 0x0D m s))
-  before-over h = before-done (ap (until (is sep)) (marks-over 0x0D s i q h) ∙ until-nil (is sep))
-
--- ---- begin: of the n-th piece, `left` separators are still to come after `at`
-pub record Seeks (sep n : ℕ) (m : Mode) (s : List ℕ) (left at : ℕ) (q : Mode) : Type 0 where
-  pub start : startOf sep n (marks 0x0D m s) ≡ at + startOf sep left (marks 0x0D q (drop at s))
-  pub own : nth (split sep (marks 0x0D m s)) n ≡ nth (split sep (marks 0x0D q (drop at s))) left
-
-pub seeks-starts : (sep n : ℕ) (m : Mode) (s : List ℕ) → Seeks sep n m s n 0 m
-seeks-starts sep n m s = record { start = omega arith; own = refl }
-
-module _ (sep n : ℕ) (m : Mode) (s : List ℕ) where
-  seeks-next : (left at : ℕ) (q r : Mode) → Seeks sep n m s left at q → 0 < left → at < length s → r ≡ step 0x0D q (getD s at 0)
-      → Seeks sep n m s (left - (1 when eqb (mark q (getD s at 0)) sep)) (at + 1) r
-  seeks-next zero at q r inv z h f = absurd (omega arith)
-  seeks-next (suc left) at q r inv z h f =
-      let x : ℕ = mark q (getD s at 0) in
-      let rest : List ℕ = marks 0x0D r (drop (at + 1) s) in
-      let u : marks 0x0D q (drop at s) ≡ x ∷ rest = marks-here 0x0D s at q h ∙ ap (λ w. x ∷ marks 0x0D w (drop (at + 1) s)) (sym f) in
-      let S : startOf sep n (marks 0x0D m s) ≡ at + startOf sep (suc left) (x ∷ rest) = inv .start ∙ ap (λ l. at + startOf sep (suc left) l) u in
-      let O : nth (split sep (marks 0x0D m s)) n ≡ nth (split sep (x ∷ rest)) (suc left) = inv .own ∙ ap (λ l. nth (split sep l) (suc left)) u in
-      cases (eqb x sep)
-      (λ e. let k : suc left - 1 ≡ left = omega arith in
-      rw (e, k) (record { start = omega (arith, S, start-here sep left x rest e); own = O ∙ nth-here sep left x rest e }))
-      (λ e. let k : suc left - 0 ≡ suc left = omega arith in
-      rw (e, k) (record { start = omega (arith, S, start-there sep left x rest e); own = O ∙ nth-there sep left x rest e }))
-
-  module _ (left at : ℕ) (q : Mode) (inv : Seeks sep n m s left at q) where
-    pub seeks-quiet : (t : Bool) → 0 < left → at ≤ length s → (at ≡ length s → ⊥) → t ≡ (isOne q && (within 0x20 0x7E (getD s at 0) && not (eqb (getD s at 0) sep))) → t ≡ true
-        → Seeks sep n m s left (at + 1) q
-    seeks-quiet t z h g e y =
-        let w = quiet-mark q (getD s at 0) sep (sym e ∙ y) in
-        let k : left - 0 ≡ left = omega arith in
-        rw (w .0, k) at (seeks-next left at q q inv z (omega (arith, g)) (w .1))
-
-    pub seeks-on : (k : ℕ) (r : Mode) → 0 < left → at ≤ length s → (at ≡ length s → ⊥) → k ≡ (1 when eqb (mark q (getD s at 0)) sep) → r ≡ step 0x0D q (getD s at 0)
-        → Seeks sep n m s (left - k) (at + 1) r
-    seeks-on k r z h g e f = rw e (seeks-next left at q r inv z (omega (arith, g)) f)
-
-    pub seeks-over : at ≡ length s → Begins sep n m s at q
-    seeks-over h =
-        let u : marks 0x0D q (drop at s) ≡ [] = marks-over 0x0D s at q (omega arith) in
-        let z : startOf sep n (marks 0x0D m s) ≡ at + startOf sep left [] = inv .start ∙ ap (λ l. at + startOf sep left l) u in
-        record { start = omega (arith, start-nil sep left); first = inv .own ∙ ap (λ l. nth (split sep l) left) u ∙ nth-nil sep left ∙ sym (ap (until (is sep)) u ∙ until-nil (is sep)) }
-
-    pub seeks-there : left ≤ 0 → Begins sep n m s at q
-    seeks-there h =
-        let k : left ≡ 0 = omega arith in
-        let u : List ℕ = marks 0x0D q (drop at s) in
-        let z : startOf sep n (marks 0x0D m s) ≡ at + startOf sep 0 u = rw k at (inv .start) in
-        record { start = omega (arith, start-first sep u); first = rw k at (inv .own) ∙ first-until sep u }
-
--- ---- the piece that begins there
-pub piece-is : (sep n : ℕ) (m : Mode) (s : List ℕ) (at : ℕ) (q : Mode) (len : ℕ) → Begins sep n m s at q
-    → len ≡ length (until (is sep) (marks 0x0D q (take (length s - at) (drop at s)))) → PieceOf sep n m s at len q
-piece-is sep n m s at q len b e =
-    let k : len ≡ length (until (is sep) (marks 0x0D q (drop at s))) = e ∙ ap (λ l. length (until (is sep) (marks 0x0D q l))) (rest-is s at) in
-    record {
-      start = b .start;
-      long = k ∙ ap length (sym (b .first));
-      own = sym (take-marks 0x0D len q (drop at s)) ∙ ap (λ i. take i (marks 0x0D q (drop at s))) k ∙ take-until (is sep) (marks 0x0D q (drop at s)) ∙ sym (b .first);
-    }
-
-pub piece-within : (s : List ℕ) (at len : ℕ) → at ≤ length s → len ≤ length (take (length s - at) (drop at s)) → at + len ≤ length s
-piece-within s at len h e = let q : length (take (length s - at) (drop at s)) ≡ length s - at = ap length (rest-is s at) ∙ length-drop at s in omega arith
+  -- an absent one is empty, at the end
+  pub nth-absent : number < n → PieceOf sep n s (length s) 0
+  unfolding startOf met marks
+  nth-absent h =
+      let few : length (split sep (met s)) ≤ n = omega (arith, r .last h) in
+      let none : nth (split sep (met s)) n ≡ [] = List·getD-eq-default (split sep (met s)) [] few in
+      record {
+        start = sym (rw (le-ltb n (length (split sep (met s))) few) (length-met s));
+        own = sym none;
+        long = sym (ap length none);
+      }
 
 -- ---- the known segments, one after another
 pub counts-none : (name : Name) (t : Bool) → t ≡ Frame.is name Other → t ≡ true → 0 ≡ (1 when not (Frame.is name Other))
@@ -299,6 +238,9 @@ module _ (m : List ℕ) (o left at n : ℕ) (inv : Seeking m o left at) (en : n 
           record { same = inv .same ∙ rw (l, q, next, known-here at (take n (drop at m)) rest (rw named e), long) (ordinal-later (record { name = nameOf (take n (drop at m)); start = at; body = met (take n (drop at m)) }) (knownFrom (at + (n + 1)) rest) j) }))
 
 -- the bounds
+pub found-in : (n : ℕ) (x : Found) (s : Segment) → ((y : Segment) → x ≡ Found.At y → y .start + y .len ≤ n) → x ≡ Found.At s → s .start + s .len ≤ n
+found-in n x s w e = w s e
+
 pub nothing-within : (n : ℕ) (s : Segment) → Found.Nothing ≡ Found.At s → s .start + s .len ≤ n
 nothing-within n s e = let z : _≡_ {A = ℕ} 0 1 = cc in absurd (omega arith)
 
@@ -317,16 +259,19 @@ pub undivided-more : (start len c : ℕ) → (c ≡ 1 → ⊥) → stretch (star
 undivided-more start len c e = rw (ne-eqb c 1 e)
 
 -- ---- one component of a field
-pub in-is : (d : Delims) (f : List ℕ) (m : Mode) (c n : ℕ) (at len : ℕ) (q : Mode) → n ≡ length (until (is (d .repetition)) (marks 0x0D m f))
-    → PieceOf (d .component) (c - 1) m (take n f) at len q → stretch at len ≡ partIn d (marks 0x0D m f) c
+pub in-is : (d : Delims) (f : List ℕ) (c number from n at len : ℕ) → Reached (d .repetition) 0 f number from n
+    → PieceOf (d .component) (c - 1) (take (from + n - from) (drop from f)) at len → stretch (from + at) len ≡ partIn d (met f) c
 unfolding partIn firstRepetition componentOf
-in-is d f m c n at len q e p =
-    let r : marks 0x0D m (take n f) ≡ nth (split (d .repetition) (marks 0x0D m f)) 0
-    = sym (take-marks 0x0D n m f) ∙ rw e (take-until (is (d .repetition)) (marks 0x0D m f)) ∙ sym (first-until (d .repetition) (marks 0x0D m f)) in
-    rw (← r, p .start, p .long)
+in-is d f c number from n at len e p =
+    let q = nth-there (d .repetition) 0 f number from n e (omega arith) in
+    let z : from ≡ 0 = q .start ∙ start-first (d .repetition) (met f) in
+    let k : from + n - from ≡ n = omega arith in
+    let r : met (take (from + n - from) (drop from f)) ≡ nth (split (d .repetition) (met f)) 0 = ap (λ i. met (take i (drop from f))) k ∙ q .own in
+    let w : from + at ≡ at = omega arith in
+    rw (w, ← r, p .start, p .long)
 
-pub in-within : (f : List ℕ) (n at len : ℕ) → n ≤ length f → at + len ≤ length (take n f) → at + len ≤ length f
-in-within f n at len h k = omega (arith, length-take-le n f h)
+pub in-within : (f : List ℕ) (from n at len : ℕ) → from + n ≤ length f → at + len ≤ length (take (from + n - from) (drop from f)) → from + at + len ≤ length f
+in-within f from n at len h k = omega (arith, length-take-le (from + n - from) (drop from f) (omega (arith, length-drop from f)))
 
 -- ---- of a segment
 module _ (m : List ℕ) (s : Segment) (at len : ℕ) (inside : s .start + s .len ≤ length m) where
@@ -342,13 +287,12 @@ module _ (m : List ℕ) (s : Segment) (at len : ℕ) (inside : s .start + s .len
   field-is : field ≡ take len (drop at body)
   field-is = let e : at + len - at ≡ len = omega arith in ap (λ n. take n (drop at body)) e
 
-  pub component-is : (d : Delims) (n c : ℕ) (q : Mode) (p : Span) → PieceOf (d .field) n One body at len q → p ≡ partIn d (marks 0x0D q field) c
+  pub component-is : (d : Delims) (n c : ℕ) (p : Span) → PieceOf (d .field) n body at len → p ≡ partIn d (met field) c
       → stretch (s .start + at + p .start) (p .len) ≡ stretchOf d (s .start) (met (take (s .len) (drop (s .start) m))) n c
-  unfolding stretchOf met
-  component-is d n c q p f e =
-      let g : marks 0x0D q field ≡ nth (split (d .field) (marks 0x0D One (take (s .len) (drop (s .start) m)))) n
-      = ap (marks 0x0D q) field-is ∙ f .own ∙ ap (λ l. nth (split (d .field) (marks 0x0D One l)) n) body-is in
-      let h : at ≡ startOf (d .field) n (marks 0x0D One (take (s .len) (drop (s .start) m))) = f .start ∙ ap (λ l. startOf (d .field) n (marks 0x0D One l)) body-is in
+  unfolding stretchOf
+  component-is d n c p f e =
+      let g : met field ≡ nth (split (d .field) (met (take (s .len) (drop (s .start) m)))) n = ap met field-is ∙ f .own ∙ ap (λ l. nth (split (d .field) (met l)) n) body-is in
+      let h : at ≡ startOf (d .field) n (met (take (s .len) (drop (s .start) m))) = f .start ∙ ap (λ l. startOf (d .field) n (met l)) body-is in
       rw (e, g, ← h)
 
   pub component-within : (p : Span) → at + len ≤ length body → p .start + p .len ≤ length field → s .start + at + p .start + p .len ≤ length m
@@ -374,56 +318,63 @@ module _ (d : Delims) (m : List ℕ) (s : Segment) (f c : ℕ) (r : Span) (t : B
   part-later n h k e = let z : Frame.is (s .name) Msh ≡ true = sym et ∙ not-false t n in rw (z, ne-eqb f 1 h, ne-eqb f 2 k) e
 
 -- ---- 31, 30, or the place
-pub place-asks : (f c n : ℕ) (x : Found) (s : Segment) → (eqb f 0 || eqb c 0) ≡ false → 9 ≤ n → ((y : Segment) → x ≡ Found.At y → y .start + y .len ≤ n)
-    → x ≡ Found.At s → (1 ≤ f) × (1 ≤ c) × (9 ≤ n) × (s .start + s .len ≤ n)
-place-asks f c n x s h l w e =
-    let q = neither (eqb f 0) (eqb c 0) h in
-    (omega (arith, eqb-false f 0 (q .0)), omega (arith, eqb-false c 0 (q .1)), l, w s e)
+module _ (m : List ℕ) (t : Bool) (et : t ≡ headerOk m) (n : not t ≡ false) where
+  pub headed-long : 9 ≤ length m
+  headed-long = header m (sym et ∙ not-false t n) .long
+
+  headed-delims : delimsOk (delimsOf m) ≡ true
+  unfolding headerOk
+  headed-delims =
+      let a = both (leb 9 (length m) && starts (bytes "MSH") m && delimsOk (delimsOf m)) (eqb (getD m 8 0) (delimsOf m .field)) (sym et ∙ not-false t n) in
+      both (leb 9 (length m) && starts (bytes "MSH") m) (delimsOk (delimsOf m)) (a .0) .1
+
+  pub headed-proper : (d : Delims) → d ≡ delimsOf m → Proper d
+  headed-proper d e = rw e (proper (delimsOf m) headed-delims)
+
+pub asks-field : (f c : ℕ) → (eqb f 0 || eqb c 0) ≡ false → 1 ≤ f
+asks-field f c h = omega (arith, eqb-false f 0 (neither (eqb f 0) (eqb c 0) h .0))
+
+pub asks-component : (f c : ℕ) → (eqb f 0 || eqb c 0) ≡ false → 1 ≤ c
+asks-component f c h = omega (arith, eqb-false c 0 (neither (eqb f 0) (eqb c 0) h .1))
 
 module _ (m : List ℕ) (o f c : ℕ) (r : Fetched) where
   pub place-zero : (eqb f 0 || eqb c 0) ≡ true → r ≡ NotFetched (record { kind = Zero; segment = 0; field = 0 }) → toldSpan r ≡ placeTold m o f c
   unfolding placeTold
   place-zero h e = rw (h, e)
 
-  module _ (h : (eqb f 0 || eqb c 0) ≡ false) where
-    pub place-short : length m < 9 → r ≡ NotFetched (record { kind = NoOrdinal; segment = 0; field = 0 }) → toldSpan r ≡ placeTold m o f c
+  module _ (h : (eqb f 0 || eqb c 0) ≡ false) (t : Bool) (et : t ≡ headerOk m) where
+    pub place-headless : not t ≡ true → r ≡ NotFetched (record { kind = NoOrdinal; segment = 0; field = 0 }) → toldSpan r ≡ placeTold m o f c
     unfolding placeTold
-    place-short l e = rw (h, lt-ltb (length m) 9 l, e)
+    place-headless n e = rw (h, ← et, n, e)
 
-    pub place-none : 9 ≤ length m → (x : Found) → foundTold m x ≡ ordinal (known m) o → x ≡ Found.Nothing
+    pub place-none : not t ≡ false → (x : Found) → foundTold m x ≡ ordinal (known m) o → x ≡ Found.Nothing
         → r ≡ NotFetched (record { kind = NoOrdinal; segment = 0; field = 0 }) → toldSpan r ≡ placeTold m o f c
     unfolding placeTold
-    place-none l x t n e = let z : ordinal (known m) o ≡ refused 30 0 0 = rw n at (sym t) in rw (h, le-ltb (length m) 9 l, z, e)
+    place-none n x g y e = let z : ordinal (known m) o ≡ refused 30 0 0 = rw y at (sym g) in rw (h, ← et, n, z, e)
 
   pub place-absent : {y : ℕ} → {k : _} → r ≡ NotFetched k → (p : Span) → r ≡ At p → p .start + p .len ≤ y
   place-absent e p q = let z : _≡_ {A = ℕ} 0 1 = cc in absurd (omega arith)
 
-pub place-at : (m : List ℕ) (o f c : ℕ) (x : Found) (s : Segment) (d : Delims) (p : Span) → (eqb f 0 || eqb c 0) ≡ false → 9 ≤ length m
+pub place-at : (m : List ℕ) (o f c : ℕ) (x : Found) (s : Segment) (d : Delims) (p : Span) (t : Bool) → (eqb f 0 || eqb c 0) ≡ false → t ≡ headerOk m → not t ≡ false
     → foundTold m x ≡ ordinal (known m) o → x ≡ Found.At s → d ≡ delimsOf m → p ≡ spanOf d (knownOf m s) f c → gives p ≡ placeTold m o f c
 unfolding placeTold
-place-at m o f c x s d p h l t n ed e = let z : ordinal (known m) o ≡ gives (knownOf m s) = rw n at (sym t) in rw (h, le-ltb (length m) 9 l, z, e, ed)
+place-at m o f c x s d p t h et n g y ed e = let z : ordinal (known m) o ≡ gives (knownOf m s) = rw y at (sym g) in rw (h, ← et, n, z, e, ed)
 
 pub at-within : (m : List ℕ) (p : Span) → p .start + p .len ≤ length m → (q : Span) → At p ≡ At q → q .start + q .len ≤ length m
 at-within m p h q e = let z : q ≡ p = cc in rw z h
 
 -- ---- of an accepted message
-accepted-long : (m : List ℕ) (k : Counts) → checkTold m ≡ gives k → 9 ≤ length m
-unfolding checkTold frameTold headerOk
-accepted-long m k h =
-    let q = framed (frameTold m) (viewTold (view m)) k h in
-    let a = guard 10 0 0 (ltb 32768 (length m)) _ tt q in
-    let b = guard 11 0 0 (not (headerOk m)) _ tt (a .1) in
-    let e = both (leb 9 (length m) && starts (bytes "MSH") m && delimsOk (delimsOf m)) (eqb (getD m 8 0) (delimsOf m .field)) (not-false (headerOk m) (b .0)) in
-    let g = both (leb 9 (length m) && starts (bytes "MSH") m) (delimsOk (delimsOf m)) (e .0) in
-    leb-true 9 (length m) (both (leb 9 (length m)) (starts (bytes "MSH") m) (g .0) .0)
+accepted-headed : (m : List ℕ) (k : Counts) → checkTold m ≡ gives k → headerOk m ≡ true
+unfolding checkTold
+accepted-headed m k h = framed m (first (frameTold m) (viewTold (view m)) k h) .headed
   where
-    framed : (t : Told (Unit {0})) (u : Told Counts) (k : Counts) → (t >> u) ≡ gives k → t ≡ gives tt
-    framed (gives tt) u k h = refl
-    framed (refused n s f) u k h = cc
+    first : (t : Told (Unit {0})) (u : Told Counts) (k : Counts) → (t >> u) ≡ gives k → t ≡ gives tt
+    first (gives tt) u k h = refl
+    first (refused n s f) u k h = cc
 
 pub place-accepted : (m : List ℕ) (o f c : ℕ) (k : Counts) → checkTold m ≡ gives k → placeTold m o f c ≡ fetchTold m o f c
 unfolding placeTold fetchTold
-place-accepted m o f c k h = rw (h, le-ltb (length m) 9 (accepted-long m k h))
+place-accepted m o f c k h = rw (h, accepted-headed m k h)
 
 -- ---- the check first
 module _ (m : List ℕ) (o f c : ℕ) (x : Answer) (e : told x ≡ checkTold m) where
@@ -437,15 +388,55 @@ module _ (m : List ℕ) (o f c : ℕ) (x : Answer) (e : told x ≡ checkTold m) 
 pub refused-within : (n : ℕ) (r : Refusal) (p : Span) → NotFetched r ≡ At p → p .start + p .len ≤ n
 refused-within n r p e = let z : _≡_ {A = ℕ} 0 1 = cc in absurd (omega arith)
 
+-- ---- the bytes that an answer names
+pub span-refused : (n : ℕ) (x : Fetched) (r : Refusal) → x ≡ NotFetched r → spanIn n x ≡ stretch 0 0
+unfolding spanIn
+span-refused n x r h = rw h
+
+module _ (n : ℕ) (x : Fetched) (p : Span) (h : x ≡ At p) where
+  pub span-beyond : n < p .start → spanIn n x ≡ stretch 0 0
+  unfolding spanIn
+  span-beyond l = rw (h, lt-leb (p .start + p .len) n (omega arith))
+
+  pub span-longer : p .start ≤ n → n - p .start < p .len → spanIn n x ≡ stretch 0 0
+  unfolding spanIn
+  span-longer l k = rw (h, lt-leb (p .start + p .len) n (omega arith))
+
+  pub span-at : p .start ≤ n → p .len ≤ n - p .start → spanIn n x ≡ p
+  unfolding spanIn
+  span-at l k = rw (h, le-leb (p .start + p .len) n (omega arith))
+
+pub none-bytes : (m : List ℕ) (p : Span) → p ≡ stretch 0 0 → take 0 m ≡ bytesAt m p
+unfolding bytesAt
+none-bytes m p h = rw h
+
+pub none-place : (a b : ℕ) (p : Span) → p ≡ stretch 0 0 → _≡_ {A = ℕ × ℕ} (a, b) (a, p .start + b)
+none-place a b p h = let k : b ≡ 0 + b = omega arith in rw h (ap (λ n. (a, n)) k)
+
+pub some-bytes : (m : List ℕ) (p s : Span) → p ≡ s → take (s .start + s .len - s .start) (drop (s .start) m) ≡ bytesAt m p
+unfolding bytesAt
+some-bytes m p s h = let k : s .start + s .len - s .start ≡ s .len = omega arith in rw (h, k)
+
+pub some-place : (a b : ℕ) (p s : Span) → p ≡ s → _≡_ {A = ℕ × ℕ} (a, s .start + b) (a, p .start + b)
+some-place a b p s h = rw h
+
 -- ---- the part
-abbrev Part : List ℕ → ℕ → ℕ → ℕ → List ℕ → ℕ × ℕ → ℕ × ℕ → Type 0
-Part m o f c r p q = (r ≡ shown (partTold m o f c)) × (q ≡ (p .0, startTold (fetchTold m o f c) + p .1))
+module _ (m : List ℕ) (o f c : ℕ) where
+  part-bytes : (x : Fetched) → toldSpan x ≡ fetchTold m o f c → ((p : Span) → x ≡ At p → p .start + p .len ≤ length m)
+      → bytesAt m (spanIn (length m) x) ≡ shown (partTold m o f c)
+  unfolding partTold bytesAt spanIn
+  part-bytes (At p) e w = rw (← e, le-leb (p .start + p .len) (length m) (w p refl))
+  part-bytes (NotFetched r) e w = rw (← e)
 
-module _ (m : List ℕ) (o f c : ℕ) (x : Fetched) (e : toldSpan x ≡ fetchTold m o f c) (a b : ℕ) where
-  pub fetch-refused : (r : Refusal) → x ≡ NotFetched r → Part m o f c (take 0 m) (a, b) (a, b)
-  unfolding partTold
-  fetch-refused r h = let k : b ≡ 0 + b = omega arith in rw (← e, h) (refl, ap (λ n. (a, n)) k)
+  part-start : (x : Fetched) → toldSpan x ≡ fetchTold m o f c → ((p : Span) → x ≡ At p → p .start + p .len ≤ length m)
+      → spanIn (length m) x .start ≡ startTold (fetchTold m o f c)
+  unfolding spanIn
+  part-start (At p) e w = rw (← e, le-leb (p .start + p .len) (length m) (w p refl))
+  part-start (NotFetched r) e w = rw (← e)
 
-  pub fetch-at : (p : Span) → x ≡ At p → Part m o f c (take (p .start + p .len - p .start) (drop (p .start) m)) (a, b) (a, p .start + b)
-  unfolding partTold bytesAt
-  fetch-at p h = let k : p .start + p .len - p .start ≡ p .len = omega arith in rw (← e, h, k) (refl, refl)
+  module _ (x : Fetched) (e : toldSpan x ≡ fetchTold m o f c) (w : (p : Span) → x ≡ At p → p .start + p .len ≤ length m) where
+    pub fetch-bytes : (r : List ℕ) → r ≡ bytesAt m (spanIn (length m) x) → r ≡ shown (partTold m o f c)
+    fetch-bytes r h = h ∙ part-bytes x e w
+
+    pub fetch-place : (a b : ℕ) (q : ℕ × ℕ) → q ≡ (a, spanIn (length m) x .start + b) → q ≡ (a, startTold (fetchTold m o f c) + b)
+    fetch-place a b q h = h ∙ ap (λ n. (a, n + b)) (part-start x e w)

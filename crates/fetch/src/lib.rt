@@ -5,7 +5,6 @@ use rules::Answer;
 use rules::Delims;
 use rules::Fetched;
 use rules::Kind;
-use rules::Mode;
 use rules::Name;
 use rules::Refusal;
 use rules::Span;
@@ -16,11 +15,12 @@ ghost use lib.Dec.{eqb};
 ghost use lib.ListN.{length, take, drop};
 ghost use Rattle.rules.specs.declared.Name.the-variants.{Other};
 ghost use Rattle.rules.specs.Told.{toldSpan, _when_};
-ghost use Rattle.rules.specs.Shift.{marks, met};
+ghost use Rattle.rules.specs.Shift.{met};
 ghost use Rattle.rules.specs.Frame.{is, known};
-ghost use Rattle.rules.specs.Fetch.{spanOf, stretch, fetchTold, partTold};
+ghost use Rattle.rules.specs.Fetch.{spanOf, stretch, fetchTold, bytesAt, partTold};
 ghost use Rattle.rules.specs.Fetch as Fetch;
-ghost use Rattle.fetch.specs.Place.{shown, startTold, placeTold, knownOf, foundTold, partIn, stretchOf};
+ghost use Rattle.scan.specs.Scan.{Proper};
+ghost use Rattle.fetch.specs.Place.{shown, startTold, spanIn, placeTold, knownOf, foundTold, partIn, stretchOf};
 
 mod pieces;
 
@@ -40,11 +40,26 @@ pub fn fetch(m: &[u8], ordinal: usize, field: usize, component: usize) -> &[u8]
     ensures { λ r. ⌜ now r ≡ shown (partTold (now (m .entry)) ordinal field component) ⌝ }
     ensures place { λ r. ⌜ r .ptr ≡ (m .entry .ptr .0, startTold (fetchTold (now (m .entry)) ordinal field component) + m .entry .ptr .1) ⌝ }
 {
-    match locate(m, ordinal, field, component) {
+    bytes_of(m, locate(m, ordinal, field, component))
+}
+
+// The stretch of m that an answer names; an empty one, at the start, where it names none that lies in m.
+pub fn bytes_of(m: &[u8], answer: Fetched) -> &[u8]
+    ensures { λ r. ⌜ now r ≡ bytesAt (now (m .entry)) (spanIn (length (now (m .entry))) answer) ⌝ }
+    ensures place { λ r. ⌜ r .ptr ≡ (m .entry .ptr .0, spanIn (length (now (m .entry))) answer .start + m .entry .ptr .1) ⌝ }
+{
+    match answer {
         Fetched::NotFetched(_) => &m[..0],
         Fetched::At(p) => {
             let start = p.start;
-            let end = start + p.len;
+            let len = p.len;
+            if m.len() < start {
+                return &m[..0];
+            }
+            if m.len() - start < len {
+                return &m[..0];
+            }
+            let end = start + len;
             &m[start..end]
         }
     }
@@ -58,7 +73,7 @@ pub fn place(m: &[u8], ordinal: usize, field: usize, component: usize) -> Fetche
     if (field == 0) | (component == 0) {
         return refused(Kind::Zero);
     }
-    if m.len() < 9 {
+    if !header::is_header(m) {
         return refused(Kind::NoOrdinal);
     }
     match known_segment(m, ordinal) {
@@ -130,7 +145,7 @@ fn counts(name: Name) -> usize
 
 // A component of a field of a segment. In MSH the first separator is itself field 1.
 fn part_of(m: &[u8], d: Delims, s: Segment, field: usize, component: usize) -> Span
-    requires { ⌜ (1 ≤ field) × (1 ≤ component) × (9 ≤ length (now m)) × (s .start + s .len ≤ length (now m)) ⌝ }
+    requires { ⌜ (1 ≤ field) × (1 ≤ component) × (9 ≤ length (now m)) × (s .start + s .len ≤ length (now m)) × Proper d ⌝ }
     ensures { λ r. ⌜ r ≡ spanOf d (knownOf (now (m .entry)) s) field component ⌝ }
     ensures within { λ r. ⌜ r .start + r .len ≤ length (now (m .entry)) ⌝ }
 {
@@ -164,34 +179,33 @@ fn undivided(start: usize, len: usize, component: usize) -> Span
 
 // A component of the first repetition of the n-th piece of a segment.
 fn component_of(m: &[u8], d: Delims, s: Segment, n: usize, component: usize) -> Span
-    requires { ⌜ (1 ≤ component) × (s .start + s .len ≤ length (now m)) ⌝ }
+    requires { ⌜ (1 ≤ component) × (s .start + s .len ≤ length (now m)) × Proper d ⌝ }
     ensures { λ r. ⌜ r ≡ stretchOf d (s .start) (met (take (s .len) (drop (s .start) (now (m .entry))))) n component ⌝ }
     ensures within { λ r. ⌜ r .start + r .len ≤ length (now (m .entry)) ⌝ }
 {
     let start = s.start;
     let end = start + s.len;
     let body = &m[start..end];
-    let f = pieces::nth_piece(body, Mode::One, d.field, n);
+    let f = pieces::nth_piece(body, d.field, n);
     let from = f.start;
     let to = from + f.len;
-    let mode = f.mode;
-    let p = part_in(&body[from..to], mode, d, component);
+    let p = part_in(&body[from..to], d, component);
     Span {
         start: start + from + p.start,
         len: p.len,
     }
 }
 
-// A component of the first repetition of a field, which begins in the mode `mode`, by its place in the field.
-fn part_in(f: &[u8], mode: Mode, d: Delims, component: usize) -> Span
-    requires { ⌜ 1 ≤ component ⌝ }
-    ensures { λ r. ⌜ r ≡ partIn d (marks 0x0D mode (now (f .entry))) component ⌝ }
+// A component of the first repetition of a field, by its place in the field.
+fn part_in(f: &[u8], d: Delims, component: usize) -> Span
+    requires { ⌜ (1 ≤ component) × Proper d ⌝ }
+    ensures { λ r. ⌜ r ≡ partIn d (met (now (f .entry))) component ⌝ }
     ensures within { λ r. ⌜ r .start + r .len ≤ length (now (f .entry)) ⌝ }
 {
-    let n = pieces::before(f, mode, d.repetition);
-    let c = pieces::nth_piece(&f[..n], mode, d.component, component - 1);
-    Span {
-        start: c.start,
-        len: c.len,
-    }
+    let first = pieces::reach(f, d.repetition, 0);
+    let from = first.start;
+    let to = from + first.len;
+    let c = pieces::nth_piece(&f[from..to], d.component, component - 1);
+    let start = from + c.start;
+    Span { start, len: c.len }
 }

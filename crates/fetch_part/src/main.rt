@@ -80,9 +80,10 @@ fn part(ordinal: usize, field: usize, component: usize) {
     let mut message = [0u8; 32769];
     let n = io::read_full(0, &mut message);
     let m = &message[..n];
-    match fetch::locate(m, ordinal, field, component) {
+    let answer = fetch::locate(m, ordinal, field, component);
+    match answer {
         Fetched::At(_) => {
-            io::write_all(1, fetch::fetch(m, ordinal, field, component));
+            io::write_all(1, fetch::bytes_of(m, answer));
             io::write_all(1, b"\n");
         }
         Fetched::NotFetched(refusal) => told::show_message_refusal(refusal),

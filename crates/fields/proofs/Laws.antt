@@ -4,8 +4,7 @@ use native.Mathlib.Omega.{arith}
 use mathlib.Core.Path.{_≡_, refl, sym, ap, _∙_}
 use mathlib.Core.List.{List, [], _∷_, map}
 use mathlib.Core.Bool.{Bool, true, false, not}
-use borrow.Author.Tests.{eqb-true, eqb-false}
-use lib.ListN.{length, take, drop, length-drop}
+use lib.ListN.{length, take, drop}
 use lib.Seq.{drop-drop}
 use Rattle.rules.specs.declared.Delims.{Delims}
 use Rattle.rules.specs.Told.{_then_, _when_}
@@ -16,41 +15,27 @@ use Rattle.rules.specs.Judge.{judge, judgeAll, namesFault, rawFour, valueFault}
 use Rattle.rules.specs.Judge as J
 use Rattle.rules.specs.View.{componentOf, firstRepetition, seenIn}
 use Rattle.rules.proofs.Logic.{never, not-true, not-false, then-zero}
-use Rattle.rules.proofs.Lists.{rest-is, part-length}
-use Rattle.rules.proofs.Modes.{length-marks}
-use Rattle.scan.specs.Scan.{until, is, ends, after, next, onward, plainText, CutOf, TailOf, Proper}
-use Rattle.scan.proofs.Laws.{from-met, piece-met, ends-far, far-is}
+use Rattle.rules.proofs.Lists.{rest-is, rest-length, rest-within, part-length}
+use Rattle.rules.proofs.Modes.{length-met}
+use Rattle.scan.specs.Scan.{until, is, ends, after, next, onward, CutOf, TailOf, Proper}
+use Rattle.scan.proofs.Laws.{from-met, ends-far, far-is, after-field}
 use Rattle.value.specs.Rules.{ruleOf, faultNo, fineOf}
 use Rattle.value.specs.declared.Fault.{Fault}
-use Rattle.value.specs.declared.Fault.the-variants.{Nothing, Repeated}
+use Rattle.rules.specs.declared.Kind.the-variants.{Repeated}
+use Rattle.value.specs.declared.Fault.the-variants.{Nothing, Found}
 use Rattle.value.specs.declared.Rule.{Rule}
-use Rattle.judge.specs.Judge.{Raw, Small}
+use Rattle.judge.specs.Judge.{Small}
 use Rattle.closed.specs.Closed.{forward, charsetFault, ClosedOf, ValueOf}
+use Rattle.closed.proofs.Laws.{head-met, head-raw}
 use Rattle.closed.proofs.Pieces.{piece-at, repetition-is, component-at, forward-repeats, forward-long, forward-short, rest-long, rest-more}
-use Rattle.fields.specs.declared.Place.{Place}
-use Rattle.fields.specs.declared.Place.the-variants.{Unread, Must, May}
+use Rattle.value.specs.declared.Place.{Place}
+use Rattle.value.specs.declared.Place.the-variants.{Unread, Must, May}
 use Rattle.fields.specs.declared.Form.{Form}
 use Rattle.fields.specs.declared.Form.the-variants.{One, Three, Charset, Names}
 use Rattle.fields.specs.declared.Walk.{Walk}
 use Rattle.fields.specs.Fields.{placeFault, Smalls, JudgedOf, componentsFault, ComponentsOf, entriesFrom, entriesFault, formFault, formHead, SmallForm, ReadOf, Ready, Went, To, ValueTo}
-use Rattle.fields.proofs.Pieces.{after-field}
 
 -- ---- faults
-pub fine-zero : (f : Fault) → fineOf f ≡ true → faultNo f ≡ 0
-unfolding fineOf
-fine-zero f h = eqb-true (faultNo f) 0 h
-
-pub fault-some : (f : Fault) → fineOf f ≡ false → faultNo f ≡ suc (faultNo f - 1)
-unfolding fineOf
-fault-some f h = let z : faultNo f ≡ 0 → ⊥ = eqb-false (faultNo f) 0 h in omega arith
-
-module _ (f g : Fault) (q : Bool) (e : q ≡ fineOf f) where
-  pub first-later : q ≡ true → faultNo g ≡ (faultNo f then faultNo g)
-  first-later h = rw (fine-zero f (sym e ∙ h))
-
-  pub first-stays : q ≡ false → faultNo f ≡ (faultNo f then faultNo g)
-  first-stays h = rw (fault-some f (sym e ∙ h))
-
 pub unless-holds : (q : Bool) (f : Fault) → q ≡ true → faultNo Nothing ≡ (faultNo f when not q)
 unfolding faultNo
 unless-holds q f h = rw h
@@ -58,7 +43,7 @@ unless-holds q f h = rw h
 pub unless-not : (q : Bool) (f : Fault) → q ≡ false → faultNo f ≡ (faultNo f when not q)
 unless-not q f h = rw h
 
-pub repeated-yes : (q : Bool) (f : Fault) → q ≡ true → faultNo Repeated ≡ (22 when q then faultNo f)
+pub repeated-yes : (q : Bool) (f : Fault) → q ≡ true → faultNo (Found Repeated) ≡ (22 when q then faultNo f)
 unfolding faultNo
 repeated-yes q f h = rw h
 
@@ -89,19 +74,10 @@ unfolding Smalls
 may-small place r e h = rw e at h
 
 module _ (d : Delims) (t : List ℕ) (n : ℕ) (clean : Bool) (c : CutOf d t n clean) where
-  head-met : met (take n t) ≡ until (ends d) (met t)
-  head-met = ap (λ k. met (take k t)) (c .long) ∙ piece-met (ends d) t
-
-  pub head-raw : Raw d (take n t) clean
-  head-raw = record { plain = c .plain ∙ ap (plainText d) (sym head-met); bytes = ap (map byteOf) head-met ∙ c .raw }
-
   pub component-judged : (place : Place) (f : ℕ) → f ≡ placeFault d place (met (take n t)) → JudgedOf d place t f n
-  component-judged place f e = record { told = e ∙ ap (placeFault d place) head-met; long = c .long; raw = c .raw }
+  component-judged place f e = record { told = e ∙ ap (placeFault d place) (head-met d t n clean c); long = c .long; raw = c .raw }
 
 -- ---- one field
-part-long : (t : List ℕ) (n : ℕ) → length (take (length t - n) (drop n t)) ≡ length t - n
-part-long t n = ap length (rest-is t n) ∙ length-drop n t
-
 pub one-read : (d : Delims) → Proper d → (place : Place) (t : List ℕ) (f n k : ℕ) (more : Bool) → JudgedOf d place t f n
     → TailOf d (met (take (length t - n) (drop n t))) k more → ComponentsOf d (place ∷ []) t more f n (n + k)
 unfolding componentsFault
@@ -118,18 +94,11 @@ one-read d p place t f n k more j e =
       long = omega (arith, rest-long d m, j .long);
     }
 
-pub part-within : (t : List ℕ) (n k : ℕ) → n ≤ length t → k ≤ length (take (length t - n) (drop n t)) → n + k ≤ length t
-part-within t n k h e = omega (arith, part-long t n)
-
-met-length : (t : List ℕ) → length (met t) ≡ length t
-unfolding met
-met-length t = length-marks 0x0D _ t
-
 -- a component before the others
 module _ (d : Delims) (p : Proper d) (t u : List ℕ) (e : met u ≡ next d (met t)) where
   pub rest-fits : length u ≤ length t
   unfolding forward
-  rest-fits = omega (arith, forward-short d p 1 (met t), met-length t, met-length u, ap length e)
+  rest-fits = omega (arith, forward-short d p 1 (met t), length-met t, length-met u, ap length e)
 
   pub led-read : (place : Place) (ps : List Place) (f g h n k l : ℕ) (more : Bool) → JudgedOf d place t f n → ComponentsOf d ps u more g k l
       → h ≡ (f then g) → ComponentsOf d (place ∷ ps) t more h n (length t - length u + l)
@@ -140,7 +109,7 @@ module _ (d : Delims) (p : Proper d) (t u : List ℕ) (e : met u ≡ next d (met
     short = j .long;
     raw = j .raw;
     long = let a : l ≡ length (until (is (d .field)) (next d (met t))) = r .long ∙ ap (λ m. length (until (is (d .field)) m)) e in
-        omega (arith, forward-long d p 1 (met t), met-length t, met-length u, ap length e, rest-fits);
+        omega (arith, forward-long d p 1 (met t), length-met t, length-met u, ap length e, rest-fits);
   }
 
   pub led-within : (l : ℕ) → l ≤ length u → length t - length u + l ≤ length t
@@ -268,8 +237,8 @@ module _ (d : Delims) (s : List ℕ) (n : ℕ) (form : Form) (w : Walk) (b : Rea
   field-judged r u k p h g v c z x y f = record {
     went = went-judged d s n (formFault d form) (formHead d form) w q e r u k p h g c x y f;
     upto = omega arith;
-    part = omega (arith, part-long s u, z .1);
-    low = omega (arith, part-long s u, z .0);
+    part = omega (arith, rest-length s u, z .1);
+    low = omega (arith, rest-length s u, z .0);
   }
 
 module _ (d : Delims) (s type : List ℕ) (w : Walk) (b : Ready s 5 w) (q : Bool) (e : q ≡ fineOf (w .fault)) where
@@ -294,10 +263,8 @@ module _ (d : Delims) (s type : List ℕ) (w : Walk) (b : Ready s 5 w) (q : Bool
         beside = λ o n. c .beside n ∙ ap (λ t. J.beside (rawFour d type (until (is (d .field)) t))) m;
         upto = omega arith;
         part = omega arith;
-        low = omega (arith, part-long s u);
+        low = omega (arith, rest-length s u);
       }
-
-pub ruleset first-of·laws = (first-later, first-stays)
 
 pub ruleset unless·laws = (unless-holds, unless-not)
 
@@ -307,7 +274,7 @@ pub ruleset judge-place·laws = (unread-is, must-is, may-is, must-small, may-sma
 
 pub ruleset component·laws = (head-raw, component-judged, part-length)
 
-pub ruleset one·laws = (one-read, part-within)
+pub ruleset one·laws = (one-read, rest-within)
 
 pub ruleset two·laws = (led-read, rest-fits, led-within)
 
@@ -315,8 +282,8 @@ pub ruleset three·laws = (led-read, rest-fits, led-within)
 
 pub ruleset judge-field·laws = (read-one, read-three, read-charset, read-names, small-one, small-first, small-second, small-third)
 
-pub ruleset past·laws = (past-on, past-end, part-within)
+pub ruleset past·laws = (past-on, past-end, rest-within)
 
-pub ruleset field·laws = (field-ended, field-judged, part-within)
+pub ruleset field·laws = (field-ended, field-judged, rest-within)
 
-pub ruleset value-field·laws = (value-ended, value-judged, part-within)
+pub ruleset value-field·laws = (value-ended, value-judged, rest-within)

@@ -18,8 +18,8 @@ use Rattle.scan.specs.Scan.{until, is, ends, after, onward, next}
 use Rattle.value.specs.Rules.{ruleOf, faultNo, fineOf}
 use Rattle.judge.specs.Judge.{Small}
 use Rattle.closed.specs.Closed.{charsetFault}
-use Rattle.fields.specs.declared.Place.{Place}
-use Rattle.fields.specs.declared.Place.the-variants.{Unread, Must, May}
+use Rattle.value.specs.declared.Place.{Place}
+use Rattle.value.specs.declared.Place.the-variants.{Unread, Must, May}
 use Rattle.fields.specs.declared.Form.{Form}
 use Rattle.fields.specs.declared.Form.the-variants.{One, Three, Charset, Names}
 use Rattle.fields.specs.declared.Walk.{Walk}

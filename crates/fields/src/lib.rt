@@ -1,8 +1,9 @@
 // One read field of a segment, as the table of document 01 lists it, and on from one field to the next.
 use closed::ClosedRead;
 use rules::Delims;
+use rules::Kind;
 use value::Fault;
-use value::Rule;
+use value::Place;
 ghost use mathlib.Core.Path.{_≡_};
 ghost use mathlib.Core.Bool.{not};
 ghost use mathlib.Core.List.{[], _∷_};
@@ -15,13 +16,6 @@ ghost use Rattle.value.specs.Rules.{faultNo};
 ghost use Rattle.judge.specs.Judge.{Raw};
 ghost use Rattle.fields.specs.Fields.{placeFault, formFault, formHead, Smalls, SmallForm, JudgedOf, ComponentsOf, ReadOf, Begins, Ready, To, ValueTo};
 
-// A component of a field, as the table has it.
-pub enum Place {
-    Unread,
-    Must(Rule),
-    May(Rule),
-}
-
 // What is read of a field: its component 1; some of its first three; the whole of MSH-18 or of PID-5.
 pub enum Form {
     One(Place),
@@ -31,16 +25,6 @@ pub enum Form {
 }
 
 // ---- faults
-
-// The first of two faults.
-pub fn first_of(f: Fault, g: Fault) -> Fault
-    ensures { λ r. ⌜ faultNo r ≡ (faultNo f then faultNo g) ⌝ }
-{
-    if value::fine(f) {
-        return g;
-    }
-    f
-}
 
 // A fault where something doesn't hold.
 pub fn unless(holds: bool, f: Fault) -> Fault
@@ -57,7 +41,7 @@ fn repeated(repeats: bool, f: Fault) -> Fault
     ensures { λ r. ⌜ faultNo r ≡ (22 when repeats then faultNo f) ⌝ }
 {
     if repeats {
-        return Fault::Repeated;
+        return Fault::Found(Kind::Repeated);
     }
     f
 }
@@ -130,7 +114,7 @@ fn two(t: &[u8], d: Delims, a: Place, b: Place) -> Components
     let g = r.fault;
     Components {
         repeats: r.repeats,
-        fault: first_of(f, g),
+        fault: value::earlier(f, g),
         head,
         len: t.len() - u.len() + r.len,
     }
@@ -149,7 +133,7 @@ fn three(t: &[u8], d: Delims, a: Place, b: Place, c: Place) -> Components
     let g = r.fault;
     Components {
         repeats: r.repeats,
-        fault: first_of(f, g),
+        fault: value::earlier(f, g),
         head,
         len: t.len() - u.len() + r.len,
     }

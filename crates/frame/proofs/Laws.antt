@@ -5,23 +5,22 @@ use mathlib.Core.List.{List, [], _∷_}
 use Prim.Native.Nat.{ℕ, zero, suc, _+_, _-_, _≤_, _<_}
 use native.Mathlib.Numerals.{add-one}
 use native.Mathlib.Omega.{arith}
-use borrow.Author.Tests.{eqb-true, eq-eqb, ne-eqb, le-leb, lt-leb, lt-ltb, le-ltb, leb-true}
+use borrow.Author.Tests.{eqb-true, eq-eqb, ne-eqb, le-leb, lt-leb, lt-ltb, le-ltb}
 use lib.Dec.{eqb, leb, ltb}
 use lib.ListN.{length, getD, take, drop, length-drop}
 use lib.Seq.{drop-drop}
 use Rattle.rules.specs.declared.Delims.{Delims}
 use Rattle.rules.specs.declared.Counts.{Counts}
-use Rattle.rules.specs.declared.Mode.{Mode}
-use Rattle.rules.specs.declared.Mode.the-variants.{One}
 use Rattle.rules.specs.declared.Name.{Name}
 use Rattle.rules.specs.declared.Name.the-variants.{Msh, Pid, Pv1, Spm, Obr, Orc, Obx, Other}
 use Rattle.rules.specs.Told.{gives, _then_, _when_}
 use Rattle.rules.specs.Lists.{bytes, empty, starts, all, any, has, distinct, split, allButLast, last}
-use Rattle.rules.specs.Shift.{step, isOne, walk, keeps}
+use Rattle.rules.specs.Shift.{keeps}
 use Rattle.rules.specs.Frame.{delimsOf, fiveOf, delimsOk, headerOk, segments, capital, capitalOrDigit, nameOk, segmentsOk, knownNames, spelling, nameAmong, nameOf, rank, is, after}
-use Rattle.rules.proofs.Logic.{cases, both, not-true, not-false, and-true, and-false, and-assoc, or-false, or-assoc}
-use Rattle.rules.proofs.Lists.{filled-some, here, over, rest-is, all-cons, all-first, any-cons, has-cons, has-nil, has-here, has-there}
+use Rattle.rules.proofs.Logic.{cases, not-true, not-false, and-true, and-false, and-assoc, or-false, or-assoc}
+use Rattle.rules.proofs.Lists.{starts-short, filled-some, here, over, rest-is, all-cons, all-first, any-cons, has-cons, has-nil, has-here, has-there}
 use Rattle.rules.proofs.Split.{butLast-split, last-split}
+use Rattle.rules.proofs.Header.{header}
 use Rattle.scan.specs.Scan.{until}
 use Rattle.scan.specs.Scan as Scan
 use Rattle.value.proofs.Laws.{split-last, split-more}
@@ -44,13 +43,6 @@ starts-cons k b ks s = cases (eqb b k) (λ e. cc) (λ e. cc)
 starts-nil : (s : List ℕ) → starts [] s ≡ true
 unfolding starts
 starts-nil s = refl
-
--- a text shorter than a word doesn't start with it
-starts-short : (k s : List ℕ) → length s < length k → starts k s ≡ false
-unfolding starts
-starts-short [] s h = absurd (omega arith)
-starts-short (x ∷ k) [] h = refl
-starts-short (x ∷ k) (b ∷ s) h = cases (eqb b x) (λ e. cc (starts-short k s (omega arith))) (λ e. cc)
 
 -- the first three elements
 three : (s : List ℕ) → 3 ≤ length s → s ≡ getD s 0 0 ∷ getD s 1 0 ∷ getD s 2 0 ∷ drop 3 s
@@ -332,11 +324,7 @@ whole-within p v f e = f v e
 
 -- ---- 10 to 15
 pub header-long : (m : List ℕ) (t : Bool) → t ≡ headerOk m → not t ≡ false → 9 ≤ length m
-unfolding headerOk
-header-long m t e h =
-    let a = both (leb 9 (length m) && starts (bytes "MSH") m && delimsOk (delimsOf m)) (eqb (getD m 8 0) (delimsOf m .field)) (sym e ∙ not-false t h) in
-    let b = both (leb 9 (length m) && starts (bytes "MSH") m) (delimsOk (delimsOf m)) (a .0) in
-    leb-true 9 (length m) (both (leb 9 (length m)) (starts (bytes "MSH") m) (b .0) .0)
+header-long m t e h = header m (sym e ∙ not-false t h) .long
 
 module _ (m : List ℕ) (r : Framed) where
   pub sound-by : framedTold r ≡ frameOf m → (o : Opened) → r ≡ Open o → Sound m (o .delims)

@@ -1,27 +1,29 @@
 -- What the frame's definitions say in terms of the rules: the pass counts what the rules count, the header gives proper delimiters, and the check goes on from the frame.
 -- Assumes nothing.
 use mathlib.Core.Path.{_≡_, refl, sym, ap, _∙_}
-use mathlib.Core.Bool.{Bool, true, false, cond, not, _&&_}
+use mathlib.Core.Bool.{Bool, true, false, cond, not}
 use mathlib.Core.List.{List, [], _∷_, map}
 use Prim.Native.Nat.{ℕ, zero, suc, _+_}
 use native.Mathlib.Nat.{add-assoc, add-zero, zero-add}
 use native.Mathlib.Numerals.{add-one}
 use native.Mathlib.Omega.{arith}
-use borrow.Author.Tests.{eqb-true, leb-true, ltb-false}
-use lib.Dec.{eqb, leb, ltb}
-use lib.ListN.{length, getD}
+use borrow.Author.Tests.{ltb-false}
+use lib.Dec.{eqb, ltb}
+use lib.ListN.{length}
 use Rattle.rules.specs.declared.Delims.{Delims}
 use Rattle.rules.specs.declared.Counts.{Counts}
 use Rattle.rules.specs.declared.Name.{Name}
 use Rattle.rules.specs.declared.Name.the-variants.{Spm, Obr, Obx, Other}
 use Rattle.rules.specs.Told.{Told, gives, refused, refuse_if_else_, _>>_, _>>=_, _then_, _when_}
-use Rattle.rules.specs.Lists.{bytes, starts, all, any, count, has, distinct}
-use Rattle.rules.specs.Shift.{keeps, within}
-use Rattle.rules.specs.Frame.{delimsOf, fiveOf, delimsOk, headerOk, digit, segments, segmentsOk, nameOf, is, after, knownFrom, known, orderFault}
+use Rattle.rules.specs.Lists.{bytes, all, any, count}
+use Rattle.rules.specs.Shift.{keeps}
+use Rattle.rules.specs.Frame.{delimsOf, headerOk, digit, segments, segmentsOk, nameOf, is, after, knownFrom, known, orderFault}
 use Rattle.rules.specs.View.{Segment, segmentOf, view}
 use Rattle.rules.specs.Check.{frameTold, namesOf, countsTold, placesTold, viewTold, checkTold}
-use Rattle.rules.proofs.Logic.{cases, toldCases, never, both, not-true, not-false, guard, then-zero, eqb-sym}
-use Rattle.rules.proofs.Lists.{all-first, has-first, has-nil, has-there}
+use Rattle.rules.proofs.Logic.{cases, toldCases, not-true, not-false, guard, then-zero, then-gives}
+use Rattle.rules.proofs.Lists.{in-all}
+use Rattle.rules.proofs.Header as Header
+use Rattle.rules.proofs.Header.{twelve, Delim}
 use Rattle.rules.proofs.Unique.{refusal-unique}
 use Rattle.scan.specs.Scan.{Proper, Printable, alnum}
 use Rattle.frame.specs.Frame.{framedTold, frameOf, Sound, start, tallied, countedOf, seenIn, closing}
@@ -131,59 +133,33 @@ closing-is m d =
     rw (eo, ec, es)
 
 -- ---- the header gives proper delimiters
--- what holds of every element holds of one
-of-each : (p : ℕ → Bool) (x : ℕ) (s : List ℕ) → has x s ≡ true → all p s ≡ true → p x ≡ true
-of-each p x [] h a = never (sym h ∙ has-nil x)
-of-each p x (b ∷ s) h a =
-    let q = all-first p b s a in
-    cases (eqb b x) (λ e. ap p (sym (eqb-true b x e)) ∙ q .0) (λ e. of-each p x s (sym (has-there x b s e) ∙ h) (q .1))
+printable : (x : ℕ) → Delim x → Printable x
+printable x h = let q = Header.printable x h in record { low = q .0; high = q .1 }
 
-abbrev sign : ℕ → Bool
-sign b = has b (bytes "!#%&*;?@\\^|~")
+module _ (d : Delims) (h : Header.Proper d) (p : ℕ → Bool) (g : all (λ b. not (p b)) twelve ≡ true) where
+  not-one : (x : ℕ) → Delim x → p x ≡ false
+  not-one x k = not-true (p x) (in-all (λ b. not (p b)) x twelve k g)
 
-printable : (x : ℕ) → sign x ≡ true → Printable x
-unfolding bytes all
-printable x h =
-    let q = both (leb 0x20 x) (leb x 0x7E) (of-each (within 0x20 0x7E) x (bytes "!#%&*;?@\\^|~") h refl) in
-    record { low = leb-true 0x20 x (q .0); high = leb-true x 0x7E (q .1) }
+  none-of : any p (d .field ∷ d .component ∷ d .sub ∷ d .repetition ∷ d .escape ∷ []) ≡ false
+  unfolding any
+  none-of =
+      cc (not-one (d .field) (h .field), not-one (d .component) (h .component), not-one (d .sub) (h .sub), not-one (d .repetition) (h .repetition), not-one (d .escape) (h .escape))
 
-none-of : (p : ℕ → Bool) (xs : List ℕ) → all (λ b. not (p b)) (bytes "!#%&*;?@\\^|~") ≡ true → all sign xs ≡ true → any p xs ≡ false
-unfolding any
-none-of p [] g h = refl
-none-of p (x ∷ xs) g h =
-    let q = all-first sign x xs h in
-    let e : p x ≡ false = not-true (p x) (of-each (λ b. not (p b)) x (bytes "!#%&*;?@\\^|~") (q .0) g) in
-    cc (none-of p xs g (q .1))
-
-pub proper : (d : Delims) → delimsOk d ≡ true → Proper d
-unfolding delimsOk distinct all bytes
-proper d h =
-    let q = both (all sign (fiveOf d)) (distinct (fiveOf d)) h in
-    let f = all-first sign (d .field) (d .component ∷ d .repetition ∷ d .escape ∷ d .sub ∷ []) (q .0) in
-    let c = all-first sign (d .component) (d .repetition ∷ d .escape ∷ d .sub ∷ []) (f .1) in
-    let r = all-first sign (d .repetition) (d .escape ∷ d .sub ∷ []) (c .1) in
-    let e = all-first sign (d .escape) (d .sub ∷ []) (r .1) in
-    let s = all-first sign (d .sub) [] (e .1) in
-    let five : all sign (d .field ∷ d .component ∷ d .sub ∷ d .repetition ∷ d .escape ∷ []) ≡ true = cc (f .0, c .0, s .0, r .0, e .0) in
-    let x = both (not (has (d .field) (d .component ∷ d .repetition ∷ d .escape ∷ d .sub ∷ []))) (distinct (d .component ∷ d .repetition ∷ d .escape ∷ d .sub ∷ [])) (q .1) in
-    let y = both (not (has (d .component) (d .repetition ∷ d .escape ∷ d .sub ∷ []))) (distinct (d .repetition ∷ d .escape ∷ d .sub ∷ [])) (x .1) in
-    record {
-      field = printable (d .field) (f .0);
-      component = printable (d .component) (c .0);
-      repetition = printable (d .repetition) (r .0);
-      escape = printable (d .escape) (e .0);
-      sub = printable (d .sub) (s .0);
-      fieldDiffers = has-first (d .field) (d .component) (d .repetition ∷ d .escape ∷ d .sub ∷ []) (not-true (has (d .field) (d .component ∷ d .repetition ∷ d .escape ∷ d .sub ∷ [])) (x .0)) .0;
-      repetitionDiffers = eqb-sym (d .component) (d .repetition) ∙ has-first (d .component) (d .repetition) (d .escape ∷ d .sub ∷ []) (not-true (has (d .component) (d .repetition ∷ d .escape ∷ d .sub ∷ [])) (y .0)) .0;
-      digits = none-of digit (d .field ∷ d .component ∷ d .sub ∷ d .repetition ∷ d .escape ∷ []) refl five;
-      signs = none-of alnum (d .field ∷ d .component ∷ d .sub ∷ d .repetition ∷ d .escape ∷ []) refl five;
-    }
+proper : (d : Delims) → Header.Proper d → Proper d
+unfolding all bytes
+proper d h = record {
+  field = printable (d .field) (h .field);
+  component = printable (d .component) (h .component);
+  repetition = printable (d .repetition) (h .repetition);
+  escape = printable (d .escape) (h .escape);
+  sub = printable (d .sub) (h .sub);
+  fieldDiffers = h .component-field;
+  repetitionDiffers = h .component-repetition;
+  digits = none-of d h digit refl;
+  signs = none-of d h alnum refl;
+}
 
 -- ---- what a message that passes is
-then-gives : {A : Type 0} (t : Told (Unit {0})) (u : Told A) (a : A) → (t >> u) ≡ gives a → (t ≡ gives tt) × (u ≡ gives a)
-then-gives (gives tt) u a h = (refl, h)
-then-gives (refused n s f) u a h = (cc, cc)
-
 pick-gives : {A : Type 0} (b : Bool) (x a : A) (n s f : ℕ) → cond b (gives x) (refused n s f) ≡ gives a → x ≡ a
 pick-gives true x a n s f h = cc
 pick-gives false x a n s f h = cc
@@ -206,16 +182,11 @@ sound m o h =
     let ed : o .delims ≡ d = ap (λ y. y .delims) (sym (pick-gives (eqb at 0) x o 15 at 0 (q .1))) in
     rw ed (record {
       delims = refl;
-      proper = proper d (header-delims m (not-false (headerOk m) (g11 .0)));
+      proper = proper d (Header.header m (not-false (headerOk m) (g11 .0)) .proper);
       short = ltb-false 32768 (length m) (g10 .0);
       shifts = not-false (keeps 0x0D m) (g12 .0);
       whole = not-false (segmentsOk (d .field) m) (g13 .0);
     })
-  where
-    header-delims : (m : List ℕ) → headerOk m ≡ true → delimsOk (delimsOf m) ≡ true
-    header-delims m h =
-        let a = both (leb 9 (length m) && starts (bytes "MSH") m && delimsOk (delimsOf m)) (eqb (getD m 8 0) (delimsOf m .field)) h in
-        both (leb 9 (length m) && starts (bytes "MSH") m) (delimsOk (delimsOf m)) (a .0) .1
 
 -- ---- the check goes on from the frame
 pub check-from : (m : List ℕ) → checkTold m ≡ (frameOf m >>= λ (o : Opened). placesTold (o .delims) [] 1 (view m .segs) >> gives (o .counts))

@@ -17,7 +17,7 @@ pub fn is_header(m: &[u8]) -> bool
         return false;
     }
     let d = delims(m);
-    names::named(m, &names::MSH) & delims_ok(d) & (m[8] == d.field)
+    names::named(m, &rules::MSH) & delims_ok(d) & (m[8] == d.field)
 }
 
 pub fn delims(m: &[u8]) -> Delims

@@ -6,20 +6,6 @@ ghost use lib.ListN.{length};
 ghost use Rattle.rules.specs.Lists.{starts, any};
 ghost use Rattle.rules.specs.Frame.{nameOf, rank, is, after};
 
-pub const MSH: [u8; 3] = *b"MSH";
-
-pub const PID: [u8; 3] = *b"PID";
-
-pub const PV1: [u8; 3] = *b"PV1";
-
-pub const SPM: [u8; 3] = *b"SPM";
-
-pub const OBR: [u8; 3] = *b"OBR";
-
-pub const ORC: [u8; 3] = *b"ORC";
-
-pub const OBX: [u8; 3] = *b"OBX";
-
 // Whether a segment starts with a name.
 pub fn named(s: &[u8], name: &[u8]) -> bool
     requires { ⌜ (3 ≤ length (now s)) × (length (now name) ≡ 3) ⌝ }
@@ -35,25 +21,25 @@ pub fn name_of(s: &[u8]) -> Name
     if s.len() < 3 {
         return Name::Other;
     }
-    if named(s, &MSH) {
+    if named(s, &rules::MSH) {
         return Name::Msh;
     }
-    if named(s, &PID) {
+    if named(s, &rules::PID) {
         return Name::Pid;
     }
-    if named(s, &PV1) {
+    if named(s, &rules::PV1) {
         return Name::Pv1;
     }
-    if named(s, &SPM) {
+    if named(s, &rules::SPM) {
         return Name::Spm;
     }
-    if named(s, &OBR) {
+    if named(s, &rules::OBR) {
         return Name::Obr;
     }
-    if named(s, &ORC) {
+    if named(s, &rules::ORC) {
         return Name::Orc;
     }
-    if named(s, &OBX) {
+    if named(s, &rules::OBX) {
         return Name::Obx;
     }
     Name::Other

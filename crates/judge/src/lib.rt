@@ -1,5 +1,6 @@
 // One read component, judged: 21, 23, 20, 24, 25.
 use rules::Delims;
+use rules::Kind;
 use rules::Mode;
 use value::Fault;
 use value::Rule;
@@ -148,12 +149,12 @@ fn judge_escaped(raw: &[u8], d: Delims, required: bool, rule: Rule) -> Fault
     let mut buf = [0u8; 256];
     match unescape_into(raw, d, &mut buf) {
         Unescaped::Got(n) => value::fault_of(required, rule, &buf[..n]),
-        Unescaped::Faulty => Fault::Escape,
+        Unescaped::Faulty => Fault::Found(Kind::Escape),
         Unescaped::Over(n) => {
             if value::too_long(rule, n) {
-                return Fault::Long;
+                return Fault::Found(Kind::Long);
             }
-            Fault::Value
+            Fault::Found(Kind::Value)
         }
     }
 }
@@ -164,7 +165,7 @@ pub fn judge(raw: &[u8], clean: bool, d: Delims, required: bool, rule: Rule) -> 
     ensures { λ r. ⌜ faultNo r ≡ J.judge d required (ruleOf rule) (met (now (raw .entry))) ⌝ }
 {
     if value::equal(raw, b"\"\"") {
-        return Fault::Null;
+        return Fault::Found(Kind::Null);
     }
     if clean {
         return value::fault_of(required, rule, raw);

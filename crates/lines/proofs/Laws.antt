@@ -22,13 +22,15 @@ use Rattle.rules.proofs.Split.{butLast-split}
 use Rattle.scan.specs.Scan.{until, is}
 use Rattle.value.specs.declared.Fault.{Fault}
 use Rattle.value.specs.declared.Words.the-variants.{Modes, Sexes, Classes, Types, Flags, Statuses, Blank, Comparators, Joiners}
+use Rattle.value.specs.declared.Place.{Place}
+use Rattle.value.specs.declared.Place.the-variants.{Unread, Must, May}
 use Rattle.value.specs.declared.Rule.{Rule as Coded}
 use Rattle.value.specs.declared.Rule.the-variants.{Time, Date, Number, Text, Digits, Capitals, OneOf}
-use Rattle.value.specs.Rules.{faultNo, fineOf, oneOf, ruleOf, textOf}
+use Rattle.value.specs.Rules.{faultNo, fineOf, ruleOf, textOf}
 use Rattle.value.proofs.Laws.{split-last, split-more}
 use Rattle.lines.specs.declared.Verdict.{Verdict}
 use Rattle.lines.specs.declared.Verdict.the-variants.{Fine, Key, Value}
-use Rattle.lines.specs.Lines.{fourOf, joinedOk, andThen, isFine, toldOf, lineAs, lineVerdict, verdict, groupVerdict, valuesFrom, groupValues, nextGroup}
+use Rattle.lines.specs.Lines.{fitsPlace, fourOf, joinedOk, andThen, isFine, toldOf, lineAs, lineVerdict, verdict, groupVerdict, valuesFrom, groupValues, nextGroup}
 
 -- ---- lines by their 0A
 none : (s : List ℕ) → length (until (is 0x0A) s) ≡ length s → linesOf s ≡ []
@@ -178,12 +180,22 @@ pub keeps-is : (f : Fault) (x : ℕ) (r : Bool) → r ≡ fineOf f → faultNo f
 unfolding fineOf
 keeps-is f x r e h = e ∙ ap (λ (n : ℕ). eqb n 0) h
 
-module _ (before r : Verdict) (k : ℕ) (key l v : List ℕ) (required good : Bool) (rule : Rule) (e : v ≡ drop (length key) l) (f : good ≡ fits required rule v) where
-  pub line-is : r ≡ andThen before (lineAs k key good l) → r ≡ andThen before (lineAs k key (fits required rule (drop (length key) l)) l)
-  line-is g = g ∙ ap (λ (b : Bool). andThen before (lineAs k key b l)) (f ∙ ap (fits required rule) e)
+module _ (place : Place) (v : List ℕ) where
+  pub fits-unread : place ≡ Unread → true ≡ fitsPlace place v
+  fits-unread e = rw e
 
-  pub line-if-is : (also : Bool) → r ≡ andThen before (lineAs k key (good && also) l) → r ≡ andThen before (lineAs k key (fits required rule (drop (length key) l) && also) l)
-  line-if-is also g = g ∙ ap (λ (b : Bool). andThen before (lineAs k key (b && also) l)) (f ∙ ap (fits required rule) e)
+  pub fits-must : (r : Coded) (q : Bool) → place ≡ Must r → q ≡ fits true (ruleOf r) v → q ≡ fitsPlace place v
+  fits-must r q e h = rw e h
+
+  pub fits-may : (r : Coded) (q : Bool) → place ≡ May r → q ≡ fits false (ruleOf r) v → q ≡ fitsPlace place v
+  fits-may r q e h = rw e h
+
+module _ (before r : Verdict) (k : ℕ) (key l v : List ℕ) (good : Bool) (place : Place) (e : v ≡ drop (length key) l) (f : good ≡ fitsPlace place v) where
+  pub line-is : r ≡ andThen before (lineAs k key good l) → r ≡ andThen before (lineAs k key (fitsPlace place (drop (length key) l)) l)
+  line-is g = g ∙ ap (λ (b : Bool). andThen before (lineAs k key b l)) (f ∙ ap (fitsPlace place) e)
+
+  pub line-if-is : (also : Bool) → r ≡ andThen before (lineAs k key (good && also) l) → r ≡ andThen before (lineAs k key (fitsPlace place (drop (length key) l) && also) l)
+  line-if-is also g = g ∙ ap (λ (b : Bool). andThen before (lineAs k key (b && also) l)) (f ∙ ap (fitsPlace place) e)
 
 -- the values of a line behind its key
 pub value-none : (t l : List ℕ) (n : ℕ) → t ≡ l → length t < n → take (length t - length t) (drop (length t) t) ≡ drop n l
@@ -223,13 +235,9 @@ module _ (c v j s : List ℕ) (q : Bool) (e : q ≡ (filled c || filled j || fil
   unfolding joinedOk beside unjoined
   joined-is = rw (e, blank s, blank j, blank v)
 
-  pub agrees-value : (t : List ℕ) (u : Bool) → u ≡ oneOf (70 ∷ 32 ∷ 80 ∷ 32 ∷ 67 ∷ []) t → u ≡ true → not (eqb (length v) 0) ≡ agrees t (fourOf c v j s)
-  unfolding agrees isOneOf oneOf bytes
-  agrees-value t u f h = rw (blank v, ← f, h)
-
-  pub agrees-none : (t : List ℕ) (u : Bool) → u ≡ oneOf (70 ∷ 32 ∷ 80 ∷ 32 ∷ 67 ∷ []) t → u ≡ false → (eqb (length v) 0 && not q) ≡ agrees t (fourOf c v j s)
-  unfolding agrees isOneOf oneOf bytes beside
-  agrees-none t u f h = rw (blank v, ← f, h, e)
+  pub agrees-is : (t : List ℕ) (r : Bool) → ((k : Four (List ℕ)) → not (eqb (length v) 0) ≡ filled (k .value) → q ≡ beside k → r ≡ agrees t k) → r ≡ agrees t (fourOf c v j s)
+  unfolding beside
+  agrees-is t r h = h (fourOf c v j s) (ap not (blank v)) e
 
 -- ---- the rules of the parts, by OBX-2
 abbrev nm : Four Rule

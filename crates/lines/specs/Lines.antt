@@ -7,10 +7,14 @@ use Rattle.rules.specs.declared.Name.{Name}
 use Rattle.rules.specs.declared.Name.the-variants.{Msh, Pid, Pv1, Spm, Obr, Orc, Obx, Other}
 use Rattle.rules.specs.Told.{Told, refused}
 use Rattle.rules.specs.Lists.{bytes, filled, nth, same, starts}
+use Rattle.rules.specs.Value.{fits}
 use Rattle.rules.specs.Places.{Four}
 use Rattle.rules.specs.Judge.{beside, unjoined}
 use Rattle.rules.specs.Row.{Line, lines}
 use Rattle.rules.specs.Sheet.{keyOf, lineOk}
+use Rattle.value.specs.declared.Place.{Place}
+use Rattle.value.specs.declared.Place.the-variants.{Unread, Must, May}
+use Rattle.value.specs.Rules.{ruleOf}
 use Rattle.lines.specs.declared.Verdict.{Verdict}
 use Rattle.lines.specs.declared.Verdict.the-variants.{Fine, Key, Value}
 
@@ -36,6 +40,12 @@ unfoldable pub toldOf : {A : Type 0} → Verdict → ℕ → Told A → Told A
 toldOf Fine i t = t
 toldOf (Key k) i t = refused 42 (i + k) 0
 toldOf (Value k) i t = refused 43 (i + k) 0
+
+-- the rule of a place
+abbrev pub fitsPlace : Place → List ℕ → Bool
+fitsPlace Unread v = true
+fitsPlace (Must r) v = fits true (ruleOf r) v
+fitsPlace (May r) v = fits false (ruleOf r) v
 
 -- the line t, the k-th of its group: "42 before 43"; good says that its value holds
 unfoldable pub lineAs : ℕ → List ℕ → Bool → List ℕ → Verdict

@@ -1,7 +1,11 @@
 // A sheet's lines, found by their 0A, and its groups, judged line by line: "42 before 43".
 use rules::Name;
+use value::Place;
+use value::Place::May;
+use value::Place::Must;
 use value::Rule;
 use value::Words;
+use value::table;
 ghost use mathlib.Core.Path.{_≡_};
 ghost use mathlib.Core.Bool.{_&&_, _||_};
 ghost use Prim.Native.Nat.{_+_, _≤_};
@@ -15,7 +19,7 @@ ghost use Rattle.rules.specs.Places.{valueRules};
 ghost use Rattle.rules.specs.Row.{lines};
 ghost use Rattle.rules.specs.Sheet.{linesOf};
 ghost use Rattle.value.specs.Rules.{ruleOf};
-ghost use Rattle.lines.specs.Lines.{fourOf, joinedOk, andThen, isFine, lineAs, groupVerdict, nextGroup};
+ghost use Rattle.lines.specs.Lines.{fitsPlace, fourOf, joinedOk, andThen, isFine, lineAs, groupVerdict, nextGroup};
 
 // On the lines of a group, by their place in it, from 0.
 pub enum Verdict {
@@ -145,27 +149,30 @@ fn keeps(v: &[u8], required: bool, rule: Rule) -> bool
     value::fine(value::fault_of(required, rule, v))
 }
 
-fn line(before: Verdict, s: &[u8], k: usize, key: &[u8], required: bool, rule: Rule) -> Verdict
-    ensures { λ r. ⌜ r ≡ andThen before (lineAs k (now (key .entry)) (fits required (ruleOf rule) (drop (length (now (key .entry))) (nth (linesOf (now (s .entry))) k))) (nth (linesOf (now (s .entry))) k)) ⌝ }
+// The rule of a place holds.
+fn keeps_place(v: &[u8], place: Place) -> bool
+    ensures { λ r. ⌜ r ≡ fitsPlace place (now (v .entry)) ⌝ }
+{
+    match place {
+        Place::Unread => true,
+        Place::Must(rule) => keeps(v, true, rule),
+        Place::May(rule) => keeps(v, false, rule),
+    }
+}
+
+fn line(before: Verdict, s: &[u8], k: usize, key: &[u8], place: Place) -> Verdict
+    ensures { λ r. ⌜ r ≡ andThen before (lineAs k (now (key .entry)) (fitsPlace place (drop (length (now (key .entry))) (nth (linesOf (now (s .entry))) k))) (nth (linesOf (now (s .entry))) k)) ⌝ }
 {
     let v = value_at(s, k, key.len());
-    judged(before, s, k, key, keeps(v, required, rule))
+    judged(before, s, k, key, keeps_place(v, place))
 }
 
 // The same, where something else must hold too.
-fn line_if(
-    before: Verdict,
-    s: &[u8],
-    k: usize,
-    key: &[u8],
-    required: bool,
-    rule: Rule,
-    also: bool,
-) -> Verdict
-    ensures { λ r. ⌜ r ≡ andThen before (lineAs k (now (key .entry)) (fits required (ruleOf rule) (drop (length (now (key .entry))) (nth (linesOf (now (s .entry))) k)) && also) (nth (linesOf (now (s .entry))) k)) ⌝ }
+fn line_if(before: Verdict, s: &[u8], k: usize, key: &[u8], place: Place, also: bool) -> Verdict
+    ensures { λ r. ⌜ r ≡ andThen before (lineAs k (now (key .entry)) (fitsPlace place (drop (length (now (key .entry))) (nth (linesOf (now (s .entry))) k)) && also) (nth (linesOf (now (s .entry))) k)) ⌝ }
 {
     let v = value_at(s, k, key.len());
-    judged(before, s, k, key, keeps(v, required, rule) & also)
+    judged(before, s, k, key, keeps_place(v, place) & also)
 }
 
 // ---- the groups
@@ -173,38 +180,31 @@ fn line_if(
 fn visit(s: &[u8]) -> Verdict
     ensures { λ r. ⌜ r ≡ groupVerdict Name.Pv1 (linesOf (now (s .entry))) ⌝ }
 {
-    line(
-        Verdict::Fine,
-        s,
-        0,
-        b"class=",
-        true,
-        Rule::OneOf(Words::Classes),
-    )
+    line(Verdict::Fine, s, 0, b"class=", table::CLASS)
 }
 
 fn specimen(s: &[u8]) -> Verdict
     ensures { λ r. ⌜ r ≡ groupVerdict Name.Spm (linesOf (now (s .entry))) ⌝ }
 {
-    let kind = line(Verdict::Fine, s, 0, b"specimen=", true, Rule::Digits(3));
-    line(kind, s, 1, b"collected=", true, Rule::Time)
+    let kind = line(Verdict::Fine, s, 0, b"specimen=", table::SPECIMEN);
+    line(kind, s, 1, b"collected=", table::COLLECTED)
 }
 
 fn order(s: &[u8]) -> Verdict
     ensures { λ r. ⌜ r ≡ groupVerdict Name.Obr (linesOf (now (s .entry))) ⌝ }
 {
-    let id = line(Verdict::Fine, s, 0, b"order=", true, Rule::Digits(15));
-    line(id, s, 1, b"group=", true, Rule::Capitals(8))
+    let id = line(Verdict::Fine, s, 0, b"order=", table::ORDER);
+    line(id, s, 1, b"group=", table::GROUP)
 }
 
 fn header(s: &[u8]) -> Verdict
     ensures { λ r. ⌜ r ≡ groupVerdict Name.Msh (linesOf (now (s .entry))) ⌝ }
 {
     let one = value::equal(value_at(s, 0, 8), b"1");
-    let version = line_if(Verdict::Fine, s, 0, b"version=", true, Rule::Text(1), one);
-    let mode = line(version, s, 1, b"mode=", true, Rule::OneOf(Words::Modes));
-    let sent = line(mode, s, 2, b"sent=", true, Rule::Time);
-    line(sent, s, 3, b"control=", true, Rule::Text(20))
+    let version = line_if(Verdict::Fine, s, 0, b"version=", Must(Rule::Text(1)), one);
+    let mode = line(version, s, 1, b"mode=", table::MODE);
+    let sent = line(mode, s, 2, b"sent=", table::SENT);
+    line(sent, s, 3, b"control=", table::CONTROL)
 }
 
 // "A blank kanafamily needs a blank kanagiven".
@@ -218,21 +218,13 @@ fn patient(s: &[u8]) -> Verdict
     ensures { λ r. ⌜ r ≡ groupVerdict Name.Pid (linesOf (now (s .entry))) ⌝ }
 {
     let also = kana_fits(value_at(s, 3, 11), value_at(s, 4, 10));
-    let id = line(Verdict::Fine, s, 0, b"patient=", true, Rule::Text(20));
-    let family = line(id, s, 1, b"family=", true, Rule::Text(48));
-    let given = line(family, s, 2, b"given=", false, Rule::Text(48));
-    let kana_family = line(given, s, 3, b"kanafamily=", false, Rule::Text(48));
-    let kana_given = line_if(
-        kana_family,
-        s,
-        4,
-        b"kanagiven=",
-        false,
-        Rule::Text(48),
-        also,
-    );
-    let birth = line(kana_given, s, 5, b"birth=", false, Rule::Date);
-    line(birth, s, 6, b"sex=", true, Rule::OneOf(Words::Sexes))
+    let id = line(Verdict::Fine, s, 0, b"patient=", table::PATIENT);
+    let family = line(id, s, 1, b"family=", Must(table::NAME));
+    let given = line(family, s, 2, b"given=", May(table::NAME));
+    let kana_family = line(given, s, 3, b"kanafamily=", May(table::NAME));
+    let kana_given = line_if(kana_family, s, 4, b"kanagiven=", May(table::NAME), also);
+    let birth = line(kana_given, s, 5, b"birth=", table::BIRTH);
+    line(birth, s, 6, b"sex=", table::SEX)
 }
 
 // ---- OBX-5
@@ -241,7 +233,7 @@ fn compare_rule(kind: &[u8]) -> Rule
     ensures { λ r. ⌜ ruleOf r ≡ valueRules (now (kind .entry)) .compare ⌝ }
 {
     if value::equal(kind, b"SN") {
-        return Rule::OneOf(Words::Comparators);
+        return table::COMPARE;
     }
     Rule::OneOf(Words::Blank)
 }
@@ -250,19 +242,19 @@ fn value_rule(kind: &[u8]) -> Rule
     ensures { λ r. ⌜ ruleOf r ≡ valueRules (now (kind .entry)) .value ⌝ }
 {
     if value::equal(kind, b"SN") {
-        return Rule::Number;
+        return table::NUMBER;
     }
     if value::equal(kind, b"NM") {
-        return Rule::Number;
+        return table::NUMBER;
     }
-    Rule::Text(200)
+    table::TEXT
 }
 
 fn join_rule(kind: &[u8]) -> Rule
     ensures { λ r. ⌜ ruleOf r ≡ valueRules (now (kind .entry)) .join ⌝ }
 {
     if value::equal(kind, b"SN") {
-        return Rule::OneOf(Words::Joiners);
+        return table::JOIN;
     }
     Rule::OneOf(Words::Blank)
 }
@@ -271,7 +263,7 @@ fn second_rule(kind: &[u8]) -> Rule
     ensures { λ r. ⌜ ruleOf r ≡ valueRules (now (kind .entry)) .second ⌝ }
 {
     if value::equal(kind, b"SN") {
-        return Rule::Number;
+        return table::NUMBER;
     }
     Rule::OneOf(Words::Blank)
 }
@@ -294,11 +286,8 @@ fn joined(compare: &[u8], value: &[u8], join: &[u8], second: &[u8]) -> bool
 fn agrees(status: &[u8], compare: &[u8], value: &[u8], join: &[u8], second: &[u8]) -> bool
     ensures { λ r. ⌜ r ≡ Judge.agrees (now (status .entry)) (fourOf (now (compare .entry)) (now (value .entry)) (now (join .entry)) (now (second .entry))) ⌝ }
 {
-    let alone = !beside(compare, join, second);
-    if value::one_of(status, b"F P C") {
-        return value.len() != 0;
-    }
-    (value.len() == 0) & alone
+    let parts = beside(compare, join, second);
+    value::agrees(status, value.len() != 0, parts)
 }
 
 fn result(s: &[u8]) -> Verdict
@@ -310,32 +299,23 @@ fn result(s: &[u8]) -> Verdict
     let join = value_at(s, 5, 5);
     let second = value_at(s, 6, 7);
     let met = agrees(value_at(s, 9, 7), compare, value, join, second);
-    let item = line(Verdict::Fine, s, 0, b"item=", true, Rule::Capitals(17));
-    let name = line(item, s, 1, b"name=", false, Rule::Text(48));
-    let to_type = line(name, s, 2, b"type=", true, Rule::OneOf(Words::Types));
-    let to_compare = line_if(to_type, s, 3, b"compare=", false, compare_rule(kind), true);
-    let to_value = line_if(to_compare, s, 4, b"value=", false, value_rule(kind), true);
-    let to_join = line_if(to_value, s, 5, b"join=", false, join_rule(kind), true);
+    let item = line(Verdict::Fine, s, 0, b"item=", table::ITEM);
+    let name = line(item, s, 1, b"name=", table::ITEM_NAME);
+    let to_type = line(name, s, 2, b"type=", table::TYPE);
+    let to_compare = line_if(to_type, s, 3, b"compare=", May(compare_rule(kind)), true);
+    let to_value = line_if(to_compare, s, 4, b"value=", May(value_rule(kind)), true);
+    let to_join = line_if(to_value, s, 5, b"join=", May(join_rule(kind)), true);
     let to_second = line_if(
         to_join,
         s,
         6,
         b"second=",
-        false,
-        second_rule(kind),
+        May(second_rule(kind)),
         joined(compare, value, join, second),
     );
-    let unit = line(to_second, s, 7, b"unit=", false, Rule::Text(20));
-    let flag = line(unit, s, 8, b"flag=", false, Rule::OneOf(Words::Flags));
-    line_if(
-        flag,
-        s,
-        9,
-        b"status=",
-        true,
-        Rule::OneOf(Words::Statuses),
-        met,
-    )
+    let unit = line(to_second, s, 7, b"unit=", table::UNIT);
+    let flag = line(unit, s, 8, b"flag=", table::FLAG);
+    line_if(flag, s, 9, b"status=", table::STATUS, met)
 }
 
 pub fn group(name: Name, s: &[u8]) -> Verdict

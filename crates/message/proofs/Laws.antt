@@ -1,8 +1,8 @@
 -- Laws of the check: one for each way through its code. Assumes nothing.
 use mathlib.Core.Path.{_≡_, refl, sym, ap, _∙_}
-use mathlib.Core.Bool.{Bool, true, false, cond, not, _&&_, false≢true}
+use mathlib.Core.Bool.{Bool, true, false, not, false≢true}
 use mathlib.Core.List.{List, [], _∷_, map}
-use Prim.Native.Nat.{ℕ, zero, suc, _+_, _-_, _≤_, _<_}
+use Prim.Native.Nat.{ℕ, suc, _+_, _-_, _≤_, _<_}
 use native.Mathlib.Numerals.{add-one}
 use native.Mathlib.Omega.{arith}
 use lib.ListN.{length, take, drop, length-drop}
@@ -15,21 +15,22 @@ use Rattle.rules.specs.declared.Name.{Name}
 use Rattle.rules.specs.declared.Name.the-variants.{Msh, Pid, Pv1, Spm, Obr, Orc, Obx, Other}
 use Rattle.rules.specs.declared.Answer.{Answer}
 use Rattle.rules.specs.declared.Answer.the-variants.{Accepted, Refused}
-use Rattle.rules.specs.Told.{Told, gives, refused, refusal, number, told, _>>_}
+use Rattle.rules.specs.Told.{Told, gives, refused, number, told, _>>_}
 use Rattle.rules.specs.Lists.{split, allButLast}
 use Rattle.rules.specs.Shift.{met}
-use Rattle.rules.specs.Frame.{delimsOf, Known, known, segments, segmentsOk, nameOf, knownFrom, is}
+use Rattle.rules.specs.Frame.{known, segments, segmentsOk, nameOf, knownFrom, is}
 use Rattle.rules.specs.Places.{places}
 use Rattle.rules.specs.View.{fieldOf, partOf, segmentOf, Segment, view}
-use Rattle.rules.specs.Check.{faultTold, partsTold, placesTold, orderAfter, valueAt, checkTold}
-use Rattle.rules.proofs.Logic.{cases, both, not-true, not-false}
+use Rattle.rules.specs.Check.{faultTold, partsTold, placesTold, orderAfter, checkTold}
+use Rattle.rules.proofs.Logic.{both, not-true, not-false}
+use Rattle.rules.proofs.Names.{inNames}
 use Rattle.rules.proofs.Lists.{over, rest-is, part-length}
 use Rattle.scan.specs.Scan.{until}
 use Rattle.scan.specs.Scan as Scan
 use Rattle.value.specs.declared.Fault.{Fault}
-use Rattle.value.specs.declared.Fault.the-variants.{Nothing, Missing, Null, Repeated, Escape, Long, Value, Status, Differs}
+use Rattle.value.specs.declared.Fault.the-variants.{Nothing, Found}
 use Rattle.value.specs.Rules.{faultNo, fineOf}
-use Rattle.fields.proofs.Laws.{fine-zero, fault-some}
+use Rattle.value.proofs.Laws.{fine-zero, fault-some}
 use Rattle.places.specs.Check.{here, FoundIn, OrderAt}
 use Rattle.frame.specs.Frame.{goodOf, framedTold, frameOf, Sound}
 use Rattle.frame.specs.declared.Opened.{Opened}
@@ -46,14 +47,8 @@ toldFrom d order i at r = placesTold d order i (map (segmentOf d) (knownFrom at 
 -- a segment's place in the message says nothing of its fields
 here-is : (d : Delims) (n : Name) (at : ℕ) (body : List ℕ) → segmentOf d (record { name = n; start = at; body = body }) ≡ segmentOf d (here n body)
 unfolding segmentOf places partOf fieldOf
-here-is d Msh at body = refl
-here-is d Pid at body = refl
-here-is d Pv1 at body = refl
-here-is d Spm at body = refl
-here-is d Obr at body = refl
-here-is d Orc at body = refl
-here-is d Obx at body = refl
-here-is d Other at body = refl
+here-is d n at body =
+    inNames (λ n. segmentOf d (record { name = n; start = at; body = body }) ≡ segmentOf d (here n body)) refl refl refl refl refl refl refl refl n
 
 -- ---- one turn, at a segment of n bytes
 module _ (d : Delims) (order : List ℕ) (i at : ℕ) (r : List ℕ) (n : ℕ) (en : n ≡ length (until (Scan.is 0x0D) r)) (h : n < length r) where
@@ -217,6 +212,10 @@ faulty f u e h = sym e ∙ not-true u h
 pub kind-none : (f : Fault) (n : ℕ) → f ≡ Nothing → fineOf f ≡ false → n ≡ faultNo f
 unfolding fineOf faultNo
 kind-none f n e h = absurd (false≢true (sym h ∙ ap fineOf e))
+
+pub kind-found : (f : Fault) (k : Kind) → f ≡ Found k → number k ≡ faultNo f
+unfolding faultNo
+kind-found f k e = rw e
 
 module _ (m : List ℕ) (p : Framed) (ep : framedTold p ≡ frameOf m) where
   pub check-not : (r : Refusal) → p ≡ Not r → told (Refused r) ≡ checkTold m

@@ -75,13 +75,6 @@ fn kind_of(f: Fault) -> Kind
 {
     match f {
         Fault::Nothing => Kind::Value,
-        Fault::Missing => Kind::Missing,
-        Fault::Null => Kind::Null,
-        Fault::Repeated => Kind::Repeated,
-        Fault::Escape => Kind::Escape,
-        Fault::Long => Kind::Long,
-        Fault::Value => Kind::Value,
-        Fault::Status => Kind::Status,
-        Fault::Differs => Kind::Differs,
+        Fault::Found(kind) => kind,
     }
 }

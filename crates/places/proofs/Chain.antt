@@ -5,7 +5,6 @@ use native.Mathlib.Numerals.{add-one}
 use mathlib.Core.Path.{_≡_, refl, sym, ap, subst, _∙_}
 use mathlib.Core.List.{List, [], _∷_, map}
 use mathlib.Core.Bool.{true, false}
-use borrow.Author.Tests.{eq-eqb}
 use lib.ListN.{take, drop}
 use Rattle.rules.specs.declared.Delims.{Delims}
 use Rattle.rules.specs.declared.Name.{Name}
@@ -23,15 +22,16 @@ use Rattle.value.specs.declared.Fault.{Fault}
 use Rattle.value.specs.declared.Rule.{Rule}
 use Rattle.closed.specs.Closed.{forward, charsetFault}
 use Rattle.closed.proofs.Pieces.{piece-at}
-use Rattle.fields.specs.declared.Place.the-variants.{Must}
+use Rattle.value.specs.declared.Place.the-variants.{Must}
 use Rattle.fields.specs.declared.Walk.{Walk}
 use Rattle.fields.specs.declared.Form.{Form}
 use Rattle.fields.specs.declared.Form.the-variants.{One, Three, Charset, Names}
 use Rattle.fields.specs.Fields.{entryFor, entriesFrom, entriesFault, formFault, formHead, Begins, Judged, Went, To}
 use Rattle.places.specs.Check.{here, segment, Walked, FoundIn}
-use Rattle.fields.proofs.Pieces.{onward-add}
+use Rattle.scan.proofs.Laws.{onward-add}
 use Rattle.places.proofs.Plain.{lettersOnly, raw-value}
-use Rattle.fields.proofs.Laws.{fine-zero, fault-some, component-is}
+use Rattle.value.proofs.Laws.{fine-zero, fault-some}
+use Rattle.fields.proofs.Laws.{component-is}
 
 pub begins : {n : Name} {d : Delims} {order s : List ℕ} {k : ℕ} {w : Walk} → ((f : ℕ) → pieceOf n f ≡ f - k) → Begins k w → Walked n d order s (places n) w
 unfolding segmentOf faultTold onward
@@ -129,8 +129,7 @@ then-by (suc n) a b h = refl
 
 -- ---- what was read
 zero-fine : (f : Fault) → faultNo f ≡ 0 → fineOf f ≡ true
-unfolding fineOf
-zero-fine f h = eq-eqb (faultNo f) 0 h
+zero-fine f h = cases (fineOf f) (λ e. e) (λ e. absurd (omega (arith, fault-some f e)))
 
 -- where no fault is found, none was before
 pub earlier-fine : {d : Delims} {s : List ℕ} {f : ℕ} {own : List ℕ → ℕ} {first : List ℕ → List ℕ} {w r : Walk} → Went d s f own first w r

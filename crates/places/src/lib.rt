@@ -3,26 +3,18 @@ use fields::Form::Charset;
 use fields::Form::Names;
 use fields::Form::One;
 use fields::Form::Three;
-use fields::Place::May;
-use fields::Place::Must;
-use fields::Place::Unread;
 use fields::Valued;
 use fields::Walk;
 use fields::begin;
 use fields::field;
-use fields::first_of;
 use fields::unless;
 use fields::value_field;
 use rules::Delims;
+use rules::Kind;
 use rules::Name;
 use value::Fault;
-use value::Rule::Capitals;
-use value::Rule::Date;
-use value::Rule::Digits;
-use value::Rule::OneOf;
-use value::Rule::Text;
-use value::Rule::Time;
-use value::Words;
+use value::Place::Unread;
+use value::table;
 ghost use mathlib.Core.Path.{_≡_};
 ghost use mathlib.Core.Bool.{true};
 ghost use mathlib.Core.List.{List};
@@ -61,16 +53,12 @@ pub fn msh(s: &[u8], d: Delims) -> Found
     ensures { λ r. ⌜ ((order : List ℕ) → FoundIn Msh d order (met (now (s .entry))) (r .field) (faultNo (r .fault))) ⌝ }
 {
     let w = begin(1);
-    let w = field(s, d, w, 7, One(Must(Time)));
-    let event = Three(
-        Must(OneOf(Words::Oul)),
-        Must(OneOf(Words::R22)),
-        Must(OneOf(Words::OulR22)),
-    );
+    let w = field(s, d, w, 7, One(table::SENT));
+    let event = Three(table::OUL, table::R22, table::OUL_R22);
     let w = field(s, d, w, 9, event);
-    let w = field(s, d, w, 10, One(Must(Text(20))));
-    let w = field(s, d, w, 11, One(Must(OneOf(Words::Modes))));
-    let w = field(s, d, w, 12, One(Must(OneOf(Words::Version))));
+    let w = field(s, d, w, 10, One(table::CONTROL));
+    let w = field(s, d, w, 11, One(table::MODE));
+    let w = field(s, d, w, 12, One(table::VERSION));
     let w = field(s, d, w, 18, Charset);
     ended(w)
 }
@@ -80,10 +68,10 @@ pub fn pid(s: &[u8], d: Delims) -> Found
     ensures { λ r. ⌜ ((order : List ℕ) → FoundIn Pid d order (met (now (s .entry))) (r .field) (faultNo (r .fault))) ⌝ }
 {
     let w = begin(0);
-    let w = field(s, d, w, 3, One(Must(Text(20))));
+    let w = field(s, d, w, 3, One(table::PATIENT));
     let w = field(s, d, w, 5, Names);
-    let w = field(s, d, w, 7, One(May(Date)));
-    let w = field(s, d, w, 8, One(Must(OneOf(Words::Sexes))));
+    let w = field(s, d, w, 7, One(table::BIRTH));
+    let w = field(s, d, w, 8, One(table::SEX));
     ended(w)
 }
 
@@ -92,7 +80,7 @@ pub fn pv1(s: &[u8], d: Delims) -> Found
     ensures { λ r. ⌜ ((order : List ℕ) → FoundIn Pv1 d order (met (now (s .entry))) (r .field) (faultNo (r .fault))) ⌝ }
 {
     let w = begin(0);
-    let w = field(s, d, w, 2, One(Must(OneOf(Words::Classes))));
+    let w = field(s, d, w, 2, One(table::CLASS));
     ended(w)
 }
 
@@ -101,9 +89,9 @@ pub fn spm(s: &[u8], d: Delims) -> Found
     ensures { λ r. ⌜ ((order : List ℕ) → FoundIn Spm d order (met (now (s .entry))) (r .field) (faultNo (r .fault))) ⌝ }
 {
     let w = begin(0);
-    let material = Three(Must(Digits(3)), Unread, Must(OneOf(Words::Jc10)));
+    let material = Three(table::SPECIMEN, Unread, table::JC10);
     let w = field(s, d, w, 4, material);
-    let w = field(s, d, w, 17, One(Must(Time)));
+    let w = field(s, d, w, 17, One(table::COLLECTED));
     ended(w)
 }
 
@@ -113,8 +101,8 @@ pub fn obr(s: &[u8], d: Delims) -> Found
     ensures order { λ r. ⌜ OrderAt d (now (s .entry)) (faultNo (r .fault)) (r .at) (r .len) ⌝ }
 {
     let w = begin(0);
-    let order = field(s, d, w, 2, One(Must(Digits(15))));
-    let group = Three(Must(Capitals(8)), Unread, Must(OneOf(Words::Group)));
+    let order = field(s, d, w, 2, One(table::ORDER));
+    let group = Three(table::GROUP, Unread, table::GROUPS);
     let w = field(s, d, order, 4, group);
     let fault = w.fault;
     Found {
@@ -131,13 +119,13 @@ pub fn orc(s: &[u8], d: Delims, order: &[u8]) -> Found
     ensures { λ r. ⌜ FoundIn Orc d (now (order .entry)) (met (now (s .entry))) (r .field) (faultNo (r .fault)) ⌝ }
 {
     let w = begin(0);
-    let w = field(s, d, w, 1, One(Must(OneOf(Words::Re))));
-    let w = field(s, d, w, 2, One(Must(Digits(15))));
+    let w = field(s, d, w, 1, One(table::CONTROLLED));
+    let w = field(s, d, w, 2, One(table::ORDER));
     let f = w.fault;
     let at = w.start;
     let end = at + w.head;
     let same = value::equal(&s[at..end], order);
-    let fault = first_of(f, unless(same, Fault::Differs));
+    let fault = value::earlier(f, unless(same, Fault::Found(Kind::Differs)));
     Found {
         fault,
         field: w.field,
@@ -152,11 +140,11 @@ fn obx_value(s: &[u8], d: Delims) -> Valued
     ensures { λ r. ⌜ ResultAt d (now (s .entry)) (r .walk) (r .filled) (r .beside) ⌝ }
 {
     let w = begin(0);
-    let w = field(s, d, w, 2, One(Must(OneOf(Words::Types))));
+    let w = field(s, d, w, 2, One(table::TYPE));
     let at = w.start;
     let end = at + w.head;
     let kind = &s[at..end];
-    let item = Three(Must(Capitals(17)), May(Text(48)), Must(OneOf(Words::Jc10)));
+    let item = Three(table::ITEM, table::ITEM_NAME, table::JC10);
     let w = field(s, d, w, 3, item);
     value_field(s, d, w, kind)
 }
@@ -167,14 +155,14 @@ pub fn obx(s: &[u8], d: Delims) -> Found
 {
     let v = obx_value(s, d);
     let w = v.walk;
-    let w = field(s, d, w, 6, One(May(Text(20))));
-    let w = field(s, d, w, 8, One(May(OneOf(Words::Flags))));
-    let w = field(s, d, w, 11, One(Must(OneOf(Words::Statuses))));
+    let w = field(s, d, w, 6, One(table::UNIT));
+    let w = field(s, d, w, 8, One(table::FLAG));
+    let w = field(s, d, w, 11, One(table::STATUS));
     let f = w.fault;
     let at = w.start;
     let end = at + w.head;
-    let agrees = closed::agrees(&s[at..end], v.filled, v.beside);
-    let fault = first_of(f, unless(agrees, Fault::Status));
+    let agrees = value::agrees(&s[at..end], v.filled, v.beside);
+    let fault = value::earlier(f, unless(agrees, Fault::Found(Kind::Status)));
     Found {
         fault,
         field: w.field,

@@ -1,14 +1,14 @@
 -- The laws of writing as far as a lent buffer reaches. Assumes nothing.
-use Prim.Native.Nat.{ℕ, zero, suc, _+_, _-_, _*_, _≤_, _<_}
+use Prim.Native.Nat.{ℕ, zero, suc, _+_, _-_, _≤_, _<_}
 use native.Mathlib.Nat.{zero-add, suc-add}
 use native.Mathlib.Omega.{arith}
 use mathlib.Core.Path.{_≡_, refl, sym, ap, subst, _∙_}
-use mathlib.Core.List.{List, [], _∷_, _++_, append-assoc, append-nil}
+use mathlib.Core.List.{List, [], _∷_, _++_, append-nil}
 use mathlib.Core.Option.{Option, none, some}
 use mathlib.Core.Bool.{Bool, true, false, not, _&&_, _||_}
-use borrow.Author.Tests.{ne-eqb, lt-ltb, ltb-true}
+use borrow.Author.Tests.{lt-ltb, ltb-true}
 use lib.Dec.{eqb, ltb}
-use lib.ListN.{length, getD, take, drop, length-append, length-drop, drop-of-length-le}
+use lib.ListN.{length, getD, take, drop, length-append}
 use lib.Seq.{length-take-le}
 use Rattle.rules.specs.declared.Delims.{Delims}
 use Rattle.rules.specs.declared.Mode.{Mode}
@@ -17,8 +17,8 @@ use Rattle.rules.specs.Lists.{all, ended}
 use Rattle.rules.specs.Shift.{isOne, mark, marks, met, byteOf, step}
 use Rattle.rules.specs.Escape.{At, plain, opened, named, letters, meaning, push, unescapeAt, unescape}
 use Rattle.rules.specs.Judge.{plainOf, unescapedOr}
-use Rattle.rules.proofs.Logic.{cases, optionCases, never, both, not-true, not-false, neither, and-false}
-use Rattle.rules.proofs.Lists.{here, over, rest-is, part-length, all-cons, all-first}
+use Rattle.rules.proofs.Logic.{cases, optionCases, both, not-true, not-false, neither, and-false}
+use Rattle.rules.proofs.Lists.{here, over, rest-is, all-cons, all-first}
 use Rattle.rules.proofs.Split.{ended-append}
 use Rattle.rules.proofs.Modes.{byte-met, met-as, length-marks}
 use Rattle.scan.specs.Scan.{escapes, Proper}
@@ -27,6 +27,7 @@ use Rattle.judge.specs.declared.Unescaped.{Unescaped}
 use Rattle.judge.specs.declared.Unescaped.the-variants.{Got, Faulty, Over}
 use Rattle.writer.specs.Over.{Wrote}
 use Rattle.writer.specs.Over as W
+use Rattle.writer.proofs.Laws.{tail-none}
 use Rattle.report.specs.Fill.{least, Filled, clearOf, fillAt, Added, Lined}
 
 -- ---- the lesser of two numbers
@@ -160,12 +161,12 @@ module _ (d : Delims) (raw : List ℕ) where
       absurd (omega (arith, w .long, w .over, value-short (w .text) (w .is)))
 
 -- one text after another, where what is left of the buffer was lent for the second
-fill-nil : (b : List ℕ) → fill b [] ≡ []
+pub fill-nil : (b : List ℕ) → fill b [] ≡ []
 unfolding fill
 fill-nil [] = refl
 fill-nil (x ∷ b) = refl
 
-length-fill : (w old : List ℕ) → length (fill w old) ≡ length old
+pub length-fill : (w old : List ℕ) → length (fill w old) ≡ length old
 unfolding fill
 length-fill [] old = refl
 length-fill (x ∷ w) [] = refl
@@ -176,9 +177,6 @@ unfolding least fill
 fill-more [] b old = refl
 fill-more (x ∷ w) b [] = fill-nil b
 fill-more (x ∷ w) b (o ∷ old) = ap (λ (l : List ℕ). x ∷ l) (fill-more w b old)
-
-tail-none : (a : ℕ) (xs : List ℕ) → drop (length xs - a) (drop a xs) ≡ []
-tail-none a xs = drop-of-length-le (drop a xs) {i = length xs - a} (simp length-drop (omega arith))
 
 -- the buffer once what is left of it from a place on, which was lent to a routine, is back
 pub back : (x y b : List ℕ) (at f r : ℕ) → f ≡ least at (length x) → Filled r y b (take (length x - f) (drop f x))
@@ -211,19 +209,3 @@ module _ (at r k : ℕ) (x y z a b : List ℕ) where
 
   pub three-is : (c : List ℕ) → Lined at x (a ∷ b ∷ []) r y → Lined r y (c ∷ []) k z → Lined at x (a ∷ b ∷ c ∷ []) k z
   three-is c p q = lined-then p q
-
-pub ruleset lesser·laws = (least-first, least-second)
-
-pub ruleset put·laws = (put-fills, prefix-room, part-length)
-
-pub ruleset clear·laws = (clear-is)
-
-pub ruleset all-clear·laws = (clear-stops, clear-goes, clear-ends)
-
-pub ruleset plain·laws = (value-within, value-clear, value-got, got-within, got-short, value-faulty, value-over, part-length)
-
-pub ruleset put-at·laws = (back)
-
-pub ruleset line·laws = (line-is)
-
-pub ruleset two·laws = (two-is, three-is)

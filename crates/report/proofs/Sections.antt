@@ -1,61 +1,42 @@
 -- The laws of a segment's lines. Assumes nothing.
-use Prim.Native.Nat.{ℕ, zero, suc, _+_, _-_, _≤_, _<_}
-use native.Mathlib.Nat.{zero-add, suc-add}
+use Prim.Native.Nat.{ℕ, suc, _+_, _-_, _≤_}
 use native.Mathlib.Omega.{arith}
-use mathlib.Core.Path.{_≡_, refl, sym, ap, _∙_}
-use mathlib.Core.List.{List, [], _∷_, _++_, map}
-use mathlib.Core.Bool.{Bool, true, false, cond, not, _&&_}
+use mathlib.Core.Path.{_≡_, sym, ap, _∙_}
+use mathlib.Core.List.{List, [], _∷_, _++_}
+use mathlib.Core.Bool.{Bool, true, false, _&&_}
 use borrow.Author.Tests.{ne-eqb}
 use lib.Dec.{eqb}
-use lib.ListN.{length, getD, take, drop}
+use lib.ListN.{length, take}
 use Rattle.rules.specs.declared.Delims.{Delims}
-use Rattle.rules.specs.declared.Mode.the-variants.{One}
-use Rattle.rules.specs.declared.Name.{Name}
-use Rattle.rules.specs.declared.Name.the-variants.{Msh, Pid, Pv1, Spm, Obr, Orc, Obx, Other}
-use Rattle.rules.specs.Lists.{bytes, ended, nth, same, split}
+use Rattle.rules.specs.declared.Name.the-variants.{Msh, Pid, Pv1, Spm, Obr, Obx}
+use Rattle.rules.specs.Lists.{bytes, has, nth, same, split}
 use Rattle.rules.specs.Shift.{marks, met}
 use Rattle.rules.specs.Places.{places}
 use Rattle.rules.specs.View.{pieceOf, fieldOf, componentOf, firstRepetition, seenIn, partOf, segmentOf, seenAt, partAt}
 use Rattle.rules.specs.Escape.{unescape, unescapeAt}
-use Rattle.rules.specs.Judge.{plainOf, unescapedOr, isSN, rawFour}
+use Rattle.rules.specs.Judge.{plainOf, unescapedOr, firstMarked, isSN, rawFour}
 use Rattle.rules.specs.Row.{line, lines}
 use Rattle.rules.specs.Sheet.{keyOf, linesText}
 use Rattle.rules.proofs.Logic.{cases}
 use Rattle.rules.proofs.Lists.{part-length}
-use Rattle.rules.proofs.Modes.{length-marks}
-use Rattle.scan.specs.Scan.{until, is, ends, after, onward, next, CutOf, TailOf, Proper}
-use Rattle.scan.proofs.Laws.{piece-met}
+use Rattle.rules.proofs.Modes.{length-met}
+use Rattle.scan.specs.Scan.{until, is, ends, onward, next, TailOf, Proper}
+use Rattle.scan.proofs.Laws.{piece-met, onward-add}
 use Rattle.judge.specs.Judge.{fill}
-use Rattle.closed.specs.Closed.{forward}
-use Rattle.closed.proofs.Pieces.{first-piece, piece-at, repetition-is, component-at, forward-short}
+use Rattle.closed.specs.Closed.{forward, MarkedOf}
+use Rattle.closed.proofs.Pieces.{first-piece, piece-at, onward-within, until-free, repetition-is, component-at}
+use Rattle.closed.proofs.Laws.{last-within}
 use Rattle.report.specs.Fill.{Filled, Lined, keyed}
 use Rattle.report.proofs.Filling.{lined-then}
-use Rattle.report.specs.Section.{linesIn, sections, modeLines, itemLines, fourLines, fourIn, statusLines}
+use Rattle.report.specs.Section.{linesIn, modeLines, nameLines, namesLines, birthLines, itemLines, fourLines, fourIn, statusLines}
 
 -- ---- walking
-after-within : (sep : ℕ) (m : List ℕ) → length (after sep m) ≤ length m
-unfolding after
-after-within sep [] = omega arith
-after-within sep (x ∷ m) = cases (eqb x sep) (λ e. rw (e, after) (omega arith)) (λ e. rw (e, after) (omega (arith, after-within sep m)))
-
-onward-within : (sep n : ℕ) (m : List ℕ) → length (onward sep n m) ≤ length m
-unfolding onward
-onward-within sep zero m = omega arith
-onward-within sep (suc n) m = omega (arith, onward-within sep n (after sep m), after-within sep m)
-
-met-length : (t : List ℕ) → length (met t) ≡ length t
-unfolding met
-met-length t = length-marks 0x0D One t
-
 pub field-within : (sep n : ℕ) (t r : List ℕ) → met r ≡ onward sep n (met t) → length r ≤ length t
-field-within sep n t r e = omega (arith, met-length r, met-length t, ap length e, onward-within sep n (met t))
+field-within sep n t r e = omega (arith, length-met r, length-met t, ap length e, onward-within sep n (met t))
 
 pub behind-within : (d : Delims) (t r : List ℕ) → Proper d → met r ≡ next d (met t) → length r ≤ length t
 unfolding forward
-behind-within d t r p e = omega (arith, met-length r, met-length t, ap length e, forward-short d p 1 (met t))
-
-pub component-is : (d : Delims) (t : List ℕ) (n : ℕ) (clean : Bool) → CutOf d t n clean → met (take n t) ≡ until (ends d) (met t)
-component-is d t n clean c = ap (λ k. met (take k t)) (c .long) ∙ piece-met (ends d) t
+behind-within d t r p e = last-within t r d 1 p e
 
 pub component-within : (t : List ℕ) (n : ℕ) → n ≤ length t → length (take n t) ≤ length t
 component-within t n h = omega (arith, part-length n t h)
@@ -73,15 +54,16 @@ raw-is d q body p n =
     (component-at d q n (onward (d .field) p body))
 
 -- ---- the segments
-module _ (d : Delims) (q : Proper d) (s : List ℕ) where
-  first-is : (t a : List ℕ) (p : ℕ) → met t ≡ onward (d .field) p (met s) → met a ≡ until (ends d) (met t) → met a ≡ rawIn d (met s) p 1
-  unfolding forward
-  first-is t a p e f = f ∙ ap (until (ends d)) e ∙ sym (raw-is d q (met s) p 0)
+first-at : (d : Delims) → Proper d → (s t : List ℕ) (a : ℕ) → met t ≡ onward (d .field) a (met s) → until (ends d) (met t) ≡ rawIn d (met s) a 1
+unfolding forward
+first-at d q s t a e = ap (until (ends d)) e ∙ sym (raw-is d q (met s) a 0)
 
-onward-add : (sep a b : ℕ) (m : List ℕ) → onward sep b (onward sep a m) ≡ onward sep (a + b) m
-unfolding onward
-onward-add sep zero b m = rw zero-add
-onward-add sep (suc a) b m = rw suc-add (onward-add sep a b (after sep m))
+name-at : (d : Delims) → Proper d → (s t : List ℕ) (a : ℕ) → met t ≡ onward (d .field) a (met s) → until (ends d) (next d (met t)) ≡ rawIn d (met s) a 2
+unfolding forward
+name-at d q s t a e = ap (λ m. until (ends d) (next d m)) e ∙ sym (raw-is d q (met s) a 1)
+
+first-is : (d : Delims) → Proper d → (s t a : List ℕ) (p : ℕ) → met t ≡ onward (d .field) p (met s) → met a ≡ until (ends d) (met t) → met a ≡ rawIn d (met s) p 1
+first-is d q s t a p e f = f ∙ first-at d q s t p e
 
 -- to name it is to compute the lines of a segment from the tables
 unfoldable tables : Unit {0}
@@ -193,15 +175,46 @@ sn-is (a ∷ b ∷ []) x n t f e = rw (e, f .is, f .ends)
 sn-is (a ∷ b ∷ c ∷ w) x n t f e =
     sn-far n t (λ g. let z : n ≡ 2 = g in omega (arith, f .ends)) ∙ cases (eqb a 83) (λ u. cases (eqb b 78) (λ v. cc) (λ v. cc)) (λ u. cc)
 
+-- ---- PID-5
+pub name-is : (d : Delims) (at r mark : ℕ) (x y f t u a b family given : List ℕ) → Proper d → MarkedOf d mark (met f) t
+    → met a ≡ until (ends d) (met t) → met u ≡ next d (met t) → met b ≡ until (ends d) (met u)
+    → Lined at x (keyed d family (met a) ∷ keyed d given (met b) ∷ []) r y → Lined at x (nameLines d family given (firstMarked d (mark ∷ []) (split (d .repetition) (met f)))) r y
+unfolding nameLines componentOf forward
+name-is d at r mark x y f t u a b family given q m ea eu eb p =
+    rw (← (m .told), component-at d q 0 (met t), component-at d q 1 (met t)) (rw (ea, eb, eu) at p)
+
+pub names-free : (d : Delims) (t f : List ℕ) → met f ≡ until (is (d .field)) (met t) → has (d .field) (met f) ≡ false
+names-free d t f e = ap (has (d .field)) e ∙ until-free (d .field) (met t)
+
+pub names-are : (d : Delims) (at i r : ℕ) (x y z t f j k l m : List ℕ) → met f ≡ until (is (d .field)) (met t)
+    → j ≡ bytes "family=" → k ≡ bytes "given=" → l ≡ bytes "kanafamily=" → m ≡ bytes "kanagiven="
+    → Lined at x (nameLines d j k (firstMarked d (73 ∷ []) (split (d .repetition) (met f)))) i y
+    → Lined i y (nameLines d l m (firstMarked d (80 ∷ []) (split (d .repetition) (met f)))) r z
+    → Lined at x (namesLines d (met t)) r z
+unfolding namesLines nameLines bytes
+names-are d at i r x y z t f j k l m e ej ek el em p q = rw (ej, ek, el, em, e) at (lined-then p q)
+
+-- ---- PID
+pub birth-is : (d : Delims) (at r : ℕ) (x y t u a b j k : List ℕ) → met a ≡ until (ends d) (met t) → met u ≡ onward (d .field) 1 (met t) → met b ≡ until (ends d) (met u)
+    → j ≡ bytes "birth=" → k ≡ bytes "sex=" → Lined at x (keyed d j (met a) ∷ keyed d k (met b) ∷ []) r y → Lined at x (birthLines d (met t)) r y
+unfolding birthLines onward
+birth-is d at r x y t u a b j k f e g ej ek p = rw (ej, ek, f, later d t u b 1 e g) at p
+
+-- a closed field, as the table reads it
+field-of : (d : Delims) (s v : List ℕ) (n : ℕ) → met v ≡ onward (d .field) n (met s) → until (is (d .field)) (met v) ≡ nth (split (d .field) (met s)) n
+field-of d s v n e = ap (until (is (d .field))) e ∙ sym (piece-at (d .field) n (met s))
+
+pub patient-is : (d : Delims) (s t u w id k x y z o : List ℕ) (r i j : ℕ) → Proper d → met t ≡ onward (d .field) 3 (met s) → met id ≡ until (ends d) (met t)
+    → met u ≡ onward (d .field) 2 (met t) → met w ≡ onward (d .field) 2 (met u) → k ≡ bytes "patient="
+    → Lined 0 x (keyed d k (met id) ∷ []) r y → Lined r y (namesLines d (met u)) i z → Lined i z (birthLines d (met w)) j o
+    → Lined 0 x (linesIn d Pid (met s)) j o
+unfolding tables namesLines nameLines birthLines
+patient-is d s t u w id k x y z o r i j q et ei eu ew ek p1 p2 p3 =
+    let u5 : met u ≡ onward (d .field) 5 (met s) = on d s t u 3 2 et eu in
+    let w7 : met w ≡ onward (d .field) 7 (met s) = on d s u w 5 2 u5 ew in
+    rw (ek, first-is d q s t id 3 et ei, field-of d s u 5 u5, field-at d q s w 7 0 w7, field-at d q s w 7 1 w7) at (lined-then (lined-then p1 p2) p3)
+
 -- ---- OBX
-name-at : (d : Delims) → Proper d → (s t : List ℕ) (a : ℕ) → met t ≡ onward (d .field) a (met s) → until (ends d) (next d (met t)) ≡ rawIn d (met s) a 2
-unfolding forward
-name-at d q s t a e = ap (λ m. until (ends d) (next d m)) e ∙ sym (raw-is d q (met s) a 1)
-
-first-at : (d : Delims) → Proper d → (s t : List ℕ) (a : ℕ) → met t ≡ onward (d .field) a (met s) → until (ends d) (met t) ≡ rawIn d (met s) a 1
-unfolding forward
-first-at d q s t a e = ap (until (ends d)) e ∙ sym (raw-is d q (met s) a 0)
-
 pub result-is : (d : Delims) (s t u v w kind x y z o : List ℕ) (r i j : ℕ) → Proper d → met t ≡ onward (d .field) 2 (met s) → met kind ≡ until (ends d) (met t)
     → met u ≡ onward (d .field) 1 (met t) → met v ≡ onward (d .field) 2 (met u) → met w ≡ onward (d .field) 1 (met v)
     → Lined 0 x (itemLines d (met u) (met kind)) r y
@@ -213,40 +226,5 @@ result-is d s t u v w kind x y z o r i j q et ek eu ev ew p1 p2 p3 =
     let v5 : met v ≡ onward (d .field) 5 (met s) = on d s u v 3 2 u3 ev in
     let w6 : met w ≡ onward (d .field) 6 (met s) = on d s v w 5 1 v5 ew in
     let k2 : met kind ≡ rawIn d (met s) 2 1 = first-is d q s t kind 2 et ek in
-    let f5 : until (is (d .field)) (met v) ≡ nth (split (d .field) (met s)) 5 = ap (until (is (d .field))) v5 ∙ sym (piece-at (d .field) 5 (met s)) in
     let i3 : until (ends d) (met u) ≡ rawIn d (met s) 3 1 = first-at d q s u 3 u3 in
-    rw (i3, name-at d q s u 3 u3, k2, f5, field-at d q s w 6 0 w6, field-at d q s w 6 2 w6, field-at d q s w 6 5 w6) at (lined-then (lined-then p1 p2) p3)
-
-pub ruleset field·laws = (field-within)
-
-pub ruleset component·laws = (component-is, component-within, part-length)
-
-pub ruleset behind·laws = (behind-within)
-
-pub ruleset visit·laws = (visit-is)
-
-pub ruleset specimen·laws = (specimen-is)
-
-pub ruleset order·laws = (order-is)
-
-pub ruleset modes·laws = (modes-is)
-
-pub ruleset status·laws = (status-is)
-
-pub ruleset item·laws = (item-is)
-
-pub ruleset header·laws = (header-is)
-
-pub ruleset piece·laws = (piece-is, component-within, part-length)
-
-pub ruleset four·laws = (four-is)
-
-pub ruleset numbers·laws = (numbers-is)
-
-pub ruleset beyond·laws = (field-within)
-
-pub ruleset parts·laws = (parts-sn, parts-one)
-
-pub ruleset is-sn·laws = (sn-is)
-
-pub ruleset result·laws = (result-is)
+    rw (i3, name-at d q s u 3 u3, k2, field-of d s v 5 v5, field-at d q s w 6 0 w6, field-at d q s w 6 2 w6, field-at d q s w 6 5 w6) at (lined-then (lined-then p1 p2) p3)

@@ -6,8 +6,9 @@ use Rattle.rules.specs.declared.Name.{Name}
 use Rattle.rules.specs.Lists.{bytes, nth, split, ended}
 use Rattle.rules.specs.Shift.{met}
 use Rattle.rules.specs.Frame.{Known, nameOf}
-use Rattle.rules.specs.View.{segmentOf}
+use Rattle.rules.specs.View.{componentOf, segmentOf}
 use Rattle.rules.specs.Places.{Four}
+use Rattle.rules.specs.Judge.{kanji, kana}
 use Rattle.rules.specs.Row.{Line, lines}
 use Rattle.rules.specs.Sheet.{linesText}
 use Rattle.scan.specs.Scan.{until, is, ends, next, onward}
@@ -32,6 +33,18 @@ fieldFrom d n m = until (ends d) (onward (d .field) n m)
 -- MSH-7, 10 and 11
 unfoldable pub modeLines : Delims → List ℕ → List (List ℕ)
 modeLines d m = keyed d (bytes "mode=") (fieldFrom d 4 m) ∷ keyed d (bytes "sent=") (fieldFrom d 0 m) ∷ keyed d (bytes "control=") (fieldFrom d 3 m) ∷ []
+
+-- PID-5, and PID-7 and 8
+unfoldable pub nameLines : Delims → List ℕ → List ℕ → List ℕ → List (List ℕ)
+nameLines d family given r = keyed d family (componentOf d r 1) ∷ keyed d given (componentOf d r 2) ∷ []
+
+unfoldable pub namesLines : Delims → List ℕ → List (List ℕ)
+namesLines d m =
+    let f = until (is (d .field)) m in
+    nameLines d (bytes "family=") (bytes "given=") (kanji d f) ++ nameLines d (bytes "kanafamily=") (bytes "kanagiven=") (kana d f)
+
+unfoldable pub birthLines : Delims → List ℕ → List (List ℕ)
+birthLines d m = keyed d (bytes "birth=") (fieldFrom d 0 m) ∷ keyed d (bytes "sex=") (fieldFrom d 1 m) ∷ []
 
 -- OBX-3 and the type; OBX-5; OBX-6, 8 and 11
 unfoldable pub itemLines : Delims → List ℕ → List ℕ → List (List ℕ)

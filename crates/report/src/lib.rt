@@ -1,3 +1,3 @@
-// Message to sheet.
-mod fill;
-mod section;
+// Message to sheet: the lines of a segment.
+pub mod fill;
+pub mod section;

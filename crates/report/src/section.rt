@@ -2,14 +2,17 @@
 use crate::fill;
 use rules::Delims;
 ghost use mathlib.Core.Path.{_≡_};
+ghost use mathlib.Core.Bool.{false};
+ghost use mathlib.Core.List.{[], _∷_};
 ghost use Prim.Native.Nat.{_+_, _≤_};
 ghost use lib.ListN.{length};
-ghost use Rattle.rules.specs.declared.Name.the-variants.{Msh, Pv1, Spm, Obr, Obx};
+ghost use Rattle.rules.specs.declared.Name.the-variants.{Msh, Pid, Pv1, Spm, Obr, Obx};
+ghost use Rattle.rules.specs.Lists.{has, split};
 ghost use Rattle.rules.specs.Shift.{met};
-ghost use Rattle.rules.specs.Judge.{plainOf, isSN, rawFour};
+ghost use Rattle.rules.specs.Judge.{plainOf, firstMarked, isSN, rawFour};
 ghost use Rattle.scan.specs.Scan.{until, is, ends, next, onward, Proper};
 ghost use Rattle.report.specs.Fill.{Lined};
-ghost use Rattle.report.specs.Section.{linesIn, modeLines, itemLines, fourLines, fourIn, statusLines};
+ghost use Rattle.report.specs.Section.{linesIn, modeLines, nameLines, namesLines, birthLines, itemLines, fourLines, fourIn, statusLines};
 
 // ---- walking
 
@@ -107,6 +110,65 @@ fn modes(out: &mut [u8], at: usize, t: &[u8], d: Delims) -> usize
         control,
         d,
     )
+}
+
+// PID.
+pub fn patient(out: &mut [u8], s: &[u8], d: Delims) -> usize
+    requires { ⌜ Proper d × (length (now s) ≤ 4096) ⌝ }
+    ensures { λ r. ⌜ Lined 0 (now (out .entry)) (linesIn d Pid (met (now (s .entry)))) r (now (out .exit)) ⌝ }
+    ensures within { λ r. ⌜ r ≤ 65536 ⌝ }
+{
+    let t = field(s, d, 3);
+    let id = component(t, d);
+    let at = fill::line(out, 0, b"patient=", id, d);
+    let u = field(t, d, 2);
+    let at = names(out, at, u, d);
+    let w = field(u, d, 2);
+    birth(out, at, w, d)
+}
+
+// PID-5.
+fn names(out: &mut [u8], at: usize, t: &[u8], d: Delims) -> usize
+    requires { ⌜ Proper d × (length (now t) ≤ 4096) × (at ≤ 5000) ⌝ }
+    ensures { λ r. ⌜ Lined at (now (out .entry)) (namesLines d (met (now (t .entry)))) r (now (out .exit)) ⌝ }
+    ensures within { λ r. ⌜ r ≤ at + 16452 ⌝ }
+{
+    let f = piece(t, d.field, d);
+    let at = name(out, at, b"family=", b"given=", f, b'I', d);
+    name(out, at, b"kanafamily=", b"kanagiven=", f, b'P', d)
+}
+
+// The name of its first repetition that bears the mark.
+fn name<'a>(
+    out: &mut [u8],
+    at: usize,
+    family: &'a [u8],
+    given: &'a [u8],
+    f: &'a [u8],
+    mark: u8,
+    d: Delims,
+) -> usize
+    requires { ⌜ Proper d × (length (now family) ≤ 16) × (length (now given) ≤ 16) × (length (now f) ≤ 4096) × (has (d .field) (met (now f)) ≡ false) × (at ≤ 100000) ⌝ }
+    ensures { λ r. ⌜ Lined at (now (out .entry)) (nameLines d (now (family .entry)) (now (given .entry)) (firstMarked d (mark ∷ []) (split (d .repetition) (met (now (f .entry)))))) r (now (out .exit)) ⌝ }
+    ensures within { λ r. ⌜ r ≤ at + 8226 ⌝ }
+{
+    let t = closed::repetition(f, d, mark);
+    let a = component(t, d);
+    let u = behind(t, d);
+    let b = component(u, d);
+    fill::two(out, at, family, a, given, b, d)
+}
+
+// From PID-7 on.
+fn birth(out: &mut [u8], at: usize, t: &[u8], d: Delims) -> usize
+    requires { ⌜ Proper d × (length (now t) ≤ 4096) × (at ≤ 100000) ⌝ }
+    ensures { λ r. ⌜ Lined at (now (out .entry)) (birthLines d (met (now (t .entry)))) r (now (out .exit)) ⌝ }
+    ensures within { λ r. ⌜ r ≤ at + 8226 ⌝ }
+{
+    let date = component(t, d);
+    let u = field(t, d, 1);
+    let sex = component(u, d);
+    fill::two(out, at, b"birth=", date, b"sex=", sex, d)
 }
 
 // PV1.

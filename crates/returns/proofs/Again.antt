@@ -12,7 +12,7 @@ use Rattle.rules.specs.declared.Counts.{Counts}
 use Rattle.rules.specs.declared.Mode.the-variants.{One}
 use Rattle.rules.specs.declared.Name.{Name}
 use Rattle.rules.specs.declared.Name.the-variants.{Msh, Pid, Pv1, Spm, Obr, Orc, Obx, Other}
-use Rattle.rules.specs.Told.{Told, gives, refused, accepted, _>>_}
+use Rattle.rules.specs.Told.{gives, accepted}
 use Rattle.rules.specs.Lists.{bytes, nth, any, count, has, split, ended}
 use Rattle.rules.specs.Shift.{met}
 use Rattle.rules.specs.Frame.{delimsOf, segments, spelling, nameOf, is, knownFrom, known, after, orderFault}
@@ -21,7 +21,7 @@ use Rattle.rules.specs.View.{partOf, Segment, segmentOf, View, view}
 use Rattle.rules.specs.Check.{partsTold, orderAfter, placesTold, namesOf, countsTold, viewTold, frameTold, checkTold}
 use Rattle.rules.specs.Row.{lines, Row, rowOf, rowsFrom, rowsOf}
 use Rattle.rules.specs.Sheet.{linesText, rowLines, sheetOf, nextGroups, valid}
-use Rattle.rules.proofs.Logic.{cases, never, not-given}
+use Rattle.rules.proofs.Logic.{cases, never, not-given, then-gives}
 use Rattle.rules.proofs.Split.{ended-append, front}
 use Rattle.rules.proofs.Modes.{length-marks}
 use Rattle.rules.proofs.Names.{inNames, name-is, spelling-of, name-split}
@@ -88,10 +88,6 @@ record RowsOk (a : Name) (names : List Name) (rows : List Row) (room : ℕ) : Ty
   size : length (sheetOf rows) ≤ room
   counts : (g : Name) → is g Orc ≡ false → counted g rows ≡ count (is g) names
 
-both-told : {A : Type 0} (t : Told (Unit {0})) (u : Told A) (a : A) → (t >> u) ≡ gives a → (t ≡ gives tt) × (u ≡ gives a)
-both-told (gives x) u a h = (refl, h)
-both-told (refused n s f) u a h = not-given h
-
 -- a segment that has a row; an ORC has none
 row-step : (a g : Name) (ns : List Name) (ws : List (List ℕ)) (rows : List Row) (at room : ℕ) (body : List ℕ) → any (is g) (after a) ≡ true → is g Orc ≡ false → is g Other ≡ false
     → GoodSeg (seg g at body) ws → RowsOk g ns rows room → RowsOk a (g ∷ ns) (rowOf g ws ++ rows) (length body + 48 + room)
@@ -149,7 +145,7 @@ module _ (d : Delims) (p : Proper d) where
   unfolding placesTold segmentOf
   one-places ord i at s l h t P =
       let k = seg (nameOf s) at (met s) in
-      let z = both-told (partsTold d ord i (segmentOf d k) (map (partOf d k) (places (nameOf s)))) (placesTold d (orderAfter d ord (segmentOf d k)) (suc i) l) tt P in
+      let z = then-gives (partsTold d ord i (segmentOf d k) (map (partOf d k) (places (nameOf s)))) (placesTold d (orderAfter d ord (segmentOf d k)) (suc i) l) tt P in
       let W : Whole (met s) = record { text = s; is = refl; clean = h } in
       (seg-good d p ord at (met s) W (nameOf s) (named (d .field) (p .field) s t) (zeros d p ord i k (places (nameOf s)) W (z .0)), z .1)
 
@@ -202,7 +198,7 @@ unfolding viewTold
 view-passes v c h =
     cases (eqb (orderFault Other 1 (namesOf v)) 0)
     (λ e.
-    let b = both-told (placesTold (v .delims) [] 1 (v .segs)) (countsTold (namesOf v)) c (rw e at h) in
+    let b = then-gives (placesTold (v .delims) [] 1 (v .segs)) (countsTold (namesOf v)) c (rw e at h) in
     (eqb-true (orderFault Other 1 (namesOf v)) 0 e, b .0, b .1))
     (λ e. not-given (rw e at h))
 
@@ -216,7 +212,7 @@ pub record RowsOf (m : List ℕ) (c : Counts) (rows : List Row) : Type 0 where
 pub rows-of-accepted : (m : List ℕ) (c : Counts) → checkTold m ≡ gives c → RowsOf m c (rowsOf (view m))
 unfolding checkTold view known rowsOf countsTold
 rows-of-accepted m c h =
-    let z = both-told (frameTold m) (viewTold (view m)) c h in
+    let z = then-gives (frameTold m) (viewTold (view m)) c h in
     let F = passes m (z .0) in
     let e = ended-segments m (framed m (z .0)) in
     let w = view-passes (view m) c (z .1) in

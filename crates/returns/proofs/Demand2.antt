@@ -12,7 +12,7 @@ use Rattle.rules.specs.declared.Delims.{Delims}
 use Rattle.rules.specs.declared.Name.{Name}
 use Rattle.rules.specs.declared.Name.the-variants.{Spm, Obr, Obx}
 use Rattle.rules.specs.declared.Written.the-variants.{Wrote}
-use Rattle.rules.specs.Told.{Told, gives, refused, accepted, lengthOf}
+use Rattle.rules.specs.Told.{Told, gives, refused, accepted, lengthOf, Call}
 use Rattle.rules.specs.Lists.{bytes, starts, all, any, has, distinct, count}
 use Rattle.rules.specs.Frame.{delimsOk, is}
 use Rattle.rules.specs.View.{view}
@@ -23,7 +23,7 @@ use Rattle.rules.specs.Message.{base, written, messageOf, messageTold, toMessag
 use Rattle.rules.proofs.Logic.{cases, toldCases, guard, not-given}
 use Rattle.rules.proofs.Lists.{take-own}
 use Rattle.rules.proofs.Unique.{length-unique}
-use Rattle.returns.specs.Demand2.{toMessageBy, linesWith, countsOf, Only44Or45, given, overflow, short, SheetIsWritten, SheetReturns, MessageReturns, Call, SheetCalls, MessageCalls}
+use Rattle.returns.specs.Demand2.{toMessageBy, linesWith, countsOf, Only44Or45, given, overflow, short, SheetIsWritten, SheetReturns, MessageReturns, SheetCalls, MessageCalls}
 use Rattle.returns.proofs.Messages.{counted, rows-return}
 use Rattle.returns.proofs.Sheets.{SheetIs, sheet-is, sheet-read}
 use Rattle.returns.proofs.Accepts.{wrote, segments-short, message-accepted}
@@ -124,23 +124,23 @@ unfolding toMessage toMessageBy
 by-base s room = refl
 
 -- what a call that wrote has written
-called : (told : ℕ → Told (List ℕ)) (n : ℕ) (b a : List ℕ) {P : Type 0} → Call told (Wrote n) b a → ((w : List ℕ) → told (length b) ≡ gives w → take n a ≡ w → P) → P
-called told n b a C f =
-    toldCases (told (length b))
+called : (t : Told (List ℕ)) (n : ℕ) (b a : List ℕ) {P : Type 0} → Call t b (Wrote n) a → ((w : List ℕ) → t ≡ gives w → take n a ≡ w → P) → P
+called t n b a C f =
+    toldCases t
     (λ w e.
-    let l : gives n ≡ gives (length w) = rw e at (C .returns) in
+    let l : gives n ≡ gives (length w) = rw e at (C .told) in
     let k : n ≡ length w = cc in
-    let x : a ≡ w ++ drop (length w) b = rw e at (C .leaves) in
+    let x : a ≡ w ++ drop (length w) b = rw e at (C .buffer) in
     f w e (rw (x, k) (take-own w (drop (length w) b))))
-    (λ x y z e. let r : gives n ≡ refused x y z = rw e at (C .returns) in not-given (sym r))
+    (λ x y z e. let r : gives n ≡ refused x y z = rw e at (C .told) in not-given (sym r))
 
 pub sheet-calls : SheetCalls
 sheet-calls s out out′ back back′ n r C D fits =
-    called (toMessage s) n out out′ C
+    called (toMessage s (length out)) n out out′ C
     (λ m e t.
     let R = sheet-returns base base-ok s m (length out) (by-base s (length out) ∙ e) in
     let g : toSheet (take n out′) (length back) ≡ gives s = rw t (R .sheet (length back) fits) in
-    (rw t (R .counts), length-unique r (Wrote (length s)) (rw g at (D .returns)), rw g at (D .leaves)))
+    (rw t (R .counts), length-unique r (Wrote (length s)) (rw g at (D .told)), rw g at (D .buffer)))
 
 -- the length of what only 44 or 45 refuses
 only-length : (t : Told (List ℕ)) → Only44Or45 t → Only44Or45 (lengthOf t)
@@ -154,7 +154,7 @@ not-turned m s room h e = not-given (rw h at e)
 
 pub message-calls : MessageCalls
 message-calls m out out′ back back′ n r C D =
-    called (toSheet m) n out out′ C
+    called (toSheet m (length out)) n out out′ C
     (λ s e t.
     toldCases (checkTold m)
     (λ c h.
@@ -162,9 +162,9 @@ message-calls m out out′ back back′ n r C D =
     let g = guard 45 0 0 (ltb (length out) (length (T .sheet))) (gives (T .sheet)) s (sym (T .given (length out)) ∙ e) in
     let q : take n out′ ≡ T .sheet = cc (g .1) in
     let o : Only44Or45 (toMessage (take n out′) (length back)) = rw (q, ← by-base (T .sheet) (length back)) (sheet-is-written base (T .sheet) (T .rows) (length back) (T .read)) in (
-      rw (D .returns) (only-length (toMessage (take n out′) (length back)) o),
+      rw (D .told) (only-length (toMessage (take n out′) (length back)) o),
       λ k w.
-          called (toMessage (take n out′)) k back back′ (rw w at D)
+          called (toMessage (take n out′) (length back)) k back back′ (rw w at D)
           (λ x f u.
           let A = T .again base base-ok x (length back) (by-base (T .sheet) (length back) ∙ (rw q at f)) in
           (rw u (A .0 ∙ sym h), λ room. rw u (A .1 room))),

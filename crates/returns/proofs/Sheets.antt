@@ -9,7 +9,7 @@ use lib.Dec.{ltb}
 use lib.ListN.{length, drop}
 use Rattle.rules.specs.declared.Name.{Name}
 use Rattle.rules.specs.declared.Name.the-variants.{Msh, Pid, Pv1, Spm, Obr, Orc, Obx, Other}
-use Rattle.rules.specs.Told.{gives, refused, _>>=_}
+use Rattle.rules.specs.Told.{gives, refused}
 use Rattle.rules.specs.Lists.{bytes, empty, starts, any, onto, split, last, ended, nth, isOneOf}
 use Rattle.rules.specs.Shift.{step, walk, keeps}
 use Rattle.rules.specs.Frame.{is, rank}
@@ -18,6 +18,7 @@ use Rattle.rules.specs.Row.{Line, line, lines, Row, header, patient, visit, spe
 use Rattle.rules.specs.Sheet.{keyOf, linesText, rowLines, sheetOf, lineOk, lineTold, nextGroups, opens, openedBy, rowsTold, linesOf, readSheet, good, valid}
 use Rattle.rules.proofs.Logic.{cases, toldCases, never, both, not-false, guard, eqb-sym, eqb-self, listCases, not-given}
 use Rattle.rules.proofs.Lists.{any-cons, starts-eq, starts-own, drop-own, from, exactly, one-word}
+use Rattle.rules.proofs.Rows.{entered}
 use Rattle.rules.proofs.Split.{frees, ended-lines, split-ended, butLast-snoc, last-snoc, split-frees, butLast-frees}
 use Rattle.rules.proofs.Names.{inNames, name-is}
 use Rattle.rules.proofs.Clean.{Cleans, clean-append, clean-rest, cleans-append, cleans-parts, end-0A, cleans-free, ended-cleans, cleans-ended}
@@ -109,17 +110,6 @@ opened-back i (x ∷ gs) t g h =
     cases (opens x t)
     (λ e. let q : x ≡ g = cc in rw (any-cons (is g) x gs, q, eqb-self (rank g)))
     (λ e. let r = opened-back i gs t g (rw (e, openedBy) at h) in cases (is g x) (λ f. cc) (λ f. cc))
-
--- a line that opens a group
-entered : (g h : Name) (vs : List (List ℕ)) (i : ℕ) (t : List ℕ) (ts : List (List ℕ)) (l : Line) (ls : List Line) → openedBy i (nextGroups g) t ≡ gives h → lines h ≡ l ∷ ls
-    → rowsTold g [] vs i (t ∷ ts) ≡ (lineTold i l [] t >>= λ v. rowsTold h ls (v ∷ []) (suc i) ts >>= λ rows. gives (rowOf g vs ++ rows))
-unfolding rowsTold
-entered g h vs i t ts l ls o e =
-    rw o
-    (ap (λ (k : List Line). elim k [
-      | [] ↦ refused 42 i 0
-      | l ∷ ls ↦ lineTold i l [] t >>= λ v. rowsTold h ls (v ∷ []) (suc i) ts >>= λ rows. gives (rowOf g vs ++ rows)
-    ]) e)
 
 -- the group that a line opens, with its rows
 opened : (a g : Name) (l : Line) (ls : List Line) (v : List ℕ) (ts : List (List ℕ)) (rows : List Row) → lines g ≡ l ∷ ls → any (is g) (nextGroups a) ≡ true

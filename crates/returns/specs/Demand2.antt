@@ -11,7 +11,7 @@ use Rattle.rules.specs.declared.Delims.{Delims}
 use Rattle.rules.specs.declared.Counts.{Counts}
 use Rattle.rules.specs.declared.Written.{Written}
 use Rattle.rules.specs.declared.Written.the-variants.{Wrote}
-use Rattle.rules.specs.Told.{Told, gives, refused, accepted, refuse_if_else_, _>>=_, toldLength, over, lengthOf}
+use Rattle.rules.specs.Told.{Told, gives, refused, accepted, refuse_if_else_, _>>=_, toldLength, Call}
 use Rattle.rules.specs.Lists.{bytes, starts, all, count}
 use Rattle.rules.specs.Frame.{delimsOk, segments}
 use Rattle.rules.specs.Check.{checkTold}
@@ -67,22 +67,18 @@ pub record Turned (m : List ℕ) (c : Counts) : Type 0 where
 abbrev pub MessageReturns : Type 0
 MessageReturns = (m : List ℕ) (c : Counts) → checkTold m ≡ gives c → Turned m c
 
--- ---- the same of the calls `to_message` and `to_sheet`, by their promises alone: what a call returns, and what it leaves in the buffer
-pub record Call (told : ℕ → Told (List ℕ)) (r : Written) (before after : List ℕ) : Type 0 where
-  pub returns : toldLength r ≡ lengthOf (told (length before))
-  pub leaves : after ≡ over (told (length before)) before
-
+-- ---- the same of the calls `to_message` and `to_sheet`, by their promises alone, which `Call` holds
 -- a sheet, written into `out` and read into `back`, is there byte for byte
 abbrev pub SheetCalls : Type 0
 SheetCalls = (s out out′ back back′ : List ℕ) (n : ℕ) (r : Written)
-    → Call (toMessage s) (Wrote n) out out′
-    → Call (toSheet (take n out′)) r back back′ → length s ≤ length back
+    → Call (toMessage s (length out)) out (Wrote n) out′
+    → Call (toSheet (take n out′) (length back)) back r back′ → length s ≤ length back
     → (checkTold (take n out′) ≡ countsOf s) × (r ≡ Wrote (length s)) × (back′ ≡ s ++ drop (length s) back)
 
 -- the sheet of a message is written again, unless 44 or 45 is given; and that message gives the same sheet and has the same counts
 abbrev pub MessageCalls : Type 0
 MessageCalls = (m out out′ back back′ : List ℕ) (n : ℕ) (r : Written)
-    → Call (toSheet m) (Wrote n) out out′
-    → Call (toMessage (take n out′)) r back back′
+    → Call (toSheet m (length out)) out (Wrote n) out′
+    → Call (toMessage (take n out′) (length back)) back r back′
     → Only44Or45 (toldLength r)
     × ((k : ℕ) → r ≡ Wrote k → (checkTold (take k back′) ≡ checkTold m) × ((room : ℕ) → toSheet (take k back′) room ≡ toSheet m room))

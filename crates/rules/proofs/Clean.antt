@@ -9,7 +9,7 @@ use lib.Dec.{eqb, leb}
 use lib.ListN.{List·getD-map}
 use Rattle.rules.specs.declared.Mode.{Mode}
 use Rattle.rules.specs.declared.Mode.the-variants.{One, Bad}
-use Rattle.rules.specs.Lists.{nth, all, has, split, allButLast, last, led, join, ended}
+use Rattle.rules.specs.Lists.{nth, same, all, has, split, allButLast, last, led, join, ended}
 use Rattle.rules.specs.Shift.{within, step, isOne, walk, keeps, mark, marks, met}
 use Rattle.rules.proofs.Logic.{cases, both, not-true}
 use Rattle.rules.proofs.Lists.{all-first, has-nil, has-first, has-there}
@@ -231,3 +231,16 @@ plain-met s h = plain s h .1
 
 pub plain-kept : (s : List ℕ) → all (within 0x20 0x7E) s ≡ true → keeps 0x0D s ≡ true
 plain-kept s h = clean-keeps 0x0D s (plain-clean s h)
+
+pub same-met : (s w : List ℕ) → all (within 0x20 0x7E) w ≡ true → same (met s) w ≡ same s w
+unfolding met marks same mark isOne
+same-met [] [] h = refl
+same-met [] (b ∷ w) h = refl
+same-met (a ∷ s) [] h = refl
+same-met (a ∷ s) (b ∷ w) h =
+    cases (eqb a b)
+    (λ e. let q = all-first (within 0x20 0x7E) b w h in
+    let r = both (leb 0x20 b) (leb b 0x7E) (q .0) in
+    let o : step 0x0D One a ≡ One = rw (eqb-true a b e) (still-one 0x0D b (leb-true 0x20 b (r .0)) (leb-true b 0x7E (r .1))) in
+    cc (same-met s w (q .1)))
+    (λ e. cc)

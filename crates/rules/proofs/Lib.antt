@@ -11,3 +11,4 @@ pub mod Escaped
 pub mod Plain
 pub mod Where
 pub mod Unique
+pub mod Rows

@@ -1,14 +1,15 @@
 -- Laws of plain lists of bytes. Assumes nothing.
 use mathlib.Core.Path.{_≡_, refl, sym, ap, _∙_}
 use mathlib.Core.Bool.{Bool, true, false, _&&_, _||_, false≢true}
-use mathlib.Core.List.{List, [], _∷_, _++_, append-assoc}
+use mathlib.Core.List.{List, [], _∷_, _++_}
 use Prim.Native.Nat.{ℕ, zero, suc, _+_, _-_, _≤_, _<_}
 use native.Mathlib.Numerals.{add-one}
 use native.Mathlib.Omega.{arith}
 use borrow.Author.Tests.{eqb-true, eqb-false}
 use lib.Dec.{eqb}
 use lib.ListN.{length, getD, take, drop, drop-of-length-le, length-drop}
-use lib.Seq.{drop-cons, take-all, take-suc, length-take-le}
+use lib.Seq.{drop-cons, take-all, length-take-le}
+pub use lib.Seq.{drop-append-seam as drop-own, take-append-seam as take-own}
 use Rattle.rules.specs.Lists.{empty, nth, same, starts, all, any, has}
 use Rattle.rules.proofs.Logic.{cases, never, eqb-self, neither}
 
@@ -23,8 +24,15 @@ over s i h = drop-of-length-le s h
 pub rest-is : {A : Type 0} (s : List A) (a : ℕ) → take (length s - a) (drop a s) ≡ drop a s
 rest-is s a = take-all (length s - a) (drop a s) (omega (arith, length-drop a s))
 
-pub take-more : (t : List ℕ) (i : ℕ) (w : List ℕ) → i < length t → take i t ++ (getD t i 0 ∷ w) ≡ take (i + 1) t ++ w
-take-more t i w h = rw (add-one, take-suc t i 0 h, append-assoc)
+pub rest-length : {A : Type 0} (s : List A) (a : ℕ) → length (take (length s - a) (drop a s)) ≡ length s - a
+rest-length s a = ap length (rest-is s a) ∙ length-drop a s
+
+-- it is no longer than the whole, and what lies in it lies in the whole
+pub rest-shorter : (s : List ℕ) (a k : ℕ) → length s ≤ k → length (take (length s - a) (drop a s)) ≤ k
+rest-shorter s a k h = omega (arith, rest-length s a)
+
+pub rest-within : (s : List ℕ) (a k : ℕ) → a ≤ length s → k ≤ length (take (length s - a) (drop a s)) → a + k ≤ length s
+rest-within s a k h e = omega (arith, rest-length s a)
 
 pub part-length : {A : Type 0} (n : ℕ) (s : List A) → n ≤ length s → n ≡ length (take n s)
 part-length n s h = sym (length-take-le n s h)
@@ -53,20 +61,19 @@ unfolding starts
 starts-own [] w = refl
 starts-own (b ∷ k) w = cc (eqb-self b, starts-own k w)
 
+-- a text shorter than a word doesn't start with it
+pub starts-short : (k s : List ℕ) → length s < length k → starts k s ≡ false
+unfolding starts
+starts-short [] s h = absurd (omega arith)
+starts-short (x ∷ k) [] h = refl
+starts-short (x ∷ k) (b ∷ s) h = cases (eqb b x) (λ e. cc (starts-short k s (omega arith))) (λ e. cc)
+
 -- only the first bytes count
 pub starts-prefix : (k p x : List ℕ) → length k ≤ length p → starts k (p ++ x) ≡ starts k p
 unfolding starts
 starts-prefix [] p x h = refl
 starts-prefix (b ∷ k) [] x h = absurd (omega arith)
 starts-prefix (b ∷ k) (a ∷ p) x h = cases (eqb a b) (λ e. rw (e, starts) (starts-prefix k p x (omega arith))) (λ e. rw (e, starts))
-
-pub drop-own : {A : Type 0} (k w : List A) → drop (length k) (k ++ w) ≡ w
-drop-own [] w = refl
-drop-own (b ∷ k) w = drop-own k w
-
-pub take-own : {A : Type 0} (k w : List A) → take (length k) (k ++ w) ≡ k
-take-own [] w = refl
-take-own (b ∷ k) w = ap (λ (t : List _). b ∷ t) (take-own k w)
 
 pub empty-is : {A : Type 0} (s : List A) → empty s ≡ true → s ≡ []
 unfolding empty

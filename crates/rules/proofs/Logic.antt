@@ -1,10 +1,12 @@
 -- Going by cases, and the laws of tests: what every proof of the library stands on. Assumes nothing.
 use mathlib.Core.Path.{_≡_, refl, sym}
 use mathlib.Core.Bool.{Bool, true, false, cond, not, _&&_, _||_, false≢true}
+pub use mathlib.Core.Bool.{and-true, and-false, and-comm, or-true, or-false}
 use mathlib.Core.List.{List, [], _∷_}
 use mathlib.Core.Option.{Option, none, some}
 use Prim.Native.Nat.{ℕ, zero, suc}
 use borrow.Author.Tests.{eqb-true, eqb-false, eq-eqb, ne-eqb}
+pub use borrow.Author.Tests.{not-true, not-false}
 use native.Mathlib.Omega.{arith}
 use lib.Dec.{eqb}
 use Rattle.rules.specs.Told.{Told, gives, refused, _>>_, _then_, _when_}
@@ -41,7 +43,7 @@ not-given h = let z : _≡_ {A = ℕ} 0 1 = cc in absurd (omega arith)
 pub nothing-some : {A P : Type 0} {a : A} → none ≡ some a → P
 nothing-some h = let z : _≡_ {A = ℕ} 0 1 = cc in absurd (omega arith)
 
--- ---- tests
+-- ---- tests, beside the library's
 pub both : (a b : Bool) → (a && b) ≡ true → (a ≡ true) × (b ≡ true)
 both true b h = (refl, h)
 both false b h = (h, cc)
@@ -50,26 +52,10 @@ pub neither : (a b : Bool) → (a || b) ≡ false → (a ≡ false) × (b ≡ fa
 neither true b h = never h
 neither false b h = (refl, h)
 
-pub not-true : (a : Bool) → not a ≡ true → a ≡ false
-not-true true h = absurd (false≢true h)
-not-true false h = refl
-
-pub not-false : (a : Bool) → not a ≡ false → a ≡ true
-not-false true h = refl
-not-false false h = never h
-
 -- one of two tests
 pub either : (x y : Bool) {P : Type 0} → (x || y) ≡ true → (x ≡ true → P) → (y ≡ true → P) → P
 either true y h f g = f refl
 either false y h f g = g h
-
-pub and-true : (a : Bool) → (a && true) ≡ a
-and-true true = refl
-and-true false = refl
-
-pub and-false : (a : Bool) → (a && false) ≡ false
-and-false true = refl
-and-false false = refl
 
 pub and-assoc : (a b c : Bool) → (a && (b && c)) ≡ ((a && b) && c)
 and-assoc true b c = refl
@@ -80,21 +66,9 @@ and-swap true true c = sym (and-true c)
 and-swap true false c = sym (and-false c)
 and-swap false b c = refl
 
-pub or-true : (a : Bool) → (a || true) ≡ true
-or-true true = refl
-or-true false = refl
-
-pub or-false : (a : Bool) → (a || false) ≡ a
-or-false true = refl
-or-false false = refl
-
 pub or-assoc : (a b c : Bool) → (a || (b || c)) ≡ ((a || b) || c)
 or-assoc true b c = refl
 or-assoc false b c = refl
-
-pub and-or : (t a b : Bool) → (t && (a || b)) ≡ ((t && a) || (t && b))
-and-or true a b = refl
-and-or false a b = refl
 
 pub cond-same : {A : Type 0} (t : Bool) (x : A) → cond t x x ≡ x
 cond-same true x = refl
@@ -124,6 +98,10 @@ pub then-zero : (n : ℕ) → (n then 0) ≡ n
 then-zero zero = refl
 then-zero (suc n) = refl
 
+pub then-assoc : (a b c : ℕ) → ((a then b) then c) ≡ (a then (b then c))
+then-assoc zero b c = refl
+then-assoc (suc a) b c = refl
+
 pub then-none : (a b : ℕ) → (a then b) ≡ 0 → (a ≡ 0) × (b ≡ 0)
 then-none zero b h = (refl, h)
 then-none (suc a) b h = absurd (omega arith)
@@ -131,6 +109,11 @@ then-none (suc a) b h = absurd (omega arith)
 pub when-none : (n : ℕ) (t : Bool) → (suc n when t) ≡ 0 → t ≡ false
 when-none n true h = absurd (omega arith)
 when-none n false h = refl
+
+-- what two answers give, one after the other
+pub then-gives : {A : Type 0} (t : Told (Unit {0})) (u : Told A) (a : A) → (t >> u) ≡ gives a → (t ≡ gives tt) × (u ≡ gives a)
+then-gives (gives x) u a h = (refl, h)
+then-gives (refused n s f) u a h = not-given h
 
 pub done : (t : Told (Unit {0})) → t >> gives tt ≡ t
 done (gives u) = refl

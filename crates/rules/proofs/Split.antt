@@ -131,8 +131,8 @@ unfolding allButLast last
 rejoin p [] r = refl
 rejoin p (q ∷ ps) r = ap (λ (t : List (List ℕ)). p ∷ t) (rejoin q ps r)
 
-pub split-more : (sep : ℕ) (a x : List ℕ) → front sep x ≡ [] → split sep (a ++ x) ≡ split sep a ++ later sep x
-split-more sep a x h =
+pub split-added : (sep : ℕ) (a x : List ℕ) → front sep x ≡ [] → split sep (a ++ x) ≡ split sep a ++ later sep x
+split-added sep a x h =
     rw (split-glue sep a x, h, append-nil (last (split sep a)), split-cons sep a) (rejoin (front sep a) (later sep a) (later sep x))
 
 -- ---- all but the last, and the last
@@ -183,10 +183,6 @@ join-split sep (b ∷ s) =
     cases (eqb b sep)
     (λ e. cc (split-here sep b s e, join-empty sep s, join-split sep s, eqb-true b sep e))
     (λ e. rw (split-there sep b s e, onto-join sep b (split sep s), join-split sep s))
-
-pub join-cons : (sep : ℕ) (p q : List ℕ) (ps : List (List ℕ)) → join sep (p ∷ (q ∷ ps)) ≡ p ++ (sep ∷ join sep (q ∷ ps))
-unfolding led join
-join-cons sep p q ps = refl
 
 -- no piece has the separator
 unfoldable pub frees : ℕ → List (List ℕ) → Bool

@@ -2,7 +2,8 @@
 use mathlib.Core.Path.{_≡_, refl, sym, ap, _∙_}
 use mathlib.Core.Bool.{true, false}
 use mathlib.Core.List.{List, [], _∷_}
-use Prim.Native.Nat.{ℕ}
+use Prim.Native.Nat.{ℕ, _<_}
+use native.Mathlib.Omega.{arith}
 use lib.Dec.{eqb}
 use Rattle.rules.specs.declared.Kind.{Kind}
 use Rattle.rules.specs.declared.Kind.the-variants.{TooLong, Header, Bytes, Segment, TooMany, Order, Missing, Null, Repeated, Escape, Long, Value, Status, Differs, NoOrdinal, Zero, SheetTooLong, SheetBytes, Key, Line, Overflow, Room}
@@ -14,6 +15,7 @@ use Rattle.rules.specs.declared.Fetched.the-variants.{At, NotFetched}
 use Rattle.rules.specs.declared.Written.{Written}
 use Rattle.rules.specs.declared.Written.the-variants.{Wrote, NotWritten}
 use Rattle.rules.specs.Told.{number, refusal, told, toldSpan, toldLength}
+use Rattle.rules.proofs.Logic.{zeroCases}
 
 -- the kind that has a number: the first of some with it
 unfoldable kinds : List Kind
@@ -52,6 +54,14 @@ kind-back Room = refl
 
 pub number-unique : (k l : Kind) → number k ≡ number l → k ≡ l
 number-unique k l e = sym (kind-back k) ∙ ap (numbered kinds) e ∙ kind-back l
+
+-- none is 0
+pub number-some : (k : Kind) → 0 < number k
+unfolding kinds numbered
+number-some k =
+    zeroCases (number k)
+    (λ z. let e : Room ≡ k = ap (numbered kinds) (sym z) ∙ kind-back k in absurd (omega (arith, ap number e)))
+    (λ n e. omega arith)
 
 -- ---- a refusal by what is told of it
 abbrev refusalOf : Kind → ℕ → ℕ → Refusal

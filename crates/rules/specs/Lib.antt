@@ -14,4 +14,5 @@ pub mod Sheet
 pub mod Message
 pub mod All
 pub mod WholeCase
+pub mod Demanded
 pub mod Edges

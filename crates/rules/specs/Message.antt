@@ -1,5 +1,5 @@
 -- The writer, over any five delimiters; the base uses |^~\&.
-use mathlib.Core.Bool.{Bool, true, false, cond, not, _&&_, _||_}
+use mathlib.Core.Bool.{true, false, cond, _&&_, _||_}
 use mathlib.Core.List.{List, [], _∷_, _++_, map}
 use Prim.Native.Nat.{ℕ, zero, suc, _+_, _/_, _%_}
 use Prim.Native.Char.{code}
@@ -8,7 +8,7 @@ use lib.ListN.{length, replicate}
 use Rattle.rules.specs.declared.Delims.{Delims}
 use Rattle.rules.specs.declared.Name.{Name}
 use Rattle.rules.specs.declared.Name.the-variants.{Msh, Pid, Pv1, Spm, Obr, Orc, Obx}
-use Rattle.rules.specs.Told.{Told, gives, refused, refuse_if_else_, _>>=_}
+use Rattle.rules.specs.Told.{Told, gives, refuse_if_else_, _>>=_}
 use Rattle.rules.specs.Lists.{bytes, empty, filled, join, ended}
 use Rattle.rules.specs.Frame.{spelling, is}
 use Rattle.rules.specs.Escape.{escape}

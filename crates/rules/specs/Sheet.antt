@@ -1,11 +1,11 @@
 -- "A sheet is lines `key=value`, each ended by 0A": written from rows, and read.
-use mathlib.Core.Bool.{Bool, true, false, cond, not, _&&_, _||_}
-use mathlib.Core.List.{List, [], _∷_, _++_, map}
-use Prim.Native.Nat.{ℕ, zero, suc, _+_}
+use mathlib.Core.Bool.{Bool, true, false, cond, not, _&&_}
+use mathlib.Core.List.{List, [], _∷_, _++_}
+use Prim.Native.Nat.{ℕ, suc, _+_}
 use lib.Dec.{ltb}
 use lib.ListN.{length, drop}
 use Rattle.rules.specs.declared.Name.{Name}
-use Rattle.rules.specs.declared.Name.the-variants.{Msh, Pid, Pv1, Spm, Obr, Orc, Obx, Other}
+use Rattle.rules.specs.declared.Name.the-variants.{Obr, Orc, Obx, Other}
 use Rattle.rules.specs.Told.{Told, gives, refused, refuse_if_else_, _>>=_, _>>_}
 use Rattle.rules.specs.Lists.{bytes, empty, same, starts, any, split, allButLast, last, ended}
 use Rattle.rules.specs.Shift.{keeps}

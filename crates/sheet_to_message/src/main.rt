@@ -6,7 +6,7 @@ fn main() {
     let mut lines = [0u8; 65537];
     let n = io::read_full(0, &mut lines);
     let mut message = [0u8; 32768];
-    match sheet::to_message(&lines[..n], &mut message) {
+    match to_message::to_message(&lines[..n], &mut message) {
         Written::Wrote(size) => show(&message[..size]),
         Written::NotWritten(refusal) => told::show_sheet_refusal(refusal),
     }

@@ -8,21 +8,27 @@ use mathlib.Core.List.{List, [], _∷_, foldl}
 use mathlib.Core.Bool.{Bool, true, false, cond, not, _&&_, _||_}
 use borrow.Author.Tests.{ltb-true, ltb-false, eqb-true, ne-eqb, eq-eqb, le-leb, lt-leb, not-true, not-false}
 use lib.Dec.{eqb, leb, ltb}
-use lib.ListN.{length, getD, take, drop, length-drop}
+use lib.ListN.{length, getD, take, drop}
 use lib.Seq.{take-all}
-use Rattle.rules.specs.Lists.{bytes, all, any, count, same, split, onto, isOneOf}
+use Rattle.rules.specs.Lists.{bytes, empty, filled, all, any, count, same, split, onto, isOneOf}
 use Rattle.rules.specs.Shift.{within}
+use Rattle.rules.specs.Told.{_then_}
 use Rattle.rules.specs.Frame.{digit, capitalOrDigit}
 use Rattle.rules.specs.Value as Val
-use Rattle.rules.proofs.Logic.{cases, both, and-false, or-assoc, and-true, or-false}
-use Rattle.rules.proofs.Lists.{here, over, rest-is, part-length, empty-zero, filled-some, all-cons, any-cons, any-nil}
+use Rattle.rules.specs.Places.{Four}
+use Rattle.rules.specs.Judge.{agrees, beside}
+use Rattle.rules.specs.declared.Kind.{Kind}
+use Rattle.rules.proofs.Unique.{number-unique, number-some}
+use Rattle.rules.proofs.Logic.{cases, never, both, and-false, or-assoc, and-true, or-false}
+use Rattle.rules.proofs.Lists.{here, over, rest-is, rest-shorter, part-length, empty-zero, filled-some, all-cons, any-cons, any-nil}
 use Rattle.scan.specs.Scan.{until, is}
 use Rattle.value.specs.Rules.{oneOf, textOf, ruleOf, faultNo, fineOf}
 use Rattle.value.specs.Number.{readByte, unread}
 use Rattle.value.specs.declared.Words.{Words}
 use Rattle.value.specs.declared.Rule.{Rule}
 use Rattle.value.specs.declared.Fault.{Fault}
-use Rattle.value.specs.declared.Fault.the-variants.{Nothing, Missing, Long, Value}
+use Rattle.rules.specs.declared.Kind.the-variants.{Missing, Long, Value}
+use Rattle.value.specs.declared.Fault.the-variants.{Nothing, Found}
 use Rattle.value.specs.declared.Spelling.{Spelling}
 
 -- ---- general: a walk by an index, over the bytes that are left
@@ -75,10 +81,6 @@ module _ {A : Type 0} (f : A → ℕ → A) (t₀ t : A) (s : List ℕ) (i : ℕ
 
 pub ruleset fold·laws = (fold-goes, fold-ends)
 
--- a part from a on is no longer
-pub rest-shorter : (s : List ℕ) (a k : ℕ) → length s ≤ k → length (take (length s - a) (drop a s)) ≤ k
-rest-shorter s a k h = rw rest-is (omega (arith, length-drop a s))
-
 -- ---- general: what stands before the first separator
 until-length : (sep x : ℕ) (s : List ℕ) → length (until (is sep) (x ∷ s)) ≡ cond (eqb x sep) 0 (suc (length (until (is sep) s)))
 unfolding until
@@ -119,8 +121,41 @@ split-more sep (x ∷ s) h =
     cc (split-more sep s (omega arith)))
 
 -- ---- no fault
-pub fine-is : (f x : Fault) (r : Bool) → f ≡ x → r ≡ fineOf x → r ≡ fineOf f
-fine-is f x r e h = cc
+pub fine-yes : (f : Fault) → f ≡ Nothing → true ≡ fineOf f
+unfolding fineOf
+fine-yes f e = rw e
+
+pub fine-no : (f : Fault) (k : Kind) → f ≡ Found k → false ≡ fineOf f
+unfolding fineOf
+fine-no f k e = rw e
+
+pub fine-zero : (f : Fault) → fineOf f ≡ true → faultNo f ≡ 0
+unfolding fineOf faultNo
+fine-zero Nothing h = refl
+fine-zero (Found k) h = never (sym h)
+
+pub fault-some : (f : Fault) → fineOf f ≡ false → faultNo f ≡ suc (faultNo f - 1)
+unfolding fineOf faultNo
+fault-some Nothing h = never h
+fault-some (Found k) h = omega (arith, number-some k)
+
+-- two faults with one number are the same
+pub fault-unique : (f g : Fault) → faultNo f ≡ faultNo g → f ≡ g
+unfolding faultNo
+fault-unique Nothing Nothing e = refl
+fault-unique Nothing (Found k) e = absurd (omega (arith, number-some k))
+fault-unique (Found k) Nothing e = absurd (omega (arith, number-some k))
+fault-unique (Found k) (Found l) e = ap Found (number-unique k l e)
+
+-- the earlier of two
+module _ (a b : Fault) (q : Bool) (e : q ≡ fineOf a) where
+  pub earlier-second : q ≡ true → faultNo b ≡ (faultNo a then faultNo b)
+  earlier-second h = rw (fine-zero a (sym e ∙ h))
+
+  pub earlier-first : q ≡ false → faultNo a ≡ (faultNo a then faultNo b)
+  earlier-first h = rw (fault-some a (sym e ∙ h))
+
+pub ruleset earlier·laws = (earlier-second, earlier-first)
 
 -- ---- n digits, at most n capitals or digits
 pub digits-other : (v : List ℕ) (n : ℕ) → (length v ≡ n → ⊥) → false ≡ Val.digitsOk n v
@@ -318,7 +353,7 @@ pub ruleset too_long·laws = (long-never, long-above)
 
 -- ---- 20, 24, 25
 module _ (required : Bool) (rule : Rule) (v : List ℕ) where
-  pub fault-missing : length v ≡ 0 → required ≡ true → faultNo Missing ≡ Val.fault required (ruleOf rule) v
+  pub fault-missing : length v ≡ 0 → required ≡ true → faultNo (Found Missing) ≡ Val.fault required (ruleOf rule) v
   unfolding faultNo Val.fault
   fault-missing h e = cc (empty-zero v h)
 
@@ -327,7 +362,7 @@ module _ (required : Bool) (rule : Rule) (v : List ℕ) where
   fault-blank h e = cc (empty-zero v h)
 
   module _ (h : length v ≡ 0 → ⊥) (t : Bool) (e : (u : List ℕ) → length u ≡ length v → t ≡ Val.tooLong (ruleOf rule) u) where
-    pub fault-long : t ≡ true → faultNo Long ≡ Val.fault required (ruleOf rule) v
+    pub fault-long : t ≡ true → faultNo (Found Long) ≡ Val.fault required (ruleOf rule) v
     unfolding faultNo Val.fault
     fault-long y = cc (filled-some v h, e v refl)
 
@@ -335,8 +370,18 @@ module _ (required : Bool) (rule : Rule) (v : List ℕ) where
     unfolding faultNo Val.fault
     fault-none q y g z = cc (filled-some v h, e v refl)
 
-    pub fault-value : (q : Bool) → t ≡ false → q ≡ Val.holds (ruleOf rule) v → q ≡ false → faultNo Value ≡ Val.fault required (ruleOf rule) v
+    pub fault-value : (q : Bool) → t ≡ false → q ≡ Val.holds (ruleOf rule) v → q ≡ false → faultNo (Found Value) ≡ Val.fault required (ruleOf rule) v
     unfolding faultNo Val.fault
     fault-value q y g z = cc (filled-some v h, e v refl)
 
 pub ruleset fault_of·laws = (fault-missing, fault-blank, fault-long, fault-none, fault-value)
+
+-- ---- OBX-11 against OBX-5
+module _ (status : List ℕ) (number parts y : Bool) (e : y ≡ oneOf (70 ∷ 32 ∷ 80 ∷ 32 ∷ 67 ∷ []) status) where
+  pub agrees-filled : y ≡ true → (c : Four (List ℕ)) → number ≡ filled (c .value) → parts ≡ beside c → number ≡ agrees status c
+  unfolding agrees isOneOf oneOf bytes
+  agrees-filled h c en ep = rw (sym e ∙ h) en
+
+  pub agrees-empty : y ≡ false → (c : Four (List ℕ)) → number ≡ filled (c .value) → parts ≡ beside c → (not number && not parts) ≡ agrees status c
+  unfolding agrees isOneOf oneOf bytes
+  agrees-empty h c en ep = rw (sym e ∙ h) (cases (empty (c .value)) (λ q. cc) (λ q. cc))

@@ -1,27 +1,26 @@
 // The value rules of the read places, over plain bytes: a component that is unescaped, or a value of a sheet.
+use rules::Kind;
 ghost use mathlib.Core.Path.{_≡_};
 ghost use mathlib.Core.List.{List, foldl};
 ghost use Prim.Native.Nat.{ℕ, _+_, _-_, _<_, _≤_};
 ghost use lib.ListN.{length};
-ghost use Rattle.rules.specs.Lists.{all, same, isOneOf};
+ghost use Rattle.rules.specs.Told.{_then_};
+ghost use Rattle.rules.specs.Lists.{all, same, filled, isOneOf};
 ghost use Rattle.rules.specs.Shift.{within};
 ghost use Rattle.rules.specs.Frame.{digit, capitalOrDigit};
 ghost use Rattle.rules.specs.Value as Val;
+ghost use Rattle.rules.specs.Places.{Four};
+ghost use Rattle.rules.specs.Judge as Judge;
 ghost use Rattle.scan.specs.Scan.{until, is};
 ghost use Rattle.value.specs.Rules.{faultNo, fineOf, textOf, ruleOf, oneOf};
 ghost use Rattle.value.specs.Number.{readByte, unread};
 
-// What a read place breaks, with its number in document 01.
+pub mod table;
+
+// What a read place breaks: nothing, or the refusal's kind.
 pub enum Fault {
     Nothing,
-    Missing, // 20
-    Null, // 21
-    Repeated, // 22
-    Escape, // 23
-    Long, // 24
-    Value, // 25
-    Status, // 26
-    Differs, // 27
+    Found(Kind),
 }
 
 // The words that a place may hold.
@@ -55,21 +54,31 @@ pub enum Rule {
     OneOf(Words),
 }
 
+// A component of a field: not read, required, or read where it is filled.
+pub enum Place {
+    Unread,
+    Must(Rule),
+    May(Rule),
+}
+
 // Whether there is no fault.
 pub fn fine(f: Fault) -> bool
     ensures { λ r. ⌜ r ≡ fineOf f ⌝ }
 {
     match f {
         Fault::Nothing => true,
-        Fault::Missing => false,
-        Fault::Null => false,
-        Fault::Repeated => false,
-        Fault::Escape => false,
-        Fault::Long => false,
-        Fault::Value => false,
-        Fault::Status => false,
-        Fault::Differs => false,
+        Fault::Found(_) => false,
     }
+}
+
+// The earlier of two faults.
+pub fn earlier(a: Fault, b: Fault) -> Fault
+    ensures { λ r. ⌜ faultNo r ≡ (faultNo a then faultNo b) ⌝ }
+{
+    if fine(a) {
+        return b;
+    }
+    a
 }
 
 // ---- digits, and capitals or digits
@@ -391,15 +400,25 @@ pub fn fault_of(required: bool, rule: Rule, v: &[u8]) -> Fault
 {
     if v.len() == 0 {
         if required {
-            return Fault::Missing;
+            return Fault::Found(Kind::Missing);
         }
         return Fault::Nothing;
     }
     if too_long(rule, v.len()) {
-        return Fault::Long;
+        return Fault::Found(Kind::Long);
     }
     if holds(rule, v) {
         return Fault::Nothing;
     }
-    Fault::Value
+    Fault::Found(Kind::Value)
+}
+
+// 26: whether the status of OBX-11 agrees with what OBX-5 fills: a value, a part beside it.
+pub fn agrees(status: &[u8], number: bool, parts: bool) -> bool
+    ensures { λ r. ⌜ ((c : Four (List ℕ)) → number ≡ filled (c .value) → parts ≡ Judge.beside c → r ≡ Judge.agrees (now (status .entry)) c) ⌝ }
+{
+    if one_of(status, b"F P C") {
+        return number;
+    }
+    !number & !parts
 }

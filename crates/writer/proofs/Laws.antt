@@ -32,7 +32,7 @@ fuse a b c old h =
     (rw (drop-drop, length-append, append-assoc))
 
 -- a tail that was lent has nothing behind it
-tail-none : (a : ℕ) (xs : List ℕ) → drop (length xs - a) (drop a xs) ≡ []
+pub tail-none : (a : ℕ) (xs : List ℕ) → drop (length xs - a) (drop a xs) ≡ []
 tail-none a xs = drop-of-length-le (drop a xs) {i = length xs - a} (simp length-drop (omega arith))
 
 -- before the first write

@@ -14,6 +14,7 @@
 
 #![forbid(unsafe_code)]
 
+pub mod bridge;
 pub mod cases;
 pub mod delimiters;
 mod fetch;

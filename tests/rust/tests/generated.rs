@@ -1,8 +1,10 @@
 //! Properties that hold over generated cases, and what a run of them is to meet.
 
 use oul_tests::cases::{Answer, Call, Case};
-use oul_tests::delimiters::Delimiters;
+use oul_tests::delimiters::{Delimiters, ADMITTED};
+use oul_tests::parts;
 use oul_tests::refusal::number;
+use oul_tests::shift::{SHIFT, TO_TWO_BYTE};
 use oul_tests::{
     check, generate, locate, to_message, to_sheet, Refusal, MESSAGE_LIMIT, SHEET_LIMIT,
 };
@@ -329,4 +331,119 @@ fn lengths_of_values(sheets: impl Iterator<Item = Vec<u8>>) -> BTreeMap<Vec<u8>,
         }
     }
     lengths
+}
+
+#[test]
+fn every_delimiter_serves_for_every_purpose_in_a_run() {
+    let mut met = BTreeSet::new();
+    for m in messages(14).filter(|m| check(m).is_ok()) {
+        met.extend(m[3..8].iter().copied().enumerate());
+    }
+    assert_eq!(met.len(), 5 * ADMITTED.len(), "{met:?}");
+}
+
+/// The known segments' fields that the profile reads, with the components read; none for a
+/// closed field, where nothing is unread.
+#[rustfmt::skip]
+const READ: &[(&str, &[(usize, &[usize])])] = &[
+    ("MSH", &[(1, &[]), (2, &[]), (7, &[1]), (9, &[1, 2, 3]), (10, &[1]), (11, &[1]), (12, &[1]), (18, &[])]),
+    ("PID", &[(3, &[1]), (5, &[]), (7, &[1]), (8, &[1])]),
+    ("PV1", &[(2, &[1])]),
+    ("SPM", &[(4, &[1, 3]), (17, &[1])]),
+    ("OBR", &[(2, &[1]), (4, &[1, 3])]),
+    ("ORC", &[(1, &[1]), (2, &[1])]),
+    ("OBX", &[(2, &[1]), (3, &[1, 2, 3]), (5, &[]), (6, &[1]), (8, &[1]), (11, &[1])]),
+];
+
+#[test]
+fn every_unread_place_is_filled_in_accepted_messages_of_a_run() {
+    let mut expected = BTreeSet::new();
+    for &(name, read) in READ {
+        let (last, _) = read[read.len() - 1];
+        for number in 1..=last + 1 {
+            match read.iter().find(|&&(field, _)| field == number) {
+                None => drop(expected.insert((name, number, 0))),
+                Some((_, [])) => (),
+                Some((_, components)) => {
+                    let behind = components[components.len() - 1] + 1;
+                    let unread = (1..=behind).filter(|n| !components.contains(n));
+                    expected.extend(unread.map(|component| (name, number, component)));
+                }
+            }
+        }
+    }
+    let mut met = BTreeSet::new();
+    for m in messages(15).filter(|m| check(m).is_ok()) {
+        let d = Delimiters::of_header(&m).unwrap();
+        for segment in lines(&m, b'\r') {
+            let fields = parts::split(segment, d.field);
+            // the first separator of MSH is itself field 1
+            let first = usize::from(segment.starts_with(b"MSH"));
+            let known = READ
+                .iter()
+                .find(|(name, _)| segment.starts_with(name.as_bytes()));
+            let Some(&(name, read)) = known else { continue };
+            for (number, field) in (first..).zip(fields).skip(1) {
+                let open = read
+                    .iter()
+                    .any(|&(n, components)| n == number && !components.is_empty());
+                if !field.is_empty() {
+                    met.insert((name, number, 0));
+                }
+                for (n, component) in (1..).zip(parts::split(field, d.component)) {
+                    if open && !component.is_empty() {
+                        met.insert((name, number, n));
+                    }
+                }
+            }
+        }
+    }
+    let missed: Vec<_> = expected.difference(&met).collect();
+    assert!(missed.is_empty(), "{missed:?}");
+}
+
+#[test]
+fn segments_of_other_names_stand_behind_every_known_one_in_a_run() {
+    let mut met = BTreeSet::new();
+    for m in messages(16).filter(|m| check(m).is_ok()) {
+        let segments: Vec<&[u8]> = lines(&m, b'\r').map(|segment| &segment[..3]).collect();
+        let known = |name: &[u8]| READ.iter().any(|(known, _)| known.as_bytes() == name);
+        for pair in segments.windows(2).filter(|pair| !known(pair[1])) {
+            met.insert(pair[0].to_vec());
+        }
+    }
+    for (name, _) in READ {
+        assert!(met.contains(name.as_bytes()), "{name}");
+    }
+}
+
+#[test]
+fn kanji_with_the_usual_delimiters_in_both_bytes_is_accepted_in_a_run() {
+    let mut met = BTreeSet::new();
+    for m in messages(17).filter(|m| check(m).is_ok()) {
+        pairs_into(&mut met, "message", &m);
+    }
+    for sheet in sheets(17).filter(|sheet| message_of(sheet).is_ok()) {
+        pairs_into(&mut met, "sheet", &sheet);
+    }
+    for input in ["message", "sheet"] {
+        for byte in [0x7C, 0x5C, 0x5E, 0x7E, 0x26] {
+            assert!(met.contains(&(input, 0, byte)), "{input}: {byte:02X} first");
+            assert!(
+                met.contains(&(input, 1, byte)),
+                "{input}: {byte:02X} second"
+            );
+        }
+    }
+}
+
+/// The bytes that stand first (0) or second (1) in a pair of two-byte mode.
+fn pairs_into(met: &mut BTreeSet<(&'static str, usize, u8)>, input: &'static str, bytes: &[u8]) {
+    let mut rest = bytes;
+    while let Some(at) = rest.windows(3).position(|three| three == TO_TWO_BYTE) {
+        let pairs = &rest[at + 3..];
+        let end = pairs.iter().position(|&byte| byte == SHIFT).unwrap();
+        met.extend((0..end).map(|n| (input, n % 2, pairs[n])));
+        rest = &pairs[end..];
+    }
 }

@@ -2,7 +2,7 @@
 use borrow.Author.Needs.{needs}
 use Prim.Native.Nat.{_-_, _≤_}
 use lib.ListN.{length}
-use Rattle.closed.proofs.Laws.{Looking, looking-ends, looking-finds, looking-on, looking-starts, past-less, past-within}
+use Rattle.closed.proofs.Laws.{Looking, looking-ends, looking-finds, looking-on, looking-starts, past-less, past-within, rest-fits}
 use Rattle.closed.proofs.repetition.Statement.{statement}
 use Rattle.closed.proofs.repetition.Tie as tie
 
@@ -13,7 +13,7 @@ abbrev μ-loop : tie.MeasureT-loop
 μ-loop f d mark at₀ at = length f - at
 
 loop-holds : tie.Need-loop-holds Inv-loop μ-loop
-loop-holds c = search (looking-starts, looking-finds, looking-on, looking-ends, past-less, past-within, needs)
+loop-holds c = search (looking-starts, needs)
 
 sub-r : tie.Need-sub-r Inv-loop μ-loop
 sub-r c = search needs
@@ -28,19 +28,19 @@ marked-requires : tie.Need-marked-requires Inv-loop μ-loop
 marked-requires c κs = search needs
 
 returns : tie.Need-returns Inv-loop μ-loop
-returns c = search (looking-starts, looking-finds, looking-on, looking-ends, past-less, past-within, needs)
+returns c = search (looking-finds, rest-fits, needs)
 
 past-requires : tie.Need-past-requires Inv-loop μ-loop
 past-requires c κs = search needs
 
 add-at : tie.Need-add-at Inv-loop μ-loop
-add-at c = search (looking-starts, looking-finds, looking-on, looking-ends, past-less, past-within, needs)
+add-at c = search (past-within, needs)
 
 loop-less : tie.Need-loop-less Inv-loop μ-loop
-loop-less c = search (looking-starts, looking-finds, looking-on, looking-ends, past-less, past-within, needs)
+loop-less c = search (past-less, needs)
 
 loop-again : tie.Need-loop-again Inv-loop μ-loop
-loop-again c = search (looking-starts, looking-finds, looking-on, looking-ends, past-less, past-within, needs)
+loop-again c = search (looking-on, past-within, needs)
 
 sub-result : tie.Need-sub-result Inv-loop μ-loop
 sub-result c = search needs
@@ -52,7 +52,7 @@ part-result-end : tie.Need-part-result-end Inv-loop μ-loop
 part-result-end c = search needs
 
 returns-2 : tie.Need-returns-2 Inv-loop μ-loop
-returns-2 c = search (looking-starts, looking-finds, looking-on, looking-ends, past-less, past-within, needs)
+returns-2 c = search (looking-ends, rest-fits, needs)
 
 pub repetition-spec : {M : Type 1} → statement M
 repetition-spec =

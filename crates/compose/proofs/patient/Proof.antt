@@ -43,7 +43,18 @@ same-length : tie.Need-same-length
 same-length c = search needs
 
 returns : tie.Need-returns
-returns c = search (patient-plain, patient-kana, needs)
+returns c =
+    let test = c .before .before .before .before .before .before in
+    let sex = test .before in
+    let birth = sex .before in
+    let kanagiven = birth .before in
+    let kanafamily = kanagiven .before in
+    let given = kanafamily .before in
+    let family = given .before in
+    let id = family .before in
+    let asked = id .before .before .before .before .pre in
+    let wrote = c .before .before .fit-woven .ensures in
+    (patient-plain _ _ _ _ _ _ _ _ _ (kanafamily .value-at4 .result) _ _ (asked .1) (id .value-at .ensures .0) (family .value-at2 .ensures .0) (given .value-at3 .ensures .0) (kanafamily .value-at4 .ensures .0) (birth .value-at6 .ensures .0) (sex .value-at7 .ensures .0) (test .if1 .taken) (wrote .0), wrote .1)
 
 slice-aggregate-fit-woven-3 : tie.Need-slice-aggregate-fit-woven-3
 slice-aggregate-fit-woven-3 c = search needs
@@ -59,7 +70,18 @@ same-length-2 : tie.Need-same-length-2
 same-length-2 c = search needs
 
 returns-2 : tie.Need-returns-2
-returns-2 c = search (patient-plain, patient-kana, needs)
+returns-2 c =
+    let test = c .before .before .before .before .before .before in
+    let sex = test .before in
+    let birth = sex .before in
+    let kanagiven = birth .before in
+    let kanafamily = kanagiven .before in
+    let given = kanafamily .before in
+    let family = given .before in
+    let id = family .before in
+    let asked = id .before .before .before .before .pre in
+    let wrote = c .before .before .fit-woven2 .ensures in
+    (patient-kana _ _ _ _ _ _ _ _ _ _ _ _ _ (asked .1) (id .value-at .ensures .0) (family .value-at2 .ensures .0) (given .value-at3 .ensures .0) (kanafamily .value-at4 .ensures .0) (kanagiven .value-at5 .ensures .0) (birth .value-at6 .ensures .0) (sex .value-at7 .ensures .0) (test .if1 .left) (wrote .0), wrote .1)
 
 pub patient-spec : {M : Type 1} → statement M
 patient-spec =

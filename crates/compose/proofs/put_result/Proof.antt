@@ -28,7 +28,7 @@ same-length : tie.Need-same-length
 same-length c = search needs
 
 returns : tie.Need-returns
-returns c = search (result-sn, result-plain, needs)
+returns c = search (result-sn, needs)
 
 slice-aggregate-fit-woven-3 : tie.Need-slice-aggregate-fit-woven-3
 slice-aggregate-fit-woven-3 c = search needs
@@ -44,7 +44,7 @@ same-length-2 : tie.Need-same-length-2
 same-length-2 c = search needs
 
 returns-2 : tie.Need-returns-2
-returns-2 c = search (result-sn, result-plain, needs)
+returns-2 c = search (result-plain, needs)
 
 pub put-result-spec : {M : Type 1} → statement M
 put-result-spec =

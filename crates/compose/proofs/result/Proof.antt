@@ -41,10 +41,10 @@ slice-aggregate-put-number : tie.Need-slice-aggregate-put-number
 slice-aggregate-put-number c = search needs
 
 add-put-number : tie.Need-add-put-number
-add-put-number c = omega (arith, (c .before .before .before .before .before .before .before .before .before .before .before .before .before .pre .1))
+add-put-number c = omega (arith, c .before .before .before .before .before .before .before .before .before .before .before .before .before .before .pre .2)
 
 put-number-requires : tie.Need-put-number-requires
-put-number-requires c κs = number-short _ (c .before .before .before .before .before .before .before .before .before .before .before .before .before .pre .1)
+put-number-requires c κs = number-short _ (c .before .before .before .before .before .before .before .before .before .before .before .before .before .before .pre .2)
 
 array-share-prefix-digits : tie.Need-array-share-prefix-digits
 array-share-prefix-digits c = front-within _ _ _ _ (c .before .before .put-number .ensures)
@@ -53,13 +53,48 @@ slice-aggregate-put-result : tie.Need-slice-aggregate-put-result
 slice-aggregate-put-result c = search (front-is, needs)
 
 put-result-requires : tie.Need-put-result-requires
-put-result-requires c κs = (number-size _ _ _ _ (c .before .before .before .put-number .ensures) (c .before .before .before .before .before .before .before .before .before .before .before .before .before .before .before .before .before .pre .1), omega (arith, (c .before .before .before .before .before .before .before .before .before .before .before .before .before .before .value-at .ensures .1), (c .before .before .before .before .before .before .before .before .before .before .before .before .before .before .before .before .before .pre .0)), omega (arith, (c .before .before .before .before .before .before .before .before .before .before .before .before .before .value-at2 .ensures .1), (c .before .before .before .before .before .before .before .before .before .before .before .before .before .before .before .before .before .pre .0)), omega (arith, (c .before .before .before .before .before .before .before .before .before .before .before .before .value-at3 .ensures .1), (c .before .before .before .before .before .before .before .before .before .before .before .before .before .before .before .before .before .pre .0)), omega (arith, (c .before .before .before .before .before .before .before .before .before .before .before .value-at4 .ensures .1), (c .before .before .before .before .before .before .before .before .before .before .before .before .before .before .before .before .before .pre .0)), omega (arith, (c .before .before .before .before .before .before .before .before .before .before .value-at5 .ensures .1), (c .before .before .before .before .before .before .before .before .before .before .before .before .before .before .before .before .before .pre .0)), omega (arith, (c .before .before .before .before .before .before .before .before .before .value-at6 .ensures .1), (c .before .before .before .before .before .before .before .before .before .before .before .before .before .before .before .before .before .pre .0)), omega (arith, (c .before .before .before .before .before .before .before .before .value-at7 .ensures .1), (c .before .before .before .before .before .before .before .before .before .before .before .before .before .before .before .before .before .pre .0)), omega (arith, (c .before .before .before .before .before .before .before .value-at8 .ensures .1), (c .before .before .before .before .before .before .before .before .before .before .before .before .before .before .before .before .before .pre .0)), omega (arith, (c .before .before .before .before .before .before .value-at9 .ensures .1), (c .before .before .before .before .before .before .before .before .before .before .before .before .before .before .before .before .before .pre .0)), omega (arith, (c .before .before .before .before .before .value-at10 .ensures .1), (c .before .before .before .before .before .before .before .before .before .before .before .before .before .before .before .before .before .pre .0)))
+put-result-requires c κs =
+    let status = c .before .before .before .before .before in
+    let flag = status .before in
+    let unit = flag .before in
+    let second = unit .before in
+    let join = second .before in
+    let value = join .before in
+    let compare = value .before in
+    let type = compare .before in
+    let name = type .before in
+    let item = name .before in
+    let asked = item .before .before .before .before .pre in (
+      asked .1,
+      number-size _ _ _ _ (c .before .before .before .put-number .ensures) (asked .2),
+      omega (arith, item .value-at .ensures .1, asked .0),
+      omega (arith, name .value-at2 .ensures .1, asked .0),
+      omega (arith, type .value-at3 .ensures .1, asked .0),
+      omega (arith, compare .value-at4 .ensures .1, asked .0),
+      omega (arith, value .value-at5 .ensures .1, asked .0),
+      omega (arith, join .value-at6 .ensures .1, asked .0),
+      omega (arith, second .value-at7 .ensures .1, asked .0),
+      omega (arith, unit .value-at8 .ensures .1, asked .0),
+      omega (arith, flag .value-at9 .ensures .1, asked .0),
+      omega (arith, status .value-at10 .ensures .1, asked .0),
+    )
 
 same-length : tie.Need-same-length
 same-length c = search needs
 
 returns : tie.Need-returns
-returns c = (result-is _ _ _ _ _ _ _ _ _ _ _ _ _ _ _ _ _ (front (c .before .before .before .before .before .before .put-number .ensures)) (c .before .before .before .before .before .before .before .before .before .before .before .before .before .before .before .before .before .value-at .ensures .0) (c .before .before .before .before .before .before .before .before .before .before .before .before .before .before .before .before .value-at2 .ensures .0) (c .before .before .before .before .before .before .before .before .before .before .before .before .before .before .before .value-at3 .ensures .0) (c .before .before .before .before .before .before .before .before .before .before .before .before .before .before .value-at4 .ensures .0) (c .before .before .before .before .before .before .before .before .before .before .before .before .before .value-at5 .ensures .0) (c .before .before .before .before .before .before .before .before .before .before .before .before .value-at6 .ensures .0) (c .before .before .before .before .before .before .before .before .before .before .before .value-at7 .ensures .0) (c .before .before .before .before .before .before .before .before .before .before .value-at8 .ensures .0) (c .before .before .before .before .before .before .before .before .before .value-at9 .ensures .0) (c .before .before .before .before .before .before .before .before .value-at10 .ensures .0) (c .before .before .put-result .ensures .0), (c .before .before .put-result .ensures .1))
+returns c =
+    let status = c .before .before .before .before .before .before .before .before in
+    let flag = status .before in
+    let unit = flag .before in
+    let second = unit .before in
+    let join = second .before in
+    let value = join .before in
+    let compare = value .before in
+    let type = compare .before in
+    let name = type .before in
+    let item = name .before in
+    (result-is _ _ _ _ _ _ _ _ _ _ _ _ _ _ _ _ _ (front (c .before .before .before .before .before .before .put-number .ensures)) (item .value-at .ensures .0) (name .value-at2 .ensures .0) (type .value-at3 .ensures .0) (compare .value-at4 .ensures .0) (value .value-at5 .ensures .0) (join .value-at6 .ensures .0) (second .value-at7 .ensures .0) (unit .value-at8 .ensures .0) (flag .value-at9 .ensures .0) (status .value-at10 .ensures .0) (c .before .before .put-result .ensures .0), c .before .before .put-result .ensures .1)
 
 pub result-spec : {M : Type 1} → statement M
 result-spec =

@@ -20,7 +20,7 @@ add-put-number : tie.Need-add-put-number
 add-put-number c = search needs
 
 put-number-requires : tie.Need-put-number-requires
-put-number-requires c κs = number-short _ (c .before .before .before .before .before .pre .1)
+put-number-requires c κs = number-short _ (c .before .before .before .before .before .before .pre .2)
 
 array-share-prefix-digits : tie.Need-array-share-prefix-digits
 array-share-prefix-digits c = front-within _ _ _ _ (c .before .before .put-number .ensures)
@@ -29,7 +29,11 @@ slice-aggregate-put-specimen : tie.Need-slice-aggregate-put-specimen
 slice-aggregate-put-specimen c = search (front-is, needs)
 
 put-specimen-requires : tie.Need-put-specimen-requires
-put-specimen-requires c κs = (number-size _ _ _ _ (c .before .before .before .put-number .ensures) (c .before .before .before .before .before .before .before .before .before .pre .1), omega (arith, (c .before .before .before .before .before .before .value-at .ensures .1), (c .before .before .before .before .before .before .before .before .before .pre .0)), omega (arith, (c .before .before .before .before .before .value-at2 .ensures .1), (c .before .before .before .before .before .before .before .before .before .pre .0)))
+put-specimen-requires c κs =
+    let collected = c .before .before .before .before .before in
+    let kind = collected .before in
+    let asked = kind .before .before .before .before .pre in
+    (asked .1, number-size _ _ _ _ (c .before .before .before .put-number .ensures) (asked .2), omega (arith, kind .value-at .ensures .1, asked .0), omega (arith, collected .value-at2 .ensures .1, asked .0))
 
 same-length : tie.Need-same-length
 same-length c = search needs

@@ -20,13 +20,13 @@ refused-requires : tie.Need-refused-requires
 refused-requires c κs = search needs
 
 returns : tie.Need-returns
-returns c = search (unread-value, unread-key, needs)
+returns c = search (unread-value, needs)
 
 refused-requires-2 : tie.Need-refused-requires-2
 refused-requires-2 c κs = search needs
 
 returns-2 : tie.Need-returns-2
-returns-2 c = search (unread-value, unread-key, needs)
+returns-2 c = search (unread-key, needs)
 
 pub unread-spec : {M : Type 1} → statement M
 unread-spec =

@@ -34,11 +34,11 @@ part-part-in-end c = search needs
 part-in-requires : tie.Need-part-in-requires
 part-in-requires c κs = search needs
 
-add-t15 : tie.Need-add-t15
-add-t15 c = search needs
+add-t14 : tie.Need-add-t14
+add-t14 c = search needs
 
-add-t21 : tie.Need-add-t21
-add-t21 c = search needs
+add-t19 : tie.Need-add-t19
+add-t19 c = search needs
 
 returns : tie.Need-returns
 returns c = search (component-is, component-within, needs)
@@ -57,6 +57,6 @@ component-of-spec =
     part-part-in-start
     part-part-in-end
     part-in-requires
-    add-t15
-    add-t21
+    add-t14
+    add-t19
     returns)

@@ -1,6 +1,6 @@
 -- `place` meets its contract. Assumes nothing.
 use borrow.Author.Needs.{needs}
-use Rattle.fetch.proofs.Laws.{at-within, place-absent, place-asks, place-at, place-none, place-short, place-zero}
+use Rattle.fetch.proofs.Laws.{asks-component, asks-field, at-within, found-in, headed-long, headed-proper, place-absent, place-at, place-headless, place-none, place-zero}
 use Rattle.fetch.proofs.place.Statement.{statement}
 use Rattle.fetch.proofs.place.Tie as tie
 
@@ -10,11 +10,14 @@ refused-requires c κs = search needs
 returns : tie.Need-returns
 returns c = search (place-zero, place-absent, needs)
 
+is-header-requires : tie.Need-is-header-requires
+is-header-requires c κs = search needs
+
 refused-requires-2 : tie.Need-refused-requires-2
 refused-requires-2 c κs = search needs
 
 returns-2 : tie.Need-returns-2
-returns-2 c = search (place-short, place-absent, needs)
+returns-2 c = search (place-headless, place-absent, needs)
 
 known-segment-requires : tie.Need-known-segment-requires
 known-segment-requires c κs = search needs
@@ -29,10 +32,10 @@ enum-known-s : tie.Need-enum-known-s
 enum-known-s c = search needs
 
 delims-requires : tie.Need-delims-requires
-delims-requires c κs = search needs
+delims-requires c κs = search (headed-long, needs)
 
 part-of-requires : tie.Need-part-of-requires
-part-of-requires c κs = place-asks _ _ _ _ _ (c .before .before .before .before .before .before .if1 .left) (c .before .before .before .before .before .if2 .left) (c .before .before .before .before .known-segment .ensures .1) (c .before .before .s .given .1)
+part-of-requires c κs = (search (asks-field, needs), search (asks-component, needs), search (headed-long, needs), search (found-in, needs), search (headed-proper, needs))
 
 returns-3 : tie.Need-returns-3
 returns-3 c = search (place-none, place-absent, needs)
@@ -46,6 +49,7 @@ place-spec =
     (tie.spec
     refused-requires
     returns
+    is-header-requires
     refused-requires-2
     returns-2
     known-segment-requires

@@ -13,8 +13,8 @@ behind-requires c κs = search needs
 two-requires : tie.Need-two-requires
 two-requires c κs = search needs
 
-first-of-requires : tie.Need-first-of-requires
-first-of-requires c κs = search needs
+earlier-requires : tie.Need-earlier-requires
+earlier-requires c κs = search needs
 
 sub-t15 : tie.Need-sub-t15
 sub-t15 c = search (three·laws, needs)
@@ -32,7 +32,7 @@ three-spec =
     component-requires
     behind-requires
     two-requires
-    first-of-requires
+    earlier-requires
     sub-t15
     add-t16
     returns)

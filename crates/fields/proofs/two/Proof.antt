@@ -13,8 +13,8 @@ behind-requires c κs = search needs
 one-requires : tie.Need-one-requires
 one-requires c κs = search needs
 
-first-of-requires : tie.Need-first-of-requires
-first-of-requires c κs = search needs
+earlier-requires : tie.Need-earlier-requires
+earlier-requires c κs = search needs
 
 sub-t14 : tie.Need-sub-t14
 sub-t14 c = search (two·laws, needs)
@@ -32,7 +32,7 @@ two-spec =
     component-requires
     behind-requires
     one-requires
-    first-of-requires
+    earlier-requires
     sub-t14
     add-t15
     returns)

@@ -16,7 +16,7 @@ starts-requires c κs = search needs
 
 returns : tie.Need-returns
 unfolding lines
-returns c = search (opens-item, opens-order, opens-specimen, needs)
+returns c = search (opens-item, needs)
 
 slice-aggregate-starts-2 : tie.Need-slice-aggregate-starts-2
 slice-aggregate-starts-2 c = search needs
@@ -26,11 +26,11 @@ starts-requires-2 c κs = search needs
 
 returns-2 : tie.Need-returns-2
 unfolding lines
-returns-2 c = search (opens-item, opens-order, opens-specimen, needs)
+returns-2 c = search (opens-order, needs)
 
 returns-3 : tie.Need-returns-3
 unfolding lines
-returns-3 c = search (opens-item, opens-order, opens-specimen, needs)
+returns-3 c = search (opens-specimen, needs)
 
 pub after-result-spec : {M : Type 1} → statement M
 after-result-spec =

@@ -17,16 +17,16 @@ first-requires : tie.Need-first-requires
 first-requires c κs = search needs
 
 returns : tie.Need-returns
-returns c = search (key-room, line-key, line-null, line-bad, line-good, needs)
+returns c = search (line-key, needs)
 
 sub-equal : tie.Need-sub-equal
-sub-equal c = search (key-room, line-key, line-null, line-bad, line-good, needs)
+sub-equal c = search (key-room, needs)
 
 part-equal-start : tie.Need-part-equal-start
-part-equal-start c = search (key-room, line-key, line-null, line-bad, line-good, needs)
+part-equal-start c = search (key-room, needs)
 
 part-equal-end : tie.Need-part-equal-end
-part-equal-end c = search (key-room, line-key, line-null, line-bad, line-good, needs)
+part-equal-end c = search (key-room, needs)
 
 slice-aggregate-equal : tie.Need-slice-aggregate-equal
 slice-aggregate-equal c = search needs
@@ -38,19 +38,19 @@ first-requires-2 : tie.Need-first-requires-2
 first-requires-2 c κs = search needs
 
 returns-2 : tie.Need-returns-2
-returns-2 c = search (key-room, line-key, line-null, line-bad, line-good, needs)
+returns-2 c = search (line-null, needs)
 
 first-requires-3 : tie.Need-first-requires-3
 first-requires-3 c κs = search needs
 
 returns-3 : tie.Need-returns-3
-returns-3 c = search (key-room, line-key, line-null, line-bad, line-good, needs)
+returns-3 c = search (line-bad, needs)
 
 first-requires-4 : tie.Need-first-requires-4
 first-requires-4 c κs = search needs
 
 returns-4 : tie.Need-returns-4
-returns-4 c = search (key-room, line-key, line-null, line-bad, line-good, needs)
+returns-4 c = search (line-good, needs)
 
 pub judged-spec : {M : Type 1} → statement M
 judged-spec =

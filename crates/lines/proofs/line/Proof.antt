@@ -10,8 +10,8 @@ use Rattle.lines.proofs.line.Tie as tie
 value-at-requires : tie.Need-value-at-requires
 value-at-requires c κs = search needs
 
-keeps-requires : tie.Need-keeps-requires
-keeps-requires c κs = search needs
+keeps-place-requires : tie.Need-keeps-place-requires
+keeps-place-requires c κs = search needs
 
 judged-requires : tie.Need-judged-requires
 judged-requires c κs = search needs
@@ -20,4 +20,4 @@ returns : tie.Need-returns
 returns c = search (line-is, needs)
 
 pub line-spec : {M : Type 1} → statement M
-line-spec = tie.close (tie.spec value-at-requires keeps-requires judged-requires returns)
+line-spec = tie.close (tie.spec value-at-requires keeps-place-requires judged-requires returns)

@@ -41,35 +41,35 @@ after-result-requires c κs = search needs
 
 returns : tie.Need-returns
 unfolding lines nextGroup
-returns c = search (next-is, next-result, needs)
+returns c = search (next-is, needs)
 
 returns-2 : tie.Need-returns-2
 unfolding lines nextGroup
-returns-2 c = search (next-is, next-result, needs)
+returns-2 c = search (next-is, needs)
 
 returns-3 : tie.Need-returns-3
 unfolding lines nextGroup
-returns-3 c = search (next-is, next-result, needs)
+returns-3 c = search (next-is, needs)
 
 returns-4 : tie.Need-returns-4
 unfolding lines nextGroup
-returns-4 c = search (next-is, next-result, needs)
+returns-4 c = search (next-is, needs)
 
 returns-5 : tie.Need-returns-5
 unfolding lines nextGroup
-returns-5 c = search (next-is, next-result, needs)
+returns-5 c = search (next-is, needs)
 
 returns-6 : tie.Need-returns-6
 unfolding lines nextGroup
-returns-6 c = search (next-is, next-result, needs)
+returns-6 c = search (next-is, needs)
 
 returns-7 : tie.Need-returns-7
 unfolding lines nextGroup
-returns-7 c = search (next-is, next-result, needs)
+returns-7 c = search (next-is, needs)
 
 returns-8 : tie.Need-returns-8
 unfolding lines nextGroup
-returns-8 c = search (next-is, next-result, needs)
+returns-8 c = search (next-result, needs)
 
 pub next-group-spec : {M : Type 1} → statement M
 next-group-spec =

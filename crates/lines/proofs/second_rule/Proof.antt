@@ -14,10 +14,10 @@ equal-requires : tie.Need-equal-requires
 equal-requires c κs = search needs
 
 returns : tie.Need-returns
-returns c = search (sn-second, blank-second, needs)
+returns c = search (sn-second, needs)
 
 returns-2 : tie.Need-returns-2
-returns-2 c = search (sn-second, blank-second, needs)
+returns-2 c = search (blank-second, needs)
 
 pub second-rule-spec : {M : Type 1} → statement M
 second-rule-spec = tie.close (tie.spec slice-aggregate-equal equal-requires returns returns-2)

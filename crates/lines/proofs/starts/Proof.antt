@@ -9,7 +9,7 @@ use Rattle.lines.proofs.starts.Statement.{statement}
 use Rattle.lines.proofs.starts.Tie as tie
 
 returns : tie.Need-returns
-returns c = search (short-not, starts-is, needs)
+returns c = search (short-not, needs)
 
 slice-aggregate-equal : tie.Need-slice-aggregate-equal
 slice-aggregate-equal c = search (part-length, needs)
@@ -18,7 +18,7 @@ equal-requires : tie.Need-equal-requires
 equal-requires c κs = search needs
 
 returns-2 : tie.Need-returns-2
-returns-2 c = search (short-not, starts-is, needs)
+returns-2 c = search (starts-is, needs)
 
 pub starts-spec : {M : Type 1} → statement M
 starts-spec = tie.close (tie.spec returns slice-aggregate-equal equal-requires returns-2)

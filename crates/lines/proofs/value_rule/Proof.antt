@@ -14,7 +14,7 @@ equal-requires : tie.Need-equal-requires
 equal-requires c κs = search needs
 
 returns : tie.Need-returns
-returns c = search (sn-value, nm-value, st-value, needs)
+returns c = search (sn-value, needs)
 
 slice-aggregate-equal-2 : tie.Need-slice-aggregate-equal-2
 slice-aggregate-equal-2 c = search needs
@@ -23,10 +23,10 @@ equal-requires-2 : tie.Need-equal-requires-2
 equal-requires-2 c κs = search needs
 
 returns-2 : tie.Need-returns-2
-returns-2 c = search (sn-value, nm-value, st-value, needs)
+returns-2 c = search (nm-value, needs)
 
 returns-3 : tie.Need-returns-3
-returns-3 c = search (sn-value, nm-value, st-value, needs)
+returns-3 c = search (st-value, needs)
 
 pub value-rule-spec : {M : Type 1} → statement M
 value-rule-spec =

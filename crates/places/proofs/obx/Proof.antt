@@ -38,8 +38,8 @@ agrees-requires c κs = search needs
 unless-requires : tie.Need-unless-requires
 unless-requires c κs = search needs
 
-first-of-requires : tie.Need-first-of-requires
-first-of-requires c κs = search needs
+earlier-requires : tie.Need-earlier-requires
+earlier-requires c κs = search needs
 
 returns : tie.Need-returns
 returns c = search (obx·laws, needs)
@@ -58,5 +58,5 @@ obx-spec =
     part-agrees-end
     agrees-requires
     unless-requires
-    first-of-requires
+    earlier-requires
     returns)

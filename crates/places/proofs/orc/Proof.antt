@@ -34,8 +34,8 @@ equal-requires c κs = search needs
 unless-requires : tie.Need-unless-requires
 unless-requires c κs = search needs
 
-first-of-requires : tie.Need-first-of-requires
-first-of-requires c κs = search needs
+earlier-requires : tie.Need-earlier-requires
+earlier-requires c κs = search needs
 
 returns : tie.Need-returns
 returns c = search (orc·laws, needs)
@@ -53,5 +53,5 @@ orc-spec =
     part-equal-end
     equal-requires
     unless-requires
-    first-of-requires
+    earlier-requires
     returns)

@@ -1,34 +1,17 @@
 -- `nth_piece` meets its contract. Assumes nothing.
 use borrow.Author.Needs.{needs}
-use Rattle.fetch.proofs.Laws.{piece-is, piece-within}
+use Rattle.fetch.proofs.Laws.{nth-absent, nth-there}
 use Rattle.fetch.proofs.pieces.nth_piece.Statement.{statement}
 use Rattle.fetch.proofs.pieces.nth_piece.Tie as tie
 
-begin-of-requires : tie.Need-begin-of-requires
-begin-of-requires c κs = search needs
-
-sub-before : tie.Need-sub-before
-sub-before c = search needs
-
-part-before-start : tie.Need-part-before-start
-part-before-start c = search needs
-
-part-before-end : tie.Need-part-before-end
-part-before-end c = search needs
-
-before-requires : tie.Need-before-requires
-before-requires c κs = search needs
+reach-requires : tie.Need-reach-requires
+reach-requires c κs = search needs
 
 returns : tie.Need-returns
-returns c = search (piece-is, piece-within, needs)
+returns c = search (nth-absent, needs)
+
+returns-2 : tie.Need-returns-2
+returns-2 c = search (nth-there, needs)
 
 pub nth-piece-spec : {M : Type 1} → statement M
-nth-piece-spec =
-    tie.close
-    (tie.spec
-    begin-of-requires
-    sub-before
-    part-before-start
-    part-before-end
-    before-requires
-    returns)
+nth-piece-spec = tie.close (tie.spec reach-requires returns returns-2)

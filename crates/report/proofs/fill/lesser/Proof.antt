@@ -1,17 +1,14 @@
+-- `report::fill::lesser` meets its contract.
 use borrow.Author.Needs.{needs}
-use native.Mathlib.Omega.{arith}
-use Prim.Native.Nat.{ℕ, _+_, _-_, _*_, _≤_, _<_}
-use mathlib.Core.Path.{_≡_}
-use lib.ListN.{length, take, drop}
-use Rattle.report.proofs.Filling.{lesser·laws}
+use Rattle.report.proofs.Filling.{least-first, least-second}
 use Rattle.report.proofs.fill.lesser.Statement.{statement}
 use Rattle.report.proofs.fill.lesser.Tie as tie
 
 returns : tie.Need-returns
-returns c = search (lesser·laws, needs)
+returns c = (search (least-first, needs), search needs)
 
 returns-2 : tie.Need-returns-2
-returns-2 c = search (lesser·laws, needs)
+returns-2 c = (search (least-second, needs), search needs)
 
 pub lesser-spec : {M : Type 1} → statement M
 lesser-spec = tie.close (tie.spec returns returns-2)

@@ -1,10 +1,6 @@
+-- `report::fill::line` meets its contract.
 use borrow.Author.Needs.{needs}
-use native.Mathlib.Omega.{arith}
-use Prim.Native.Nat.{ℕ, _+_, _-_, _*_, _≤_, _<_}
-use mathlib.Core.Path.{_≡_}
-use lib.ListN.{length, take, drop}
-use Rattle.report.proofs.Filling.{line·laws}
-use borrow.Author.Needs.{needs}
+use Rattle.report.proofs.Filling.{line-is}
 use Rattle.report.proofs.fill.line.Statement.{statement}
 use Rattle.report.proofs.fill.line.Tie as tie
 
@@ -24,7 +20,7 @@ same-length : tie.Need-same-length
 same-length c = search needs
 
 returns : tie.Need-returns
-returns c = search (line·laws, needs)
+returns c = (search (line-is, needs), search needs)
 
 pub line-spec : {M : Type 1} → statement M
 line-spec =

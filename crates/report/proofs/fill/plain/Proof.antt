@@ -1,10 +1,7 @@
+-- `report::fill::plain` meets its contract.
 use borrow.Author.Needs.{needs}
-use native.Mathlib.Omega.{arith}
-use Prim.Native.Nat.{ℕ, _+_, _-_, _*_, _≤_, _<_}
-use mathlib.Core.Path.{_≡_}
-use lib.ListN.{length, take, drop}
-use Rattle.report.proofs.Filling.{plain·laws}
-use borrow.Author.Needs.{needs}
+use Rattle.rules.proofs.Lists.{part-length}
+use Rattle.report.proofs.Filling.{value-clear, got-within, value-got, got-short, value-faulty, value-over}
 use Rattle.report.proofs.fill.plain.Statement.{statement}
 use Rattle.report.proofs.fill.plain.Tie as tie
 
@@ -18,7 +15,7 @@ same-length : tie.Need-same-length
 same-length c = search needs
 
 returns : tie.Need-returns
-returns c = search (plain·laws, needs)
+returns c = (search (value-clear, needs), search needs)
 
 slice-aggregate-unescape-into : tie.Need-slice-aggregate-unescape-into
 slice-aggregate-unescape-into c = search needs
@@ -30,10 +27,10 @@ enum-known-n : tie.Need-enum-known-n
 enum-known-n c = search needs
 
 array-share-prefix-buf : tie.Need-array-share-prefix-buf
-array-share-prefix-buf c = search (plain·laws, needs)
+array-share-prefix-buf c = search (got-within, needs)
 
 slice-aggregate-put : tie.Need-slice-aggregate-put
-slice-aggregate-put c = search (plain·laws, needs)
+slice-aggregate-put c = search (got-within, part-length, needs)
 
 put-requires-2 : tie.Need-put-requires-2
 put-requires-2 c κs = search needs
@@ -48,13 +45,13 @@ same-length-2 : tie.Need-same-length-2
 same-length-2 c = search needs
 
 returns-2 : tie.Need-returns-2
-returns-2 c = search (plain·laws, needs)
+returns-2 c = (search (value-got, needs), search (got-short, needs))
 
 returns-3 : tie.Need-returns-3
-returns-3 c = search (plain·laws, needs)
+returns-3 c = (search (value-faulty, needs), search needs)
 
 returns-4 : tie.Need-returns-4
-returns-4 c = search (plain·laws, needs)
+returns-4 c = (search (value-over, needs), search needs)
 
 pub plain-spec : {M : Type 1} → statement M
 plain-spec =

@@ -1,10 +1,7 @@
+-- `report::fill::put` meets its contract.
 use borrow.Author.Needs.{needs}
-use native.Mathlib.Omega.{arith}
-use Prim.Native.Nat.{ℕ, _+_, _-_, _*_, _≤_, _<_}
-use mathlib.Core.Path.{_≡_}
-use lib.ListN.{length, take, drop}
-use Rattle.report.proofs.Filling.{put·laws}
-use borrow.Author.Needs.{needs}
+use Rattle.rules.proofs.Lists.{part-length}
+use Rattle.report.proofs.Filling.{prefix-room, put-fills}
 use Rattle.report.proofs.fill.put.Statement.{statement}
 use Rattle.report.proofs.fill.put.Tie as tie
 
@@ -12,16 +9,16 @@ lesser-requires : tie.Need-lesser-requires
 lesser-requires c κs = search needs
 
 slice-aggregate-put : tie.Need-slice-aggregate-put
-slice-aggregate-put c = search (put·laws, needs)
+slice-aggregate-put c = search (part-length, needs)
 
 put-requires : tie.Need-put-requires
-put-requires c κs = search (put·laws, needs)
+put-requires c κs = search (prefix-room, needs)
 
 same-length : tie.Need-same-length
 same-length c = search needs
 
 returns : tie.Need-returns
-returns c = search (put·laws, needs)
+returns c = search (put-fills, needs)
 
 pub put-spec : {M : Type 1} → statement M
 put-spec =

@@ -1,10 +1,6 @@
+-- `report::fill::two` meets its contract.
 use borrow.Author.Needs.{needs}
-use native.Mathlib.Omega.{arith}
-use Prim.Native.Nat.{ℕ, _+_, _-_, _*_, _≤_, _<_}
-use mathlib.Core.Path.{_≡_}
-use lib.ListN.{length, take, drop}
-use Rattle.report.proofs.Filling.{two·laws}
-use borrow.Author.Needs.{needs}
+use Rattle.report.proofs.Filling.{two-is}
 use Rattle.report.proofs.fill.two.Statement.{statement}
 use Rattle.report.proofs.fill.two.Tie as tie
 
@@ -18,7 +14,7 @@ same-length : tie.Need-same-length
 same-length c = search needs
 
 returns : tie.Need-returns
-returns c = search (two·laws, needs)
+returns c = (search (two-is, needs), search needs)
 
 pub two-spec : {M : Type 1} → statement M
 two-spec = tie.close (tie.spec line-requires line-requires-2 same-length returns)

@@ -1,10 +1,8 @@
+-- `report::section::component` meets its contract.
 use borrow.Author.Needs.{needs}
-use native.Mathlib.Omega.{arith}
-use Prim.Native.Nat.{ℕ, _+_, _-_, _*_, _≤_, _<_}
-use mathlib.Core.Path.{_≡_}
-use lib.ListN.{length, take, drop}
-use Rattle.report.proofs.Sections.{component·laws}
-use borrow.Author.Needs.{needs}
+use Rattle.rules.proofs.Lists.{part-length}
+use Rattle.closed.proofs.Laws.{head-met}
+use Rattle.report.proofs.Sections.{component-within}
 use Rattle.report.proofs.section.component.Statement.{statement}
 use Rattle.report.proofs.section.component.Tie as tie
 
@@ -12,10 +10,10 @@ first-requires : tie.Need-first-requires
 first-requires c κs = search needs
 
 slice-aggregate-result : tie.Need-slice-aggregate-result
-slice-aggregate-result c = search (component·laws, needs)
+slice-aggregate-result c = search (part-length, needs)
 
 returns : tie.Need-returns
-returns c = search (component·laws, needs)
+returns c = (search (head-met, needs), search (component-within, needs))
 
 pub component-spec : {M : Type 1} → statement M
 component-spec = tie.close (tie.spec first-requires slice-aggregate-result returns)

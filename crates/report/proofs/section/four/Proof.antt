@@ -1,11 +1,7 @@
+-- `report::section::four` meets its contract.
 use borrow.Author.Needs.{needs}
-use native.Mathlib.Omega.{arith}
-use Prim.Native.Nat.{ℕ, _+_, _-_, _*_, _≤_, _<_}
-use mathlib.Core.Path.{_≡_}
-use lib.ListN.{length, take, drop}
 use Rattle.rules.specs.Lists.{bytes}
-use Rattle.report.proofs.Sections.{four·laws}
-use borrow.Author.Needs.{needs}
+use Rattle.report.proofs.Sections.{four-is}
 use Rattle.report.proofs.section.four.Statement.{statement}
 use Rattle.report.proofs.section.four.Tie as tie
 
@@ -32,7 +28,7 @@ same-length c = search needs
 
 returns : tie.Need-returns
 unfolding bytes
-returns c = search (four·laws, needs)
+returns c = (search (four-is, needs), search needs)
 
 pub four-spec : {M : Type 1} → statement M
 four-spec =

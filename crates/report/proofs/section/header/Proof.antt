@@ -1,11 +1,7 @@
+-- `report::section::header` meets its contract.
 use borrow.Author.Needs.{needs}
-use native.Mathlib.Omega.{arith}
-use Prim.Native.Nat.{ℕ, _+_, _-_, _*_, _≤_, _<_}
-use mathlib.Core.Path.{_≡_}
-use lib.ListN.{length, take, drop}
 use Rattle.rules.specs.Lists.{bytes}
-use Rattle.report.proofs.Sections.{header·laws}
-use borrow.Author.Needs.{needs}
+use Rattle.report.proofs.Sections.{header-is}
 use Rattle.report.proofs.section.header.Statement.{statement}
 use Rattle.report.proofs.section.header.Tie as tie
 
@@ -29,7 +25,7 @@ same-length c = search needs
 
 returns : tie.Need-returns
 unfolding bytes
-returns c = search (header·laws, needs)
+returns c = (search (header-is, needs), search needs)
 
 pub header-spec : {M : Type 1} → statement M
 header-spec =

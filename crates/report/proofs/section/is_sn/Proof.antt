@@ -1,11 +1,7 @@
+-- `report::section::is_sn` meets its contract.
 use borrow.Author.Needs.{needs}
-use native.Mathlib.Omega.{arith}
-use Prim.Native.Nat.{ℕ, _+_, _-_, _*_, _≤_, _<_}
-use mathlib.Core.Path.{_≡_}
-use lib.ListN.{length, take, drop}
 use Rattle.rules.specs.Lists.{bytes}
-use Rattle.report.proofs.Sections.{is-sn·laws}
-use borrow.Author.Needs.{needs}
+use Rattle.report.proofs.Sections.{sn-is}
 use Rattle.report.proofs.section.is_sn.Statement.{statement}
 use Rattle.report.proofs.section.is_sn.Tie as tie
 
@@ -26,7 +22,7 @@ equal-requires c κs = search needs
 
 returns : tie.Need-returns
 unfolding bytes
-returns c = search (is-sn·laws, needs)
+returns c = search (sn-is, needs)
 
 pub is-sn-spec : {M : Type 1} → statement M
 is-sn-spec =

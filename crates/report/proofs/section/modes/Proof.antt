@@ -1,10 +1,7 @@
+-- `report::section::modes` meets its contract.
 use borrow.Author.Needs.{needs}
-use native.Mathlib.Omega.{arith}
-use Prim.Native.Nat.{ℕ, _+_, _-_, _*_, _≤_, _<_}
-use mathlib.Core.Path.{_≡_}
-use lib.ListN.{length, take, drop}
 use Rattle.rules.specs.Lists.{bytes}
-use Rattle.report.proofs.Sections.{modes·laws}
+use Rattle.report.proofs.Sections.{modes-is}
 use Rattle.report.proofs.section.modes.Statement.{statement}
 use Rattle.report.proofs.section.modes.Tie as tie
 
@@ -40,7 +37,7 @@ same-length c = search needs
 
 returns : tie.Need-returns
 unfolding bytes
-returns c = search (modes·laws, needs)
+returns c = (search (modes-is, needs), search needs)
 
 pub modes-spec : {M : Type 1} → statement M
 modes-spec =

@@ -1,10 +1,6 @@
+-- `report::section::numbers` meets its contract.
 use borrow.Author.Needs.{needs}
-use native.Mathlib.Omega.{arith}
-use Prim.Native.Nat.{ℕ, _+_, _-_, _*_, _≤_, _<_}
-use mathlib.Core.Path.{_≡_}
-use lib.ListN.{length, take, drop}
-use Rattle.report.proofs.Sections.{numbers·laws}
-use borrow.Author.Needs.{needs}
+use Rattle.report.proofs.Sections.{numbers-is}
 use Rattle.report.proofs.section.numbers.Statement.{statement}
 use Rattle.report.proofs.section.numbers.Tie as tie
 
@@ -36,7 +32,7 @@ same-length : tie.Need-same-length
 same-length c = search needs
 
 returns : tie.Need-returns
-returns c = search (numbers·laws, needs)
+returns c = (search (numbers-is, needs), search needs)
 
 pub numbers-spec : {M : Type 1} → statement M
 numbers-spec =

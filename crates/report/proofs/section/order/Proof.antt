@@ -1,10 +1,7 @@
+-- `report::section::order` meets its contract.
 use borrow.Author.Needs.{needs}
-use native.Mathlib.Omega.{arith}
-use Prim.Native.Nat.{ℕ, _+_, _-_, _*_, _≤_, _<_}
-use mathlib.Core.Path.{_≡_}
-use lib.ListN.{length, take, drop}
 use Rattle.rules.specs.Lists.{bytes}
-use Rattle.report.proofs.Sections.{order·laws}
+use Rattle.report.proofs.Sections.{order-is}
 use Rattle.report.proofs.section.order.Statement.{statement}
 use Rattle.report.proofs.section.order.Tie as tie
 
@@ -34,7 +31,7 @@ same-length c = search needs
 
 returns : tie.Need-returns
 unfolding bytes
-returns c = search (order·laws, needs)
+returns c = (search (order-is, needs), search needs)
 
 pub order-spec : {M : Type 1} → statement M
 order-spec =

@@ -1,11 +1,7 @@
+-- `report::section::parts` meets its contract.
 use borrow.Author.Needs.{needs}
-use native.Mathlib.Omega.{arith}
-use Prim.Native.Nat.{ℕ, _+_, _-_, _*_, _≤_, _<_}
-use mathlib.Core.Path.{_≡_}
-use lib.ListN.{length, take, drop}
 use Rattle.rules.specs.Lists.{bytes}
-use Rattle.report.proofs.Sections.{parts·laws}
-use borrow.Author.Needs.{needs}
+use Rattle.report.proofs.Sections.{parts-sn, parts-one}
 use Rattle.report.proofs.section.parts.Statement.{statement}
 use Rattle.report.proofs.section.parts.Tie as tie
 
@@ -23,7 +19,7 @@ same-length c = search needs
 
 returns : tie.Need-returns
 unfolding bytes
-returns c = search (parts·laws, needs)
+returns c = (search (parts-sn, needs), search needs)
 
 piece-requires-2 : tie.Need-piece-requires-2
 piece-requires-2 c κs = search needs
@@ -45,7 +41,7 @@ same-length-2 c = search needs
 
 returns-2 : tie.Need-returns-2
 unfolding bytes
-returns-2 c = search (parts·laws, needs)
+returns-2 c = (search (parts-one, needs), search needs)
 
 pub parts-spec : {M : Type 1} → statement M
 parts-spec =

@@ -1,10 +1,7 @@
+-- `report::section::result` meets its contract.
 use borrow.Author.Needs.{needs}
 use native.Mathlib.Omega.{arith}
-use Prim.Native.Nat.{ℕ, _+_, _-_, _*_, _≤_, _<_}
-use mathlib.Core.Path.{_≡_}
-use lib.ListN.{length, take, drop}
 use Rattle.report.proofs.Sections.{result-is}
-use borrow.Author.Needs.{needs}
 use Rattle.report.proofs.section.result.Statement.{statement}
 use Rattle.report.proofs.section.result.Tie as tie
 

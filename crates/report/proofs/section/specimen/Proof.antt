@@ -1,10 +1,7 @@
+-- `report::section::specimen` meets its contract.
 use borrow.Author.Needs.{needs}
-use native.Mathlib.Omega.{arith}
-use Prim.Native.Nat.{ℕ, _+_, _-_, _*_, _≤_, _<_}
-use mathlib.Core.Path.{_≡_}
-use lib.ListN.{length, take, drop}
 use Rattle.rules.specs.Lists.{bytes}
-use Rattle.report.proofs.Sections.{specimen·laws}
+use Rattle.report.proofs.Sections.{specimen-is}
 use Rattle.report.proofs.section.specimen.Statement.{statement}
 use Rattle.report.proofs.section.specimen.Tie as tie
 
@@ -34,7 +31,7 @@ same-length c = search needs
 
 returns : tie.Need-returns
 unfolding bytes
-returns c = search (specimen·laws, needs)
+returns c = (search (specimen-is, needs), search needs)
 
 pub specimen-spec : {M : Type 1} → statement M
 specimen-spec =

@@ -1,11 +1,7 @@
+-- `report::section::visit` meets its contract.
 use borrow.Author.Needs.{needs}
-use native.Mathlib.Omega.{arith}
-use Prim.Native.Nat.{ℕ, _+_, _-_, _*_, _≤_, _<_}
-use mathlib.Core.Path.{_≡_}
-use lib.ListN.{length, take, drop}
 use Rattle.rules.specs.Lists.{bytes}
-use Rattle.report.proofs.Sections.{visit·laws}
-use borrow.Author.Needs.{needs}
+use Rattle.report.proofs.Sections.{visit-is}
 use Rattle.report.proofs.section.visit.Statement.{statement}
 use Rattle.report.proofs.section.visit.Tie as tie
 
@@ -26,7 +22,7 @@ same-length c = search needs
 
 returns : tie.Need-returns
 unfolding bytes
-returns c = search (visit·laws, needs)
+returns c = (search (visit-is, needs), search needs)
 
 pub visit-spec : {M : Type 1} → statement M
 visit-spec =

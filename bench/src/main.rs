@@ -1,0 +1,199 @@
+//! Times the proved library and the independent Rust program side by side, in one run, and
+//! prints the ratios. Start it by `bench/run`.
+
+mod inputs;
+mod library;
+
+use oul_tests::{check, locate, to_message, to_sheet, MESSAGE_LIMIT, SHEET_LIMIT};
+use std::hint::black_box;
+use std::time::{Duration, Instant};
+
+/// So long a turn lasts at least. The sides take turns, and the fastest of each counts.
+const TURN: Duration = Duration::from_millis(2);
+/// So long they do so at least, and so many times.
+const RACE: Duration = Duration::from_millis(1500);
+const TURNS: usize = 5;
+
+/// The read places of a segment: field and component.
+type Places = &'static [(usize, usize)];
+
+#[rustfmt::skip]
+const READ: [(&[u8], Places); 7] = [
+    (b"MSH", &[(7, 1), (9, 1), (9, 2), (9, 3), (10, 1), (11, 1), (12, 1), (18, 1)]),
+    (b"PID", &[(3, 1), (5, 1), (5, 2), (7, 1), (8, 1)]),
+    (b"PV1", &[(2, 1)]),
+    (b"SPM", &[(4, 1), (4, 3), (17, 1)]),
+    (b"OBR", &[(2, 1), (4, 1), (4, 3)]),
+    (b"ORC", &[(1, 1), (2, 1)]),
+    (b"OBX", &[(2, 1), (3, 1), (3, 2), (3, 3), (5, 1), (6, 1), (8, 1), (11, 1)]),
+];
+
+fn main() {
+    ratios();
+    growth();
+}
+
+fn ratios() {
+    println!("| Input | Bytes | Call | Rust, µs | Library, µs | Ratio |");
+    println!("|---|---|---|---|---|---|");
+    let full = inputs::small_segments(MESSAGE_LIMIT);
+    let kanji = inputs::kanji(MESSAGE_LIMIT);
+    for (name, m) in [
+        ("typical", inputs::typical()),
+        ("full, small segments", full),
+        ("full, kanji", kanji),
+    ] {
+        let m = m.as_slice();
+        let places = places(m);
+        let sheet = agree(m, &places);
+        let mut out = vec![0; SHEET_LIMIT];
+        let row = |call: &str, times: (f64, f64)| {
+            let (rust, library) = times;
+            let (bytes, ratio) = (m.len(), rust / library);
+            println!("| {name} | {bytes} | {call} | {rust:.1} | {library:.1} | {ratio:.2} |");
+        };
+        row(
+            "check",
+            race(
+                || keep(check(black_box(m))),
+                || keep(library::check(black_box(m))),
+            ),
+        );
+        row(
+            &format!("check, locate {} places", places.len()),
+            race(
+                || {
+                    keep(check(m));
+                    for &(ordinal, field, component) in &places {
+                        keep(locate(m, ordinal, field, component));
+                    }
+                },
+                || {
+                    keep(library::check(m));
+                    for &(ordinal, field, component) in &places {
+                        keep(library::locate(m, ordinal, field, component));
+                    }
+                },
+            ),
+        );
+        row(
+            "message to sheet",
+            race(
+                || keep(to_sheet(m, SHEET_LIMIT)),
+                || keep(library::to_sheet(m, &mut out)),
+            ),
+        );
+        row(
+            "sheet to message",
+            race(
+                || keep(to_message(&sheet, MESSAGE_LIMIT)),
+                || keep(library::to_message(&sheet, &mut out[..MESSAGE_LIMIT])),
+            ),
+        );
+    }
+}
+
+/// Twice the bytes, about twice the time.
+fn growth() {
+    println!();
+    println!("| Input | Call | 4 KiB, µs | 8 KiB | 16 KiB | 32 KiB | growth at each doubling |");
+    println!("|---|---|---|---|---|---|---|");
+    let inputs: [(&str, fn(usize) -> Vec<u8>); 2] = [
+        ("small segments", inputs::small_segments),
+        ("kanji", inputs::kanji),
+    ];
+    for (name, input) in inputs {
+        let messages = [4, 8, 16, 32].map(|kib| input(kib * 1024));
+        let times = messages
+            .each_ref()
+            .map(|m| alone(|| keep(library::check(m))));
+        grown(name, "check", times);
+        let mut out = vec![0; SHEET_LIMIT];
+        let times = messages
+            .each_ref()
+            .map(|m| alone(|| keep(library::to_sheet(m, &mut out))));
+        grown(name, "message to sheet", times);
+        let sheets = messages.map(|m| to_sheet(&m, SHEET_LIMIT).expect("a good message"));
+        let times = sheets.map(|sheet| alone(|| keep(library::to_message(&sheet, &mut out))));
+        grown(name, "sheet to message", times);
+    }
+}
+
+fn grown(name: &str, call: &str, times: [f64; 4]) {
+    let shown = times.map(|time| format!("{time:.1}")).join(" | ");
+    let ratio = |n: usize| format!("{:.2}", times[n + 1] / times[n]);
+    let ratios = [0, 1, 2].map(ratio).join(", ");
+    println!("| {name} | {call} | {shown} | {ratios} |");
+}
+
+/// The ordinal, field and component of every read place of a message.
+fn places(m: &[u8]) -> Vec<(usize, usize, usize)> {
+    let segments = m.split_inclusive(|&byte| byte == b'\r');
+    let known =
+        segments.filter_map(|segment| READ.iter().find(|(name, _)| segment.starts_with(name)));
+    (1..)
+        .zip(known)
+        .flat_map(|(ordinal, (_, places))| places.iter().map(move |&(f, c)| (ordinal, f, c)))
+        .collect()
+}
+
+/// Both sides answer alike, and accept. Gives the message's sheet.
+fn agree(m: &[u8], places: &[(usize, usize, usize)]) -> Vec<u8> {
+    let counts = check(m).expect("a good message");
+    let counts = [counts.specimens, counts.orders, counts.results];
+    assert_eq!(library::check(m), Ok(counts));
+    for &(ordinal, field, component) in places {
+        let part = locate(m, ordinal, field, component).expect("a place that is there");
+        let told = library::locate(m, ordinal, field, component);
+        assert_eq!(told, Ok([part.start, part.len(), 0]));
+    }
+    let sheet = to_sheet(m, SHEET_LIMIT).expect("a good message");
+    let mut out = vec![0; SHEET_LIMIT];
+    assert_eq!(library::to_sheet(m, &mut out), Ok([sheet.len(), 0, 0]));
+    assert_eq!(out[..sheet.len()], sheet);
+    assert_eq!(library::to_message(&sheet, &mut out), Ok([m.len(), 0, 0]));
+    assert_eq!(out[..m.len()], *m);
+    sheet
+}
+
+/// An answer that the compiler may not leave out.
+fn keep<T>(answer: T) {
+    black_box(answer);
+}
+
+fn alone(call: impl FnMut()) -> f64 {
+    race(|| (), call).1
+}
+
+/// Microseconds for one call of each, in turn, the fastest of all turns.
+fn race(mut one: impl FnMut(), mut other: impl FnMut()) -> (f64, f64) {
+    let (calls_of_one, calls_of_other) = (calls(&mut one), calls(&mut other));
+    let mut best = (f64::INFINITY, f64::INFINITY);
+    let start = Instant::now();
+    let mut turns = 0;
+    while turns < TURNS || start.elapsed() < RACE {
+        turns += 1;
+        best.0 = best.0.min(time(calls_of_one, &mut one));
+        best.1 = best.1.min(time(calls_of_other, &mut other));
+    }
+    best
+}
+
+/// How many calls fill a turn.
+fn calls(call: &mut impl FnMut()) -> u32 {
+    let mut calls = 1;
+    loop {
+        let start = Instant::now();
+        (0..calls).for_each(|_| call());
+        if start.elapsed() >= TURN || calls > 1 << 24 {
+            return calls;
+        }
+        calls *= 2;
+    }
+}
+
+fn time(calls: u32, call: &mut impl FnMut()) -> f64 {
+    let start = Instant::now();
+    (0..calls).for_each(|_| call());
+    start.elapsed().as_secs_f64() * 1e6 / f64::from(calls)
+}

@@ -1,0 +1,53 @@
+// The face of the library: its calls, each with its whole promise. None asks anything of its caller.
+use rules::Answer;
+use rules::Fetched;
+use rules::Written;
+ghost use mathlib.Core.Path.{_≡_};
+ghost use Prim.Native.Nat.{_+_, _≤_};
+ghost use lib.ListN.{length};
+ghost use Rattle.rules.specs.declared.Span.{Span};
+ghost use Rattle.rules.specs.Told.{told, toldSpan, toldLength, lengthOf, over};
+ghost use Rattle.rules.specs.Check.{checkTold};
+ghost use Rattle.rules.specs.Fetch.{fetchTold, partTold};
+ghost use Rattle.rules.specs.Sheet.{toSheet};
+ghost use Rattle.rules.specs.Message.{toMessage};
+ghost use Rattle.fetch.specs.Place.{shown, startTold};
+
+// Checks a message: the counts of its specimens, orders and results, or its refusal (10 to 27).
+pub fn check(m: &[u8]) -> Answer
+    ensures { λ r. ⌜ told r ≡ checkTold (now (m .entry)) ⌝ }
+{
+    message::check(m)
+}
+
+// Where a part of a message stands, or the refusal: the check's own first, then 31, then 30.
+pub fn locate(m: &[u8], ordinal: usize, field: usize, component: usize) -> Fetched
+    ensures { λ r. ⌜ toldSpan r ≡ fetchTold (now (m .entry)) ordinal field component ⌝ }
+    ensures within { λ r. ⌜ ((p : Span) → r ≡ Fetched.At p → p .start + p .len ≤ length (now (m .entry))) ⌝ }
+{
+    fetch::locate(m, ordinal, field, component)
+}
+
+// That part, as the very stretch of m; where it is refused an empty one, at the start.
+pub fn fetch(m: &[u8], ordinal: usize, field: usize, component: usize) -> &[u8]
+    ensures { λ r. ⌜ now r ≡ shown (partTold (now (m .entry)) ordinal field component) ⌝ }
+    ensures place { λ r. ⌜ r .ptr ≡ (m .entry .ptr .0, startTold (fetchTold (now (m .entry)) ordinal field component) + m .entry .ptr .1) ⌝ }
+{
+    fetch::fetch(m, ordinal, field, component)
+}
+
+// Writes the sheet of a message into the lent buffer, whose bytes past the sheet stay: how many bytes it has, or the refusal (10 to 27, 45), which leaves the buffer.
+pub fn to_sheet(m: &[u8], out: &mut [u8]) -> Written
+    ensures told { λ r. ⌜ toldLength r ≡ lengthOf (toSheet (now (m .entry)) (length (now (out .entry)))) ⌝ }
+    ensures buffer { λ _. ⌜ now (out .exit) ≡ over (toSheet (now (m .entry)) (length (now (out .entry)))) (now (out .entry)) ⌝ }
+{
+    to_sheet::to_sheet(m, out)
+}
+
+// Writes the message of a sheet in the same way. Refusals 40 to 45, with the line in place of the segment.
+pub fn to_message(sheet: &[u8], out: &mut [u8]) -> Written
+    ensures told { λ r. ⌜ toldLength r ≡ lengthOf (toMessage (now (sheet .entry)) (length (now (out .entry)))) ⌝ }
+    ensures buffer { λ _. ⌜ now (out .exit) ≡ over (toMessage (now (sheet .entry)) (length (now (out .entry)))) (now (out .entry)) ⌝ }
+{
+    to_message::to_message(sheet, out)
+}

@@ -1,0 +1,71 @@
+/* answers: reads cases from standard input and writes the library's answers to standard output, by way of include/oul.h. tests/compare holds them against the
+ * independent Rust program.
+ *
+ * A case is six numbers of eight bytes, the lowest byte first, and the input: the call (0 check, 1 locate, 2 to_sheet, 3 to_message), three numbers (locate: ordinal,
+ * field, component; to_sheet, to_message: the room of the lent buffer, 0, 0), the salt of what the buffer holds before, and the length of the input.
+ * An answer is four such numbers, what the call returned and told, and for to_sheet and to_message the lent buffer, with GUARD bytes behind it.
+ */
+#include "oul.h"
+
+#include <stdio.h>
+#include <string.h>
+
+enum { CHECK, LOCATE, TO_SHEET, TO_MESSAGE };
+enum { INPUT = 1 << 20, ROOM = 1 << 17, GUARD = 16 };
+
+static unsigned char input[INPUT];
+static unsigned char buffer[ROOM + GUARD];
+static unsigned char before[256 + ROOM + GUARD];
+
+struct ask {
+    size_t call, one, two, three, salt, length;
+};
+
+/* What a buffer holds before a call: the byte i is 7 times (i + salt). */
+static void prepare(void) {
+    for (size_t i = 0; i < sizeof before; i++)
+        before[i] = (unsigned char)(7 * i);
+}
+
+/* Fills the buffer; how many bytes of it are shown. */
+static size_t lend(const struct ask *a) {
+    memcpy(buffer, before + a->salt, a->one + GUARD);
+    return a->one + GUARD;
+}
+
+static int answer(const struct ask *a) {
+    size_t said[4] = {0};
+    size_t lent = 0;
+    switch (a->call) {
+    case CHECK:
+        said[0] = oul_check(input, a->length, said + 1);
+        break;
+    case LOCATE:
+        said[0] = oul_locate(input, a->length, a->one, a->two, a->three, said + 1);
+        break;
+    case TO_SHEET:
+        lent = lend(a);
+        said[0] = oul_to_sheet(input, a->length, buffer, a->one, said + 1);
+        break;
+    case TO_MESSAGE:
+        lent = lend(a);
+        said[0] = oul_to_message(input, a->length, buffer, a->one, said + 1);
+        break;
+    default:
+        return 0;
+    }
+    return fwrite(said, sizeof said, 1, stdout) == 1 && fwrite(buffer, 1, lent, stdout) == lent && fflush(stdout) == 0;
+}
+
+int main(void) {
+    struct ask a;
+    prepare();
+    while (fread(&a, sizeof a, 1, stdin) == 1) {
+        int good = a.length <= INPUT && a.salt <= 255 && (a.call < TO_SHEET || a.one <= ROOM);
+        if (!good || fread(input, 1, a.length, stdin) != a.length || !answer(&a)) {
+            fprintf(stderr, "answers: no case\n");
+            return 1;
+        }
+    }
+    return 0;
+}

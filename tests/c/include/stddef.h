@@ -1,0 +1,8 @@
+/* The toolchain's C compiler comes without headers: what include/oul.h asks for. */
+#ifndef STDDEF_H
+#define STDDEF_H
+
+typedef __SIZE_TYPE__ size_t;
+#define NULL ((void *)0)
+
+#endif

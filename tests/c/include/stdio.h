@@ -1,0 +1,18 @@
+/* The toolchain's C compiler comes without headers: the few functions of the C library that our programs call. */
+#ifndef STDIO_H
+#define STDIO_H
+
+#include <stddef.h>
+
+typedef struct _IO_FILE FILE;
+extern FILE *stdin;
+extern FILE *stdout;
+extern FILE *stderr;
+
+size_t fread(void *to, size_t size, size_t count, FILE *file);
+size_t fwrite(const void *from, size_t size, size_t count, FILE *file);
+int fflush(FILE *file);
+int printf(const char *format, ...);
+int fprintf(FILE *file, const char *format, ...);
+
+#endif
