@@ -3,32 +3,33 @@ use Prim.Native.Nat.{ℕ, zero, suc, _+_, _-_, _≤_, _<_}
 use native.Mathlib.Nat.{zero-add, suc-add}
 use native.Mathlib.Omega.{arith}
 use mathlib.Core.Path.{_≡_, refl, sym, ap, subst, _∙_}
-use mathlib.Core.List.{List, [], _∷_, _++_, append-nil}
+use mathlib.Core.List.{List, [], _∷_, _++_, map, append-nil}
 use mathlib.Core.Option.{Option, none, some}
-use mathlib.Core.Bool.{Bool, true, false, not, _&&_, _||_}
-use borrow.Author.Tests.{lt-ltb, ltb-true}
-use lib.Dec.{eqb, ltb}
-use lib.ListN.{length, getD, take, drop, length-append}
-use lib.Seq.{length-take-le}
+use mathlib.Core.Bool.{Bool, true, _&&_}
+use borrow.Author.Tests.{eqb-true}
+use lib.Dec.{eqb}
+use lib.ListN.{length, take, drop, length-append}
+use lib.Seq.{take-all, length-take-le}
 use Rattle.rules.specs.declared.Delims.{Delims}
-use Rattle.rules.specs.declared.Mode.{Mode}
 use Rattle.rules.specs.declared.Mode.the-variants.{One}
-use Rattle.rules.specs.Lists.{all, ended}
-use Rattle.rules.specs.Shift.{isOne, mark, marks, met, byteOf, step}
+use Rattle.rules.specs.Lists.{ended}
+use Rattle.rules.specs.Shift.{met, byteOf}
 use Rattle.rules.specs.Escape.{At, plain, opened, named, letters, meaning, push, unescapeAt, unescape}
 use Rattle.rules.specs.Judge.{plainOf, unescapedOr}
-use Rattle.rules.proofs.Logic.{cases, optionCases, both, not-true, not-false, neither, and-false}
-use Rattle.rules.proofs.Lists.{here, over, rest-is, all-cons, all-first}
+use Rattle.rules.proofs.Logic.{cases, optionCases, both}
+use Rattle.rules.proofs.Lists.{over, rest-is}
 use Rattle.rules.proofs.Split.{ended-append}
-use Rattle.rules.proofs.Modes.{byte-met, met-as, length-marks}
-use Rattle.scan.specs.Scan.{escapes, Proper}
+use Rattle.rules.proofs.Modes.{length-marks, length-met}
+use Rattle.scan.specs.Scan.{until, ends, plainText, CutOf}
+use Rattle.scan.proofs.Laws.{take-until}
+use Rattle.judge.proofs.Laws.{clean-at}
 use Rattle.judge.specs.Judge.{fill, Whole, Longer, Fits}
 use Rattle.judge.specs.declared.Unescaped.{Unescaped}
 use Rattle.judge.specs.declared.Unescaped.the-variants.{Got, Faulty, Over}
 use Rattle.writer.specs.Over.{Wrote}
 use Rattle.writer.specs.Over as W
 use Rattle.writer.proofs.Laws.{tail-none}
-use Rattle.report.specs.Fill.{least, Filled, clearOf, fillAt, Added, Lined}
+use Rattle.report.specs.Fill.{least, Filled, fillAt, Added, Lined}
 
 -- ---- the lesser of two numbers
 pub least-first : (a b : ℕ) → a < b → a ≡ least a b
@@ -59,41 +60,6 @@ put-fills s old x n k e h w = record {
 
 pub prefix-room : (s old : List ℕ) (n : ℕ) → (n ≤ length s) × (n ≤ length old) → length (take n s) ≤ length old
 prefix-room s old n h = omega (arith, length-take-le n s (h .0), h .1)
-
--- ---- a component that stands for itself
-pub clear-is : (d : Delims) (b : ℕ) → b < 256 → (not (eqb b (d .escape)) && not (eqb b (d .sub))) ≡ clearOf d b
-unfolding clearOf escapes
-clear-is d b h = rw (lt-ltb b 256 h) (split (eqb b (d .escape)) (eqb b (d .sub)))
-  where
-    split : (p q : Bool) → (not p && not q) ≡ not (p || q)
-    split true q = refl
-    split false q = refl
-
-module _ (d : Delims) (s : List ℕ) (i : ℕ) (inv : all (clearOf d) s ≡ all (clearOf d) (drop i s)) where
-  pub clear-stops : (t : Bool) → i < length s → t ≡ clearOf d (getD s i 0) → not t ≡ true → false ≡ all (clearOf d) s
-  clear-stops t h e g = cc (here 0 s i h, all-cons (clearOf d) (getD s i 0) (drop (i + 1) s), not-true t g)
-
-  pub clear-goes : (t : Bool) → i < length s → t ≡ clearOf d (getD s i 0) → not t ≡ false → all (clearOf d) s ≡ all (clearOf d) (drop (i + 1) s)
-  clear-goes t h e g = cc (here 0 s i h, all-cons (clearOf d) (getD s i 0) (drop (i + 1) s), not-false t g)
-
-  pub clear-ends : length s ≤ i → true ≡ all (clearOf d) s
-  unfolding all
-  clear-ends h = sym (inv ∙ rw (over s i h))
-
-clear-at : (d : Delims) → Proper d → (m : Mode) (s : List ℕ) → all (clearOf d) s ≡ true → unescapeAt d plain (marks 0x0D m s) ≡ some s
-unfolding unescapeAt marks clearOf escapes push
-clear-at d p m [] h = refl
-clear-at d p m (b ∷ s) h =
-    let q = all-first (clearOf d) b s h in
-    let c = both (ltb b 256) (not (escapes d b)) (q .0) in
-    let n = neither (eqb b (d .escape)) (eqb b (d .sub)) (not-true (escapes d b) (c .1)) in
-    let far : (a : ℕ) → a < 256 → eqb b a ≡ false → eqb (mark m b) a ≡ false = λ a k e. met-as m b a k ∙ ap (λ t. isOne m && t) e ∙ and-false (isOne m) in
-    cc (
-      far (d .escape) (omega (arith, p .escape .high)) (n .0),
-      far (d .sub) (omega (arith, p .sub .high)) (n .1),
-      byte-met m b (ltb-true b 256 (c .0)),
-      clear-at d p (step 0x0D m b) s (q .1),
-    )
 
 -- ---- a value is no longer than its component
 push-short : (x : ℕ) (o : Option (List ℕ)) (v : List ℕ) (n : ℕ) → push x o ≡ some v → ((w : List ℕ) → o ≡ some w → length w ≤ n) → length v ≤ suc n
@@ -137,9 +103,16 @@ module _ (d : Delims) (raw : List ℕ) where
     pub value-within : Filled r x (plainOf d (met raw)) out → r ≤ length raw
     value-within f = omega (arith, f .ends, plain-short)
 
-    pub value-clear : (t : Bool) → Proper d → t ≡ all (clearOf d) raw → t ≡ true → Filled r x raw out → Filled r x (plainOf d (met raw)) out
-    unfolding unescapedOr unescape met
-    value-clear t p e h f = rw (clear-at d p One raw (sym e ∙ h)) f
+    pub value-clean : (n : ℕ) (q : Bool) → CutOf d raw n q → (q && eqb n (length raw)) ≡ true → Filled r x raw out → Filled r x (plainOf d (met raw)) out
+    unfolding unescapedOr unescape
+    value-clean n q c h f =
+        let b = both q (eqb n (length raw)) h in
+        let k : n ≡ length raw = eqb-true n (length raw) (b .1) in
+        let whole : until (ends d) (met raw) ≡ met raw
+        = sym (take-until (ends d) (met raw)) ∙ take-all (length (until (ends d) (met raw))) (met raw) (omega (arith, c .long, length-met raw)) in
+        let a : plainText d (met raw) ≡ true = ap (plainText d) (sym whole) ∙ sym (c .plain) ∙ b .0 in
+        let v : map byteOf (met raw) ≡ raw = ap (map byteOf) (sym whole) ∙ c .raw ∙ take-all n raw (omega arith) in
+        rw (clean-at d (met raw) a, v) f
 
     pub value-got : (u : Unescaped) (n : ℕ) (buf : List ℕ) → u ≡ Got n → Fits u (unescape d (met raw)) buf → Filled r x (take n buf) out → Filled r x (plainOf d (met raw)) out
     unfolding unescapedOr

@@ -1,14 +1,11 @@
 -- Writing as far as a lent buffer reaches. A write tells how long its text is, so that a write into nothing measures it.
 use mathlib.Core.Path.{_≡_}
-use mathlib.Core.Bool.{Bool, true, false, not, _&&_}
 use mathlib.Core.List.{List, [], _∷_, _++_}
 use Prim.Native.Nat.{ℕ, zero, suc, _+_}
-use lib.Dec.{ltb}
 use lib.ListN.{length, take, drop}
 use Rattle.rules.specs.declared.Delims.{Delims}
 use Rattle.rules.specs.Lists.{ended}
 use Rattle.rules.specs.Judge.{plainOf}
-use Rattle.scan.specs.Scan.{escapes}
 use Rattle.judge.specs.Judge.{fill}
 
 -- the lesser of two numbers
@@ -21,10 +18,6 @@ least (suc a) (suc n) = suc (least a n)
 pub record Filled (r : ℕ) (x w old : List ℕ) : Type 0 where
   pub ends : r ≡ length w
   pub is : x ≡ fill w old
-
--- a byte that stands for itself in any mode
-unfoldable pub clearOf : Delims → ℕ → Bool
-clearOf d b = ltb b 256 && not (escapes d b)
 
 -- a text b over x from at on, as far as x reaches: it ends at r, and leaves y
 unfoldable pub fillAt : ℕ → List ℕ → List ℕ → List ℕ

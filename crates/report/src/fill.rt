@@ -5,11 +5,10 @@ ghost use mathlib.Core.Path.{_≡_};
 ghost use mathlib.Core.List.{[], _∷_};
 ghost use Prim.Native.Nat.{_+_, _≤_, _<_};
 ghost use lib.ListN.{length};
-ghost use Rattle.rules.specs.Lists.{all};
 ghost use Rattle.rules.specs.Shift.{met};
 ghost use Rattle.rules.specs.Judge.{plainOf};
 ghost use Rattle.scan.specs.Scan.{Proper};
-ghost use Rattle.report.specs.Fill.{least, Filled, clearOf, Added, Lined, keyed};
+ghost use Rattle.report.specs.Fill.{least, Filled, Added, Lined, keyed};
 
 // The lesser of two numbers.
 pub fn lesser(a: usize, b: usize) -> usize
@@ -28,33 +27,14 @@ fn put(out: &mut [u8], bytes: &[u8]) -> usize
     bytes.len()
 }
 
-// Whether a byte stands for itself in any mode.
-fn clear(b: u8, d: Delims) -> bool
-    ensures { λ r. ⌜ r ≡ clearOf d b ⌝ }
-{
-    (b != d.escape) & (b != d.sub)
-}
-
-fn all_clear(raw: &[u8], d: Delims) -> bool
-    ensures { λ r. ⌜ r ≡ all (clearOf d) (now (raw .entry)) ⌝ }
-{
-    let mut i = 0;
-    while i < raw.len() {
-        if !clear(raw[i], d) {
-            return false;
-        }
-        i += 1;
-    }
-    true
-}
-
 // A component of a segment without its escapes; nothing where it has a bad one.
 pub fn plain(out: &mut [u8], raw: &[u8], d: Delims) -> usize
     requires { ⌜ Proper d × (length (now raw) ≤ 4096) ⌝ }
     ensures { λ r. ⌜ Filled r (now (out .exit)) (plainOf d (met (now (raw .entry)))) (now (out .entry)) ⌝ }
     ensures within { λ r. ⌜ r ≤ length (now (raw .entry)) ⌝ }
 {
-    if all_clear(raw, d) {
+    let c = scan::first(raw, d);
+    if c.clean & (c.len == raw.len()) {
         return put(out, raw);
     }
     let mut buf = [0u8; 4096];

@@ -1,12 +1,12 @@
 -- `report::fill::plain` meets its contract.
 use borrow.Author.Needs.{needs}
 use Rattle.rules.proofs.Lists.{part-length}
-use Rattle.report.proofs.Filling.{value-clear, got-within, value-got, got-short, value-faulty, value-over}
+use Rattle.report.proofs.Filling.{value-clean, got-within, value-got, got-short, value-faulty, value-over}
 use Rattle.report.proofs.fill.plain.Statement.{statement}
 use Rattle.report.proofs.fill.plain.Tie as tie
 
-all-clear-requires : tie.Need-all-clear-requires
-all-clear-requires c κs = search needs
+first-requires : tie.Need-first-requires
+first-requires c κs = search needs
 
 put-requires : tie.Need-put-requires
 put-requires c κs = search needs
@@ -15,7 +15,7 @@ same-length : tie.Need-same-length
 same-length c = search needs
 
 returns : tie.Need-returns
-returns c = (search (value-clear, needs), search needs)
+returns c = (search (value-clean, needs), search needs)
 
 slice-aggregate-unescape-into : tie.Need-slice-aggregate-unescape-into
 slice-aggregate-unescape-into c = search needs
@@ -57,7 +57,7 @@ pub plain-spec : {M : Type 1} → statement M
 plain-spec =
     tie.close
     (tie.spec
-    all-clear-requires
+    first-requires
     put-requires
     same-length
     returns
