@@ -1,7 +1,6 @@
 // Checks the message on standard input: prints the counts of its specimens, orders and results, or its refusal in three lines.
 use rules::Answer;
 use rules::Counts;
-use rules::Refusal;
 
 fn main() {
     // one byte past the limit, so that a longer message gives 10
@@ -13,7 +12,7 @@ fn main() {
 fn show(answer: Answer) {
     match answer {
         Answer::Accepted(counts) => show_counts(counts),
-        Answer::Refused(refusal) => show_refusal(refusal),
+        Answer::Refused(refusal) => told::show_message_refusal(refusal),
     }
 }
 
@@ -21,13 +20,6 @@ fn show_counts(counts: Counts) {
     line(b"spm=", counts.spm);
     line(b"obr=", counts.obr);
     line(b"obx=", counts.obx);
-}
-
-fn show_refusal(refusal: Refusal) {
-    let kind = refusal.kind;
-    line(b"refused=", rules::paper_number(kind));
-    line(b"segment=", refusal.segment);
-    line(b"field=", refusal.field);
 }
 
 fn line(key: &[u8], value: usize) {

@@ -36,6 +36,7 @@ use Rattle.rules.proofs.Modes.{length-met, take-marks}
 use Rattle.rules.proofs.Header.{header}
 use Rattle.rules.proofs.Pieces.{start-first}
 use Rattle.rules.proofs.Where.{framed}
+use Rattle.rules.proofs.Header as Header
 use Rattle.scan.specs.Scan.{until, is, Printable, Proper}
 use Rattle.scan.proofs.Laws.{until-yes, until-no, until-nil, take-until, after-drop}
 use Rattle.scan.proofs.Walk.{past-next}
@@ -329,7 +330,7 @@ module _ (m : List ℕ) (t : Bool) (et : t ≡ headerOk m) (n : not t ≡ false)
       both (leb 9 (length m) && starts (bytes "MSH") m) (delimsOk (delimsOf m)) (a .0) .1
 
   pub headed-proper : (d : Delims) → d ≡ delimsOf m → Proper d
-  headed-proper d e = rw e (proper (delimsOf m) headed-delims)
+  headed-proper d e = rw e (proper (delimsOf m) (Header.proper (delimsOf m) headed-delims))
 
 pub asks-field : (f c : ℕ) → (eqb f 0 || eqb c 0) ≡ false → 1 ≤ f
 asks-field f c h = omega (arith, eqb-false f 0 (neither (eqb f 0) (eqb c 0) h .0))

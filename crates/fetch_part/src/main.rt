@@ -1,7 +1,6 @@
 // Fetches a part of the message on standard input, by its ordinal, field and component, the three arguments: prints its bytes and 0A, or
 // the refusal in three lines.
 use rules::Fetched;
-use rules::Refusal;
 
 fn main() {
     if os::arg_count() == 4 {
@@ -87,19 +86,6 @@ fn part(ordinal: usize, field: usize, component: usize) {
             io::write_all(1, fetch::bytes_of(m, answer));
             io::write_all(1, b"\n");
         }
-        Fetched::NotFetched(refusal) => show_refusal(refusal),
+        Fetched::NotFetched(refusal) => told::show_message_refusal(refusal),
     }
-}
-
-fn show_refusal(refusal: Refusal) {
-    let kind = refusal.kind;
-    line(b"refused=", rules::paper_number(kind));
-    line(b"segment=", refusal.segment);
-    line(b"field=", refusal.field);
-}
-
-fn line(key: &[u8], value: usize) {
-    io::write_all(1, key);
-    io::print_decimal(1, value as u64);
-    io::write_all(1, b"\n");
 }

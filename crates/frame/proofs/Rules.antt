@@ -145,7 +145,7 @@ module _ (d : Delims) (h : Header.Proper d) (p : ℕ → Bool) (g : all (λ b. n
   none-of =
       cc (not-one (d .field) (h .field), not-one (d .component) (h .component), not-one (d .sub) (h .sub), not-one (d .repetition) (h .repetition), not-one (d .escape) (h .escape))
 
-proper : (d : Delims) → Header.Proper d → Proper d
+pub proper : (d : Delims) → Header.Proper d → Proper d
 unfolding all bytes
 proper d h = record {
   field = printable (d .field) (h .field);

@@ -27,7 +27,7 @@ use Rattle.value.specs.declared.Place.the-variants.{Unread, Must, May}
 use Rattle.value.specs.declared.Rule.{Rule as Coded}
 use Rattle.value.specs.declared.Rule.the-variants.{Time, Date, Number, Text, Digits, Capitals, OneOf}
 use Rattle.value.specs.Rules.{faultNo, fineOf, ruleOf, textOf}
-use Rattle.value.proofs.Laws.{split-last, split-more}
+use Rattle.value.proofs.Laws.{split-last, split-more, fine-zero, fault-some}
 use Rattle.lines.specs.declared.Verdict.{Verdict}
 use Rattle.lines.specs.declared.Verdict.the-variants.{Fine, Key, Value}
 use Rattle.lines.specs.Lines.{fitsPlace, fourOf, joinedOk, andThen, isFine, toldOf, lineAs, lineVerdict, verdict, groupVerdict, valuesFrom, groupValues, nextGroup}
@@ -177,8 +177,10 @@ module _ (before : Verdict) (k : ℕ) (key : List ℕ) (good : Bool) (l t : List
     line-good j b g = g ∙ rw (← e, ← f, not-false q h, null, j, not-false good b)
 
 pub keeps-is : (f : Fault) (x : ℕ) (r : Bool) → r ≡ fineOf f → faultNo f ≡ x → r ≡ eqb x 0
-unfolding fineOf
-keeps-is f x r e h = e ∙ ap (λ (n : ℕ). eqb n 0) h
+keeps-is f x r e h =
+    cases (fineOf f)
+    (λ y. e ∙ y ∙ sym (eq-eqb x 0 (sym h ∙ fine-zero f y)))
+    (λ y. e ∙ y ∙ sym (ne-eqb x 0 (λ z. absurd (omega (arith, h, z, fault-some f y)))))
 
 module _ (place : Place) (v : List ℕ) where
   pub fits-unread : place ≡ Unread → true ≡ fitsPlace place v

@@ -1,5 +1,4 @@
 // Turns the message on standard input into its sheet on standard output; prints its refusal in three lines instead.
-use rules::Refusal;
 use rules::Written;
 
 fn main() {
@@ -16,19 +15,6 @@ fn convert(message: &[u8], lines: &mut [u8]) {
         Written::Wrote(k) => {
             io::write_all(1, &lines[..k]);
         }
-        Written::NotWritten(refusal) => show_refusal(refusal),
+        Written::NotWritten(refusal) => told::show_message_refusal(refusal),
     }
-}
-
-fn show_refusal(refusal: Refusal) {
-    let kind = refusal.kind;
-    line(b"refused=", rules::paper_number(kind));
-    line(b"segment=", refusal.segment);
-    line(b"field=", refusal.field);
-}
-
-fn line(key: &[u8], value: usize) {
-    io::write_all(1, key);
-    io::print_decimal(1, value as u64);
-    io::write_all(1, b"\n");
 }

@@ -12,19 +12,20 @@ use lib.ListN.{length, take, drop, length-append}
 use lib.Seq.{take-all, length-take-le}
 use Rattle.rules.specs.declared.Delims.{Delims}
 use Rattle.rules.specs.declared.Mode.the-variants.{One}
-use Rattle.rules.specs.Lists.{all, ended}
+use Rattle.rules.specs.Lists.{ended}
 use Rattle.rules.specs.Shift.{met, byteOf}
 use Rattle.rules.specs.Escape.{At, plain, opened, named, letters, meaning, push, unescapeAt, unescape}
 use Rattle.rules.specs.Judge.{plainOf, unescapedOr}
 use Rattle.rules.proofs.Logic.{cases, optionCases, both}
 use Rattle.rules.proofs.Lists.{over, rest-is}
 use Rattle.rules.proofs.Split.{ended-append}
-use Rattle.rules.proofs.Modes.{length-marks}
-use Rattle.scan.specs.Scan.{escapes, plainText, CutOf}
-use Rattle.judge.specs.Judge.{fill, Raw, Whole, Longer, Fits}
+use Rattle.rules.proofs.Modes.{length-marks, length-met}
+use Rattle.scan.specs.Scan.{until, ends, plainText, CutOf}
+use Rattle.scan.proofs.Laws.{take-until}
+use Rattle.judge.proofs.Laws.{clean-at}
+use Rattle.judge.specs.Judge.{fill, Whole, Longer, Fits}
 use Rattle.judge.specs.declared.Unescaped.{Unescaped}
 use Rattle.judge.specs.declared.Unescaped.the-variants.{Got, Faulty, Over}
-use Rattle.closed.proofs.Laws.{head-raw}
 use Rattle.writer.specs.Over.{Wrote}
 use Rattle.writer.specs.Over as W
 use Rattle.writer.proofs.Laws.{tail-none}
@@ -59,15 +60,6 @@ put-fills s old x n k e h w = record {
 
 pub prefix-room : (s old : List ℕ) (n : ℕ) → (n ≤ length s) × (n ≤ length old) → length (take n s) ≤ length old
 prefix-room s old n h = omega (arith, length-take-le n s (h .0), h .1)
-
--- ---- a component that stands for itself
-plain-at : (d : Delims) (m : List ℕ) → plainText d m ≡ true → unescapeAt d plain m ≡ some (map byteOf m)
-unfolding unescapeAt plainText all escapes push
-plain-at d [] h = refl
-plain-at d (x ∷ m) h =
-    cases (eqb x (d .escape))
-    (λ e. cc)
-    (λ e. cases (eqb x (d .sub)) (λ f. cc) (λ f. cc (plain-at d m (rw (e, f, all) at h))))
 
 -- ---- a value is no longer than its component
 push-short : (x : ℕ) (o : Option (List ℕ)) (v : List ℕ) (n : ℕ) → push x o ≡ some v → ((w : List ℕ) → o ≡ some w → length w ≤ n) → length v ≤ suc n
@@ -111,14 +103,16 @@ module _ (d : Delims) (raw : List ℕ) where
     pub value-within : Filled r x (plainOf d (met raw)) out → r ≤ length raw
     value-within f = omega (arith, f .ends, plain-short)
 
-    pub value-clean : (len : ℕ) (clean : Bool) → CutOf d raw len clean → (clean && eqb len (length raw)) ≡ true → Filled r x raw out → Filled r x (plainOf d (met raw)) out
+    pub value-clean : (n : ℕ) (q : Bool) → CutOf d raw n q → (q && eqb n (length raw)) ≡ true → Filled r x raw out → Filled r x (plainOf d (met raw)) out
     unfolding unescapedOr unescape
-    value-clean len clean c h f =
-        let q = both clean (eqb len (length raw)) h in
-        let n : len ≡ length raw = eqb-true len (length raw) (q .1) in
-        let all-of : take len raw ≡ raw = take-all len raw (omega arith) in
-        let w : Raw d raw clean = subst (λ (l : List ℕ). Raw d l clean) all-of (head-raw d raw len clean c) in
-        rw (plain-at d (met raw) (sym (w .plain) ∙ q .0), w .bytes) f
+    value-clean n q c h f =
+        let b = both q (eqb n (length raw)) h in
+        let k : n ≡ length raw = eqb-true n (length raw) (b .1) in
+        let whole : until (ends d) (met raw) ≡ met raw
+        = sym (take-until (ends d) (met raw)) ∙ take-all (length (until (ends d) (met raw))) (met raw) (omega (arith, c .long, length-met raw)) in
+        let a : plainText d (met raw) ≡ true = ap (plainText d) (sym whole) ∙ sym (c .plain) ∙ b .0 in
+        let v : map byteOf (met raw) ≡ raw = ap (map byteOf) (sym whole) ∙ c .raw ∙ take-all n raw (omega arith) in
+        rw (clean-at d (met raw) a, v) f
 
     pub value-got : (u : Unescaped) (n : ℕ) (buf : List ℕ) → u ≡ Got n → Fits u (unescape d (met raw)) buf → Filled r x (take n buf) out → Filled r x (plainOf d (met raw)) out
     unfolding unescapedOr

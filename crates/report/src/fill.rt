@@ -33,9 +33,8 @@ pub fn plain(out: &mut [u8], raw: &[u8], d: Delims) -> usize
     ensures { λ r. ⌜ Filled r (now (out .exit)) (plainOf d (met (now (raw .entry)))) (now (out .entry)) ⌝ }
     ensures within { λ r. ⌜ r ≤ length (now (raw .entry)) ⌝ }
 {
-    let cut = scan::first(raw, d);
-    let whole = cut.len == raw.len();
-    if cut.clean & whole {
+    let c = scan::first(raw, d);
+    if c.clean & (c.len == raw.len()) {
         return put(out, raw);
     }
     let mut buf = [0u8; 4096];

@@ -7,13 +7,14 @@ use native.Mathlib.Nat.{div-lt-iff-lt-mul}
 use native.Mathlib.Omega.{arith}
 use borrow.Author.Tests.{ltb-true, ltb-false}
 use lib.Dec.{ltb}
-use lib.ListN.{length, length-append}
+use lib.ListN.{length, take, drop, length-append}
 use Rattle.rules.specs.declared.Refusal.{Refusal}
 use Rattle.rules.specs.Told.{number}
 use Rattle.rules.specs.Lists.{bytes}
 use Rattle.rules.specs.Message.{decimal}
 use Rattle.rules.proofs.Logic.{cases}
-use Rattle.writer.specs.Over.{Wrote, Put}
+use Rattle.rules.proofs.Lists.{part-length}
+use Rattle.writer.specs.Over.{over, Wrote, Put}
 use Rattle.writer.proofs.Laws.{then}
 use Rattle.writer.proofs.Decimals.{decimal-one, decimal-more-length}
 use Rattle.told.specs.Told.{lineText, refusalText}
@@ -34,6 +35,14 @@ few (suc c) n h =
 pub number-short : (n : ℕ) → n < 18446744073709551616 → length (decimal n) ≤ 20
 unfolding tens
 number-short n h = few 19 n (omega arith)
+
+-- ---- what was written lies at the front
+pub wrote-within : (r : ℕ) (x w old : List ℕ) → Wrote r x w old → r ≤ length x
+unfolding over
+wrote-within r x w old p = omega (arith, p .ends, ap length (p .is), length-append w (drop (length w) old))
+
+pub wrote-front : (r : ℕ) (x w old : List ℕ) → Wrote r x w old → r ≡ length (take r x)
+wrote-front r x w old p = part-length r x (wrote-within r x w old p)
 
 -- ---- a line
 module _ (key : List ℕ) (n : ℕ) (old x y z : List ℕ) (k m r : ℕ) (a : Wrote k x key old) (b : Put k x (decimal n) m y) (c : Put m y (0x0A ∷ []) r z) where

@@ -7,10 +7,22 @@ ghost use Rattle.rules.specs.Lists.{bytes};
 ghost use Rattle.writer.specs.Over.{Wrote, Put};
 ghost use Rattle.told.specs.Told.{lineText, refusalText};
 
+// Prints a message's refusal, and a sheet's.
+pub fn show_message_refusal(refusal: Refusal) {
+    let mut lines = [0u8; 96];
+    let n = of_message(&mut lines, refusal);
+    io::write_all(1, &lines[..n]);
+}
+
+pub fn show_sheet_refusal(refusal: Refusal) {
+    let mut lines = [0u8; 96];
+    let n = of_sheet(&mut lines, refusal);
+    io::write_all(1, &lines[..n]);
+}
+
 // A message's refusal names its segment.
 pub fn of_message(out: &mut [u8; 96], refusal: Refusal) -> usize
     ensures { λ r. ⌜ Wrote r (now (out .exit)) (refusalText (bytes "segment=") refusal) (now (out .entry)) ⌝ }
-    ensures within { λ r. ⌜ r ≤ 96 ⌝ }
 {
     three(out, b"segment=", refusal)
 }
@@ -18,7 +30,6 @@ pub fn of_message(out: &mut [u8; 96], refusal: Refusal) -> usize
 // A sheet's refusal names its line.
 pub fn of_sheet(out: &mut [u8; 96], refusal: Refusal) -> usize
     ensures { λ r. ⌜ Wrote r (now (out .exit)) (refusalText (bytes "line=") refusal) (now (out .entry)) ⌝ }
-    ensures within { λ r. ⌜ r ≤ 96 ⌝ }
 {
     three(out, b"line=", refusal)
 }
@@ -26,7 +37,6 @@ pub fn of_sheet(out: &mut [u8; 96], refusal: Refusal) -> usize
 fn three(out: &mut [u8], place: &[u8], refusal: Refusal) -> usize
     requires { ⌜ (96 ≤ length (now out)) × (length (now place) ≤ 8) ⌝ }
     ensures { λ r. ⌜ Wrote r (now (out .exit)) (refusalText (now (place .entry)) refusal) (now (out .entry)) ⌝ }
-    ensures within { λ r. ⌜ r ≤ 96 ⌝ }
 {
     let kind = refusal.kind;
     let number = rules::paper_number(kind);

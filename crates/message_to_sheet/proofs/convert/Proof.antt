@@ -23,8 +23,8 @@ write-all-requires c κs = search needs
 enum-known-refusal : tie.Need-enum-known-refusal
 enum-known-refusal c = search needs
 
-show-refusal-requires : tie.Need-show-refusal-requires
-show-refusal-requires c κs = search needs
+show-message-refusal-requires : tie.Need-show-message-refusal-requires
+show-message-refusal-requires c κs = search needs
 
 same-length : tie.Need-same-length
 same-length c = search needs
@@ -48,7 +48,7 @@ convert-spec =
     slice-aggregate-write-all
     write-all-requires
     enum-known-refusal
-    show-refusal-requires
+    show-message-refusal-requires
     same-length
     returns
     same-length-2

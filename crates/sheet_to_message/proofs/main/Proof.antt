@@ -37,8 +37,8 @@ show-requires c κs = search needs
 enum-known-refusal : tie.Need-enum-known-refusal
 enum-known-refusal c = search needs
 
-show-refusal-requires : tie.Need-show-refusal-requires
-show-refusal-requires c κs = search needs
+show-sheet-refusal-requires : tie.Need-show-sheet-refusal-requires
+show-sheet-refusal-requires c κs = search needs
 
 returns : tie.Need-returns
 returns c = search needs
@@ -61,6 +61,6 @@ main-spec =
     slice-aggregate-show
     show-requires
     enum-known-refusal
-    show-refusal-requires
+    show-sheet-refusal-requires
     returns
     returns-2)
