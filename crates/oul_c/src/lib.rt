@@ -30,7 +30,13 @@ pub extern "C" fn oul_check(m: &[u8], told: &mut [usize; 3]) -> usize
 
 // Where a part of a message starts, and how long it is.
 #[no_mangle]
-pub extern "C" fn oul_locate(m: &[u8], ordinal: usize, field: usize, component: usize, told: &mut [usize; 3]) -> usize
+pub extern "C" fn oul_locate(
+    m: &[u8],
+    ordinal: usize,
+    field: usize,
+    component: usize,
+    told: &mut [usize; 3],
+) -> usize
     ensures { λ r. ⌜ r ≡ numberOf (fetchTold (now (m .entry)) ordinal field component) ⌝ }
     ensures { λ _. ⌜ now (told .exit) ≡ stretchOf (fetchTold (now (m .entry)) ordinal field component) ⌝ }
 {
