@@ -13,7 +13,7 @@ use Rattle.rules.proofs.Logic.{cases, never, neither, or-false}
 use Rattle.rules.proofs.Lists.{has-nil, has-here, has-there, has-first}
 use Rattle.rules.proofs.Split.{split-nil, split-here, split-there, split-none, pieces-length}
 use Rattle.scan.specs.Scan.{until, is, ends, after, onward, next, nextFrom, Proper}
-use Rattle.scan.proofs.Laws.{until-yes, until-no, until-nil}
+use Rattle.scan.proofs.Laws.{until-yes, until-no, until-nil, first-piece}
 use Rattle.closed.specs.Closed.{endsRepetition, forward}
 
 -- ---- the n-th piece
@@ -26,11 +26,6 @@ onto-tail : (x n : ℕ) (ps : List (List ℕ)) → nth (onto x ps) (suc n) ≡ n
 unfolding onto
 onto-tail x n [] = refl
 onto-tail x n (p ∷ ps) = refl
-
-pub first-piece : (sep : ℕ) (s : List ℕ) → nth (split sep s) 0 ≡ until (is sep) s
-unfolding split until
-first-piece sep [] = refl
-first-piece sep (x ∷ s) = cases (eqb x sep) (λ e. cc) (λ e. cc (onto-head x (split sep s), first-piece sep s))
 
 blank-piece : (n : ℕ) → nth ([] ∷ []) n ≡ []
 blank-piece zero = refl

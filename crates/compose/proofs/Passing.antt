@@ -1,8 +1,8 @@
 -- What a pass over a sheet keeps from group to group, and what it tells at its end. Assumes nothing.
 use mathlib.Core.Path.{_≡_, refl, sym, ap, _∙_}
 use mathlib.Core.Bool.{Bool, true, false, cond, not}
-use mathlib.Core.List.{List, [], _∷_, _++_, append-assoc, append-nil}
-use Prim.Native.Nat.{ℕ, zero, suc, _+_, _-_, _*_, _≤_, _<_}
+use mathlib.Core.List.{List, [], _∷_, _++_, append-assoc}
+use Prim.Native.Nat.{ℕ, _+_, _-_, _*_, _≤_, _<_}
 use native.Mathlib.Omega.{arith}
 use lib.ListN.{length, take, drop, length-append, length-drop}
 use lib.Seq.{drop-drop}
@@ -17,18 +17,18 @@ use Rattle.rules.specs.Frame.{is}
 use Rattle.rules.specs.Row.{lines, Row, rowOf}
 use Rattle.rules.specs.Sheet.{rowsTold, linesOf}
 use Rattle.rules.specs.Message.{written, messageOf}
-use Rattle.rules.proofs.Logic.{cases, never, not-true, not-false, toldCases, zeroCases}
-use Rattle.rules.proofs.Lists.{here, rest-is, empty-is, empty-zero, filled-some}
-use Rattle.writer.specs.Over.{over, overAt, Wrote, Put}
+use Rattle.rules.proofs.Logic.{never, not-true, not-false, zeroCases}
+use Rattle.rules.proofs.Lists.{here, rest-is, empty-is, empty-zero}
+use Rattle.writer.specs.Over.{over, Wrote, Put}
 use Rattle.writer.proofs.Laws.{then}
 use Rattle.lines.specs.declared.Verdict.{Verdict}
 use Rattle.lines.specs.declared.Verdict.the-variants.{Fine, Key as WrongKey, Value}
-use Rattle.lines.specs.Lines.{isFine, indexOf, toldOf, verdict, groupVerdict, valuesFrom, groupValues, nextGroup}
+use Rattle.lines.specs.Lines.{isFine, indexOf, toldOf, verdict, groupVerdict, groupValues, nextGroup}
 use Rattle.lines.proofs.Groups.{verdict-told, next-told, group-index}
 use Rattle.compose.specs.declared.Size.{Size}
 use Rattle.compose.specs.declared.Passed.{Passed}
 use Rattle.compose.specs.declared.Passed.the-variants.{All, Not}
-use Rattle.compose.specs.Compose.{rowsText, groupText, specimensWith, resultsWith, segmentsOf, isValue, Added, toldSize, refusalAt, sizeOf, rowsIn, Pass}
+use Rattle.compose.specs.Compose.{rowsText, groupText, specimensWith, resultsWith, segmentsOf, isValue, Added, toldSize, refusalAt, rowsIn, Pass}
 use Rattle.compose.proofs.Messages.{specimensIn, resultsIn, message-append, segments-append, segments-in, message-none, segments-none, specimens-append, results-append, specimens-in, results-in}
 
 -- behind the group g at the place at, whose next line has the number line: what is done, and what is still to be told
@@ -103,9 +103,6 @@ index-low v h ts e = rw e (group-index h ts)
 
 pub rest-size : (s : List ℕ) (at : ℕ) → length (take (length s - at) (drop at s)) ≡ length s - at
 rest-size s at = ap length (rest-is s at) ∙ length-drop at s
-
-pub rest-short : (s : List ℕ) (at b : ℕ) → length s ≤ b → length (take (length s - at) (drop at s)) ≤ b
-rest-short s at b h = omega (arith, ap length (rest-is s at), length-drop at s)
 
 pub begins : (d : Delims) (s out : List ℕ) → Passing d s out Other 0 1 0 0 0 0 out
 unfolding rowOf specimensIn resultsIn over

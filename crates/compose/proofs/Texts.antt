@@ -1,30 +1,29 @@
 -- The text of each group is what its pattern says. Assumes nothing.
 use mathlib.Core.Path.{_≡_, refl, sym, ap, _∙_}
-use mathlib.Core.Bool.{Bool, true, false, cond, not, _&&_}
-use mathlib.Core.List.{List, [], _∷_, _++_, map, append-assoc, append-nil}
-use Prim.Native.Nat.{ℕ, suc, _+_, _-_, _/_, _≤_, _<_}
+use mathlib.Core.Bool.{Bool, true, false, not, _&&_}
+use mathlib.Core.List.{List, [], _∷_, _++_, append-assoc, append-nil}
+use Prim.Native.Nat.{ℕ, suc, _+_, _-_, _≤_}
 use native.Mathlib.Numerals.{add-one}
 use native.Mathlib.Omega.{arith}
-use lib.Dec.{eqb, ltb, leb}
+use lib.Dec.{eqb, leb}
 use lib.ListN.{length, take, drop, length-append, length-drop, length-take}
-use lib.Seq.{take-at, length-take-le}
+use lib.Seq.{length-take-le}
 use denote.Ref.{RefT}
-use borrow.Author.Tests.{eqb-true, eq-eqb, ltb-true, ltb-false, le-leb, leb-true}
+use borrow.Author.Tests.{eqb-true, eq-eqb, le-leb, leb-true}
 use Rattle.rules.specs.declared.Delims.{Delims}
 use Rattle.rules.specs.declared.Name.{Name}
 use Rattle.rules.specs.declared.Name.the-variants.{Msh, Pid, Pv1, Spm, Obr, Orc, Obx, Other}
 use Rattle.rules.specs.Lists.{bytes, empty, nth, same, join, led, ended}
 use Rattle.rules.specs.Frame.{spelling, is}
-use Rattle.rules.specs.Escape.{escape}
 use Rattle.rules.specs.Row.{line, lines, rowOf}
 use Rattle.rules.specs.Sheet.{keyOf}
 use Rattle.rules.specs.Message.{decimal, composed, blanks, encoding, nameText, namesText, valueText, piecesOf, specimens, results, pieces, segmentText}
 use Rattle.rules.proofs.Logic.{both, cases, and-false, never}
 use Rattle.rules.proofs.Lists.{empty-zero, filled-some}
-use Rattle.writer.specs.Over.{over, overAt, Wrote, Put, fitted, Fit}
-use Rattle.writer.proofs.Laws.{back}
-use Rattle.writer.specs.Woven.{delimiterOf, taken, slotText, firstText, woven, holes, sizes}
-use Rattle.writer.proofs.Decimals.{decimal-one, decimal-more-length}
+use Rattle.rules.proofs.Measures.{tens, decimal-few}
+use Rattle.writer.specs.Over.{over, overAt, Wrote, fitted, Fit}
+use Rattle.writer.proofs.Laws.{back, front}
+use Rattle.writer.specs.Woven.{delimiterOf, taken, slotText, firstText, woven}
 use Rattle.lines.specs.Lines.{valuesFrom}
 use Rattle.compose.specs.Compose.{Named, rowsText, groupText, specimenText, resultText, specimensWith, resultsWith, segmentsOf, Added}
 
@@ -46,10 +45,6 @@ unfolding fitted over
 fit-none old = record { ends = refl; is = rw (le-leb 0 (length old) (omega arith)) }
 
 -- what was written, read back from the front
-pub front : {r : ℕ} {x w old : List ℕ} → Wrote r x w old → take r x ≡ w
-unfolding over
-front {r} {x} {w} {old} p = rw (p .is) (take-at w (drop (length w) old) r (sym (p .ends)))
-
 module _ (d : Delims) (ts : List (List ℕ)) (r : ℕ) (x old : List ℕ) where
   pub visit-is : (n a : RefT (List ℕ)) → Named (n .now) Pv1 → a .now ≡ drop 6 (nth ts 0)
       → Fit r x (woven d (35 ∷ 124 ∷ 124 ∷ 36 ∷ 13 ∷ []) (n ∷ a ∷ [])) old → Fit r x (groupText d 0 0 Pv1 ts) old
@@ -117,28 +112,12 @@ module _ (d : Delims) (r : ℕ) (x old : List ℕ) where
   result-is ts k n a b c e f g h i l m en ea eb ec ee ef eg eh ei el em p = let z : n ≡ decimal (suc k) = en ∙ ap decimal (add-one k) in fit-as (rw (z, ea, eb, ec, ee, ef, eg, eh, ei, el, em)) p
 
 -- ---- a number of at most five digits
-five : (n k : ℕ) → (10 ≤ n → length (decimal (n / 10)) ≤ k) → length (decimal n) ≤ k + 1
-five n k f =
-    cases (ltb n 10)
-    (λ e. omega (arith, ap length (decimal-one n (ltb-true n 10 e))))
-    (λ e. let h = ltb-false n 10 e in omega (arith, decimal-more-length n h, f h))
-
 pub number-short : (i : ℕ) → i ≤ 65536 → length (decimal (i + 1)) ≤ 5
-number-short i h =
-    let n = i + 1 in
-    five n 4 (λ a. five (n / 10) 3 (λ b. five (n / 10 / 10) 2 (λ c. five (n / 10 / 10 / 10) 1 (λ e.
-    let z : n / 10 / 10 / 10 / 10 < 10 = omega arith in
-    omega (arith, ap length (decimal-one (n / 10 / 10 / 10 / 10) z))))))
-
-pub front-is : (r : ℕ) (x w old : List ℕ) → Wrote r x w old → r ≡ length (take r x)
-front-is r x w old p = p .ends ∙ ap length (sym (front p))
+unfolding tens
+number-short i h = decimal-few 4 (i + 1) (omega arith)
 
 pub front-short : (r b : ℕ) (x w old : List ℕ) → Wrote r x w old → length w ≤ b → length (take r x) ≤ b
 front-short r b x w old p h = omega (arith, ap length (front p))
-
-pub front-within : (r : ℕ) (x w old : List ℕ) → Wrote r x w old → r ≤ length x
-unfolding over
-front-within r x w old p = omega (arith, p .ends, ap length (p .is) ∙ length-append w (drop (length w) old))
 
 pub number-size : (r n : ℕ) (x old : List ℕ) → Wrote r x (decimal (n + 1)) old → n ≤ 65536 → length (take r x) ≤ 65536
 number-size r n x old p h = omega (arith, ap length (front p), number-short n h)

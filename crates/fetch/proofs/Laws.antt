@@ -6,7 +6,7 @@ use Prim.Native.Nat.{ℕ, suc, _+_, _-_, _≤_, _<_}
 use native.Mathlib.Numerals.{add-one}
 use native.Mathlib.Omega.{arith}
 use borrow.Author.Tests.{eqb-false, eq-eqb, ne-eqb, lt-ltb, le-ltb, le-leb, lt-leb}
-use lib.Dec.{eqb, leb, ltb}
+use lib.Dec.{eqb, leb}
 use lib.ListN.{length, getD, take, drop, length-append, length-drop, List·getD-eq-default}
 use lib.Seq.{drop-drop, length-take-le}
 use Rattle.rules.specs.declared.Delims.{Delims}
@@ -22,7 +22,7 @@ use Rattle.rules.specs.declared.Fetched.the-variants.{At, NotFetched}
 use Rattle.rules.specs.declared.Kind.the-variants.{NoOrdinal, Zero}
 use Rattle.rules.specs.declared.Mode.the-variants.{One}
 use Rattle.rules.specs.Told.{Told, gives, refused, told, toldSpan, _>>_, _when_}
-use Rattle.rules.specs.Lists.{bytes, starts, nth, onto, split, allButLast}
+use Rattle.rules.specs.Lists.{bytes, starts, nth, split, allButLast}
 use Rattle.rules.specs.Shift.{marks, met}
 use Rattle.rules.specs.Frame.{delimsOf, delimsOk, headerOk, segments, nameOf, Known, knownFrom, known}
 use Rattle.rules.specs.Frame as Frame
@@ -31,14 +31,14 @@ use Rattle.rules.specs.View.{view, pieceOf, fieldOf, componentOf, firstRepetiti
 use Rattle.rules.specs.Fetch.{span, startOf, stretch, spanOf, ordinal, fetchTold, bytesAt, partTold}
 use Rattle.rules.proofs.Logic.{cases, zeroCases, both, neither, not-true, not-false}
 use Rattle.rules.proofs.Lists.{over, rest-is, take-own, nth-at}
-use Rattle.rules.proofs.Split.{front, later, split-nil, split-cons, split-here, split-there}
+use Rattle.rules.proofs.Split.{front, later, split-cons}
 use Rattle.rules.proofs.Modes.{length-met, take-marks}
 use Rattle.rules.proofs.Header.{header}
 use Rattle.rules.proofs.Pieces.{start-first}
 use Rattle.rules.proofs.Where.{framed}
 use Rattle.rules.proofs.Header as Header
 use Rattle.scan.specs.Scan.{until, is, Printable, Proper}
-use Rattle.scan.proofs.Laws.{until-yes, until-no, until-nil, take-until, after-drop}
+use Rattle.scan.proofs.Laws.{take-until, after-drop, first-piece}
 use Rattle.scan.proofs.Walk.{past-next}
 use Rattle.value.proofs.Laws.{split-last, split-more}
 use Rattle.frame.proofs.Laws.{segments-next}
@@ -56,14 +56,6 @@ next-met sep p u len e h =
     let k : suc len ≡ len + 1 = omega arith in
     ap (λ n. drop n (met u)) k ∙ sym (drop-drop 1 len (met u)) ∙ ap (λ n. drop 1 (drop n (met u))) e ∙ sym (after-drop sep (met u))
     ∙ sym (past-next u sep len p e (omega arith) (λ q. omega arith))
-
-first-piece : (sep : ℕ) (t : List ℕ) → nth (split sep t) 0 ≡ until (is sep) t
-unfolding onto
-first-piece sep [] = cc (split-nil sep, until-nil (is sep))
-first-piece sep (x ∷ t) =
-    cases (eqb x sep)
-    (λ e. cc (split-here sep x t e, until-yes (is sep) x t e))
-    (λ e. cc (split-there sep x t e, split-cons sep t, until-no (is sep) x t e, first-piece sep t))
 
 span-end : (ps : List (List ℕ)) (p : List ℕ) → span (ps ++ (p ∷ [])) ≡ span ps + suc (length p)
 unfolding span

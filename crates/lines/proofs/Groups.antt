@@ -1,25 +1,26 @@
 -- The verdict on a group's lines is what the definitions tell, and so is the group that comes next. Assumes nothing.
 use mathlib.Core.Path.{_≡_, refl, sym, ap, _∙_}
-use mathlib.Core.Bool.{Bool, true, false, cond, not, _&&_, _||_}
+use mathlib.Core.Bool.{Bool, true, false, cond, not}
 use mathlib.Core.List.{List, [], _∷_, _++_, append-assoc, append-nil}
 use Prim.Native.Nat.{ℕ, zero, suc, _+_, _≤_, _<_}
 use native.Mathlib.Omega.{arith}
 use native.Mathlib.Numerals.{add-one}
 use borrow.Author.Tests.{ltb-true, ltb-false}
-use lib.Dec.{eqb, ltb}
-use lib.ListN.{length, drop, getD}
+use lib.Dec.{ltb}
+use lib.ListN.{length, drop}
 use Rattle.rules.specs.declared.Name.{Name}
 use Rattle.rules.specs.declared.Name.the-variants.{Msh, Pid, Pv1, Spm, Obr, Orc, Obx, Other}
 use Rattle.rules.specs.Told.{Told, gives, refused, _>>=_}
-use Rattle.rules.specs.Lists.{bytes, empty, nth, same, starts}
-use Rattle.rules.specs.Frame.{is, after}
+use Rattle.rules.specs.Lists.{bytes, empty, nth, starts}
+use Rattle.rules.specs.Frame.{is}
 use Rattle.rules.specs.Row.{Line, line, lines, Row, rowOf}
 use Rattle.rules.specs.Sheet.{keyOf, lineOk, lineTold, nextGroups, opens, openedBy, rowsTold}
 use Rattle.rules.proofs.Logic.{cases}
 use Rattle.rules.proofs.Lists.{here, over}
+use Rattle.rules.proofs.Rows.{entered}
 use Rattle.lines.specs.declared.Verdict.{Verdict}
 use Rattle.lines.specs.declared.Verdict.the-variants.{Fine, Key, Value}
-use Rattle.lines.specs.Lines.{andThen, isFine, indexOf, toldOf, lineAs, lineVerdict, verdict, groupVerdict, valuesFrom, groupValues, nextGroup}
+use Rattle.lines.specs.Lines.{andThen, indexOf, toldOf, lineAs, lineVerdict, verdict, groupVerdict, valuesFrom, nextGroup}
 
 -- ---- a verdict once it is not fine
 stays-key : (k n : ℕ) (ls : List Line) (vs ts : List (List ℕ)) → verdict (Key k) ls vs n ts ≡ Key k
@@ -129,16 +130,6 @@ module _ (g : Name) (i : ℕ) (ts : List (List ℕ)) where
 bound : {A B D : Type 0} (x : Told A) (f : A → Told B) (k : B → Told D) → (x >>= λ a. f a >>= k) ≡ ((x >>= f) >>= k)
 bound (gives a) f k = refl
 bound (refused n s o) f k = refl
-
-entered : (g h : Name) (vs : List (List ℕ)) (i : ℕ) (t : List ℕ) (ts : List (List ℕ)) (l : Line) (ls : List Line) → openedBy i (nextGroups g) t ≡ gives h → lines h ≡ l ∷ ls
-    → rowsTold g [] vs i (t ∷ ts) ≡ (lineTold i l [] t >>= λ v. rowsTold h ls (v ∷ []) (suc i) ts >>= λ rows. gives (rowOf g vs ++ rows))
-unfolding rowsTold
-entered g h vs i t ts l ls o e =
-    rw o
-    (ap (λ (k : List Line). elim k [
-      | [] ↦ refused 42 i 0
-      | l ∷ ls ↦ lineTold i l [] t >>= λ v. rowsTold h ls (v ∷ []) (suc i) ts >>= λ rows. gives (rowOf g vs ++ rows)
-    ]) e)
 
 shut : (g : Name) (vs : List (List ℕ)) (i : ℕ) (t : List ℕ) (ts : List (List ℕ)) → openedBy i (nextGroups g) t ≡ refused 42 i 0 → rowsTold g [] vs i (t ∷ ts) ≡ refused 42 i 0
 unfolding rowsTold

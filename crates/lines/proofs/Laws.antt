@@ -1,15 +1,15 @@
 -- The laws of a sheet's lines and groups. Assumes nothing.
 use mathlib.Core.Path.{_≡_, refl, sym, subst, ap, _∙_}
 use mathlib.Core.Bool.{Bool, true, false, cond, not, _&&_, _||_}
-use mathlib.Core.List.{List, [], _∷_, _++_, append-assoc, append-nil}
-use Prim.Native.Nat.{ℕ, zero, suc, _+_, _-_, _≤_, _<_}
+use mathlib.Core.List.{List, [], _∷_}
+use Prim.Native.Nat.{ℕ, suc, _+_, _-_, _≤_, _<_}
 use native.Mathlib.Omega.{arith}
-use borrow.Author.Tests.{eq-eqb, ne-eqb, eqb-true, ltb-true, ltb-false}
-use lib.Dec.{eqb, ltb}
-use lib.ListN.{length, take, drop, getD, length-take, length-drop, drop-of-length-le}
-use lib.Seq.{drop-drop, take-all, length-take-le, getD-drop, drop-nil}
+use borrow.Author.Tests.{eq-eqb, ne-eqb, eqb-true}
+use lib.Dec.{eqb}
+use lib.ListN.{length, take, drop, length-take, length-drop, drop-of-length-le}
+use lib.Seq.{drop-drop, getD-drop}
 use Rattle.rules.specs.declared.Name.{Name}
-use Rattle.rules.specs.declared.Name.the-variants.{Msh, Pid, Pv1, Spm, Obr, Orc, Obx, Other}
+use Rattle.rules.specs.declared.Name.the-variants.{Msh, Pid, Pv1, Spm, Obr, Obx}
 use Rattle.rules.specs.Lists.{bytes, empty, filled, nth, same, starts, split, allButLast, isOneOf, any, onto}
 use Rattle.rules.specs.Value.{Rule, fault, fits, holds, tooLong, words, text, number}
 use Rattle.rules.specs.Places.{Four, valueRules, entryOf, entryIn, places}
@@ -30,7 +30,7 @@ use Rattle.value.specs.Rules.{faultNo, fineOf, ruleOf, textOf}
 use Rattle.value.proofs.Laws.{split-last, split-more, fine-zero, fault-some}
 use Rattle.lines.specs.declared.Verdict.{Verdict}
 use Rattle.lines.specs.declared.Verdict.the-variants.{Fine, Key, Value}
-use Rattle.lines.specs.Lines.{fitsPlace, fourOf, joinedOk, andThen, isFine, toldOf, lineAs, lineVerdict, verdict, groupVerdict, valuesFrom, groupValues, nextGroup}
+use Rattle.lines.specs.Lines.{fitsPlace, fourOf, joinedOk, andThen, isFine, lineAs, lineVerdict, verdict, groupVerdict, nextGroup}
 
 -- ---- lines by their 0A
 none : (s : List ℕ) → length (until (is 0x0A) s) ≡ length s → linesOf s ≡ []
@@ -120,12 +120,6 @@ pub skip-ends : (s : List ℕ) (at i n : ℕ) → linesOf (drop at s) ≡ drop i
 skip-ends s at i n e h g = let z : i ≡ n = omega arith in e ∙ ap (λ (k : ℕ). drop k (linesOf s)) z
 
 -- ---- a key
-pub short-not : (key t : List ℕ) → length t < length key → starts key t ≡ false
-unfolding starts
-short-not [] t h = absurd (omega arith)
-short-not (a ∷ key) [] h = refl
-short-not (a ∷ key) (b ∷ t) h = cases (eqb b a) (λ e. rw (e, starts) (short-not key t (omega arith))) (λ e. rw (e, starts))
-
 starts-front : (key t : List ℕ) → length key ≤ length t → same (take (length key) t) key ≡ starts key t
 unfolding starts same
 starts-front [] t h = refl

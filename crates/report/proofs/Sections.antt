@@ -21,10 +21,10 @@ use Rattle.rules.proofs.Logic.{cases}
 use Rattle.rules.proofs.Lists.{part-length}
 use Rattle.rules.proofs.Modes.{length-met}
 use Rattle.scan.specs.Scan.{until, is, ends, onward, next, TailOf, Proper}
-use Rattle.scan.proofs.Laws.{piece-met, onward-add}
+use Rattle.scan.proofs.Laws.{piece-met, onward-add, first-piece}
 use Rattle.judge.specs.Judge.{fill}
 use Rattle.closed.specs.Closed.{forward, MarkedOf}
-use Rattle.closed.proofs.Pieces.{first-piece, piece-at, onward-within, until-free, repetition-is, component-at}
+use Rattle.closed.proofs.Pieces.{piece-at, onward-within, until-free, repetition-is, component-at}
 use Rattle.closed.proofs.Laws.{last-within}
 use Rattle.report.specs.Fill.{Filled, Lined, keyed}
 use Rattle.report.proofs.Filling.{lined-then}

@@ -2,11 +2,10 @@
 use mathlib.Core.Path.{_≡_, refl}
 use mathlib.Core.Bool.{Bool, true, false, cond, not, _&&_, _||_}
 use mathlib.Core.List.{List, [], _∷_, _++_}
-use Prim.Native.Nat.{ℕ, zero, suc, _+_, _*_, _/_, _≤_, _<_}
-use native.Mathlib.Nat.{div-lt-iff-lt-mul}
+use Prim.Native.Nat.{ℕ, suc, _+_, _*_, _/_, _≤_, _<_}
 use native.Mathlib.Omega.{arith}
 use borrow.Author.Tests.{ltb-false, leb-true, eqb-true}
-use lib.Dec.{eqb, ltb, leb}
+use lib.Dec.{eqb, leb}
 use lib.ListN.{length, length-append}
 use Rattle.rules.specs.declared.Delims.{Delims}
 use Rattle.rules.specs.declared.Name.{Name}
@@ -20,12 +19,12 @@ use Rattle.rules.specs.Places.{places, entryIn, entryOf, valueRules}
 use Rattle.rules.specs.Judge.{isSN}
 use Rattle.rules.specs.Row.{line, lines, fourAt, Row, header, patient, visit, specimen, order, result, groupOf, values}
 use Rattle.rules.specs.Sheet.{valid}
-use Rattle.rules.specs.Message.{composed, blanks, encoding, decimal, decimalTo, nameText, namesText, valueText, Piece, piecesOf, specimens, results, pieces, segmentText}
+use Rattle.rules.specs.Message.{composed, blanks, encoding, decimal, nameText, namesText, valueText, Piece, piecesOf, specimens, results, pieces, segmentText}
 use Rattle.rules.proofs.Logic.{cases, both}
 use Rattle.rules.proofs.Lists.{empty-is, one-of}
 use Rattle.rules.proofs.Header.{Proper}
 use Rattle.rules.proofs.Clean.{Clean, Cleans}
-use Rattle.rules.proofs.Measures.{total, join-total}
+use Rattle.rules.proofs.Measures.{total, join-total, tens, decimal-few}
 use Rattle.rules.proofs.Escaped.{plainByte, word, escaped-length}
 use Rattle.rules.proofs.Plain.{bytewise, number-plain, digits-plain, capitals-plain}
 use Rattle.returns.proofs.Groups.{Facts, facts, meets-rule}
@@ -87,23 +86,9 @@ cond-length : (b : Bool) (x y : List ℕ) → length (cond b x y) ≤ length x +
 cond-length true x y = omega arith
 cond-length false x y = omega arith
 
--- a number under ten times ten .. times ten
-tens : ℕ → ℕ
-tens zero = 10
-tens (suc k) = tens k * 10
-
-digits-of : (c k n : ℕ) → n < tens c → length (decimalTo k n) ≤ suc c
-unfolding tens decimalTo
-digits-of c zero n h = omega arith
-digits-of zero (suc k) n h = cases (ltb n 10) (λ e. rw (e, decimalTo) (omega arith)) (λ e. absurd (omega (arith, ltb-false n 10 e)))
-digits-of (suc c) (suc k) n h =
-    cases (ltb n 10)
-    (λ e. rw (e, decimalTo) (omega arith))
-    (λ e. rw (e, decimalTo, length-append) (omega (arith, digits-of c k (n / 10) (div-lt-iff-lt-mul {k = 10} (omega arith) .1 h))))
-
 decimal-short : (n : ℕ) → n < 1000 → length (decimal n) ≤ 3
-unfolding decimal tens
-decimal-short n h = digits-of 2 (suc n) n h
+unfolding tens
+decimal-short n h = decimal-few 2 n h
 
 -- ---- each row's segments
 abbrev pub Short : Delims → List Piece → Type 0

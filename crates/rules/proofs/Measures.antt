@@ -1,13 +1,15 @@
 -- The pieces of a text are together no longer than it. Assumes nothing.
 use mathlib.Core.Path.{_≡_, refl, ap}
 use mathlib.Core.List.{List, [], _∷_}
-use Prim.Native.Nat.{ℕ, zero, suc, _+_, _≤_, _<_}
+use Prim.Native.Nat.{ℕ, zero, suc, _+_, _*_, _/_, _≤_, _<_}
+use native.Mathlib.Nat.{div-lt-iff-lt-mul}
 use native.Mathlib.Omega.{arith}
 use borrow.Author.Tests.{ltb-true, ltb-false}
 use lib.Dec.{ltb}
 use lib.ListN.{length, getD, drop, length-append, drop-of-length-le, List·getD-eq-default}
 use lib.Seq.{drop-cons}
 use Rattle.rules.specs.Lists.{nth, split, led, join}
+use Rattle.rules.specs.Message.{decimal, decimalTo}
 use Rattle.rules.proofs.Logic.{cases}
 use Rattle.rules.proofs.Lists.{from}
 use Rattle.rules.proofs.Split.{front, later, split-cons, join-split}
@@ -83,3 +85,21 @@ nth-sum (p ∷ ps) (suc i) = omega (arith, nth-sum ps i)
 
 pub nth-short : (x : ℕ) (s : List ℕ) (i : ℕ) → length (nth (split x s) i) ≤ length s
 nth-short x s i = omega (arith, nth-sum (split x s) i, split-sum x s)
+
+-- ---- how many digits a number has: below ten times ten .. times ten
+unfoldable pub tens : ℕ → ℕ
+tens zero = 10
+tens (suc k) = tens k * 10
+
+digits-of : (c k n : ℕ) → n < tens c → length (decimalTo k n) ≤ suc c
+unfolding tens decimalTo
+digits-of c zero n h = omega arith
+digits-of zero (suc k) n h = cases (ltb n 10) (λ e. rw (e, decimalTo) (omega arith)) (λ e. absurd (omega (arith, ltb-false n 10 e)))
+digits-of (suc c) (suc k) n h =
+    cases (ltb n 10)
+    (λ e. rw (e, decimalTo) (omega arith))
+    (λ e. rw (e, decimalTo, length-append) (omega (arith, digits-of c k (n / 10) (div-lt-iff-lt-mul {k = 10} (omega arith) .1 h))))
+
+pub decimal-few : (c n : ℕ) → n < tens c → length (decimal n) ≤ suc c
+unfolding decimal
+decimal-few c n h = digits-of c (suc n) n h

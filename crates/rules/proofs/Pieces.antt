@@ -49,7 +49,7 @@ module _ (sep : ℕ) (low : 0x20 ≤ sep) (high : sep ≤ 0x7E) where
 
 -- ---- the n-th piece
 -- where it begins, in a text with more pieces
-start-next : (sep n : ℕ) (p s : List ℕ) → has sep p ≡ false → startOf sep (suc n) (p ++ (sep ∷ s)) ≡ length p + suc (startOf sep n s)
+pub start-next : (sep n : ℕ) (p s : List ℕ) → has sep p ≡ false → startOf sep (suc n) (p ++ (sep ∷ s)) ≡ length p + suc (startOf sep n s)
 unfolding startOf span
 start-next sep n p s h =
     rw (split-next sep p s h)
@@ -61,7 +61,7 @@ pub start-first : (sep : ℕ) (s : List ℕ) → startOf sep 0 s ≡ 0
 unfolding startOf span
 start-first sep s = rw (split-cons sep s, lt-ltb 0 (suc (length (later sep s))) (omega arith))
 
-start-over : (sep n : ℕ) (s : List ℕ) → has sep s ≡ false → startOf sep (suc n) s ≡ length s
+pub start-over : (sep n : ℕ) (s : List ℕ) → has sep s ≡ false → startOf sep (suc n) s ≡ length s
 unfolding startOf
 start-over sep n s h = rw (split-none sep s h, le-ltb (suc n) 1 (omega arith))
 

@@ -4,21 +4,22 @@ use mathlib.Core.Bool.{Bool, true, false, not, _&&_, _||_}
 use mathlib.Core.List.{List, [], _∷_, _++_, map, append-assoc, append-nil}
 use Prim.Native.Nat.{ℕ, zero, suc, _+_, _-_, _≤_, _<_}
 use native.Mathlib.Omega.{arith}
-use borrow.Author.Tests.{eqb-false, eq-eqb, ne-eqb, leb-true, ltb-true, ltb-false, lt-ltb, le-ltb}
+use borrow.Author.Tests.{eqb-false, eq-eqb, ne-eqb, leb-true}
 use mir.Syntax.{w8}
 use mir.Val.{Fits}
-use lib.Dec.{eqb, leb, ltb}
-use lib.ListN.{length, getD, take, drop, length-append, length-drop}
+use lib.Dec.{eqb, leb}
+use lib.ListN.{length, getD, take, drop, length-append}
 use lib.Seq.{drop-drop, take-at, drop-at}
 use Rattle.rules.specs.declared.Delims.{Delims}
 use Rattle.rules.specs.declared.Mode.{Mode}
 use Rattle.rules.specs.declared.Mode.the-variants.{One, Two, Second}
 use Rattle.rules.specs.Shift.{step, isOne, walk, keeps, mark, marks, met, within, byteOf}
 use Rattle.rules.specs.Lists.{nth, has, split}
-use Rattle.rules.specs.Fetch.{span, startOf}
-use Rattle.rules.proofs.Logic.{cases, both, not-true, not-false, never, and-true, and-assoc, or-false, or-assoc}
+use Rattle.rules.specs.Fetch.{startOf}
+use Rattle.rules.proofs.Logic.{both, not-true, not-false, never, and-true, and-assoc, or-false, or-assoc}
 use Rattle.rules.proofs.Lists.{here, over, rest-is, any-first, has-cons, has-nil, has-append}
-use Rattle.rules.proofs.Split.{split-cons, split-next, split-none, later}
+use Rattle.rules.proofs.Split.{split-next, split-none, later}
+use Rattle.rules.proofs.Pieces.{start-first, start-next, start-over}
 use Rattle.rules.proofs.Modes.{one-is, met-as, byte-met, still-one, marks-here, marks-over, length-marks, met-rest}
 use Rattle.scan.specs.Scan.{is, meetsOf, until, after, onward, between, hidden, Hides, Units, Reaches, ends, escapes, plainText, nextFrom, next, alnum, Printable, Proper, CutOf, TailOf}
 use Rattle.scan.proofs.Laws.{map-append, between-none, between-one, between-first, between-rest, between-then, between-take, between-length, until-yes, until-no, until-nil, until-stops, after-drop, Far, far-is, far-escapes, ends-far, hidden-append, hidden-nil, hidden-length, hidden-bytes, hidden-until, hidden-has, hidden-free, hidden-plain, plain-cons, plain-nil, from-met, alnum-plain}
@@ -205,21 +206,6 @@ module _ (end sep : ℕ) (s : List ℕ) (i : ℕ) (inv : Before end s (is sep) i
 
 -- ---- part
 -- where the n-th piece begins: the first, one past a separator, an absent one
-start-first : (sep : ℕ) (s : List ℕ) → startOf sep 0 s ≡ 0
-unfolding startOf span
-start-first sep s = rw (split-cons sep s, lt-ltb 0 (suc (length (later sep s))) (omega arith))
-
-start-next : (sep k : ℕ) (v q : List ℕ) → has sep v ≡ false → startOf sep (suc k) (v ++ (sep ∷ q)) ≡ suc (length v) + startOf sep k q
-unfolding startOf span
-start-next sep k v q h =
-    cases (ltb k (length (split sep q)))
-    (λ t. let l = ltb-true k (length (split sep q)) t in rw (split-next sep v q h, lt-ltb (suc k) (suc (length (split sep q))) (omega arith), t))
-    (λ t. let l = ltb-false k (length (split sep q)) t in rw (split-next sep v q h, le-ltb (suc k) (suc (length (split sep q))) (omega arith), t) (omega (arith, length-append v (sep ∷ q))))
-
-start-none : (sep k : ℕ) (v : List ℕ) → has sep v ≡ false → startOf sep (suc k) v ≡ length v
-unfolding startOf
-start-none sep k v h = rw (split-none sep v h, le-ltb (suc k) 1 (omega arith))
-
 -- the text from i to j among the marks of the whole
 cut-on : (end : ℕ) (s : List ℕ) (i j : ℕ) (k : Bool) → drop i (marks end One s) ≡ marks end One (drop i s) → Reaches end s i j k
     → (drop j (marks end One s) ≡ marks end One (drop j s)) × (between i j (marks end One s) ≡ getD s i 0 ∷ hidden (between (i + 1) j s))
@@ -297,7 +283,7 @@ module _ (end sep n : ℕ) (s : List ℕ) where
       = cut-here end sep n s (suc left) at i inv (omega (arith, r .later, r .inside)) ∙ ap (λ x. v ++ (x ∷ drop (i + 1) m)) e in
       let w-is : between (i + 1) j m ≡ hidden w
       = let q : getD m i 0 ∷ between (i + 1) j m ≡ getD s i 0 ∷ hidden w = sym (between-first m i j (r .later) (omega (arith, length-marks end One s, r .inside))) ∙ c .1 in cc in
-      let start : startOf sep (suc left) (drop at m) ≡ suc (length v) + startOf sep left (drop (i + 1) m) = ap (startOf sep (suc left)) cut ∙ start-next sep left v (drop (i + 1) m) (inv .free) in
+      let start : startOf sep (suc left) (drop at m) ≡ suc (length v) + startOf sep left (drop (i + 1) m) = ap (startOf sep (suc left)) cut ∙ start-next sep left v (drop (i + 1) m) (inv .free) ∙ omega arith in
       record {
         later = omega (arith, r .later);
         place = rw one (omega (arith, inv .place, start, long, inv .later));
@@ -345,7 +331,7 @@ module _ (end sep n : ℕ) (s : List ℕ) where
       let whole : drop at m ≡ v = cut-over (suc left) at i inv h in
       let none : nth (split sep m) n ≡ [] = inv .stretch ∙ ap (λ l. nth (split sep l) (suc left)) whole ∙ ap (λ ps. nth ps (suc left)) (split-none sep v (inv .free)) in
       let long : length v ≡ i - at = between-length m at i (omega (arith, length-marks end One s)) in
-      let q : startOf sep n m ≡ at + length v = inv .place ∙ ap (λ k. at + k) (ap (startOf sep (suc left)) whole ∙ start-none sep left v (inv .free)) in (
+      let q : startOf sep n m ≡ at + length v = inv .place ∙ ap (λ k. at + k) (ap (startOf sep (suc left)) whole ∙ start-over sep left v (inv .free)) in (
         let e : length s ≡ i = omega arith in ap (λ k. between i k s) e ∙ between-none s i ∙ sym (ap (map byteOf) none),
         let e : i ≡ startOf sep n m = omega (arith, inv .later) in ap (λ k. (x, k + y)) e,
       )
@@ -391,9 +377,6 @@ pub skip-end : (s : List ℕ) (sep n left at : ℕ) → onward sep n (met s) ≡
 unfolding onward
 skip-end s sep n zero at inv h = rw (rest-is s at, inv)
 skip-end s sep n (suc k) at inv h = absurd (omega arith)
-
-pub skip-within : (s : List ℕ) (at r : ℕ) → at ≤ length s → r ≤ length (take (length s - at) (drop at s)) → at + r ≤ length s
-skip-within s at r h e = let q : length (take (length s - at) (drop at s)) ≡ length s - at = ap length (rest-is s at) ∙ length-drop at s in omega arith
 
 -- ---- first
 pub record Cutting (d : Delims) (t : List ℕ) (clean : Bool) (i : ℕ) : Type 0 where

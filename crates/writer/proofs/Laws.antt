@@ -85,3 +85,15 @@ module _ {whole left out₀ out : List ℕ} {at : ℕ} (p : Running whole left o
 
   pub run-end : left ≡ [] → Wrote at out whole out₀
   run-end e = rw (p .rest, e, append-nil) (p .wrote)
+
+-- what was written lies at the front
+pub front : {r : ℕ} {x w old : List ℕ} → Wrote r x w old → take r x ≡ w
+unfolding over
+front {r} {x} {w} {old} p = rw (p .is) (take-at w (drop (length w) old) r (sym (p .ends)))
+
+pub front-is : (r : ℕ) (x w old : List ℕ) → Wrote r x w old → r ≡ length (take r x)
+front-is r x w old p = p .ends ∙ ap length (sym (front p))
+
+pub front-within : (r : ℕ) (x w old : List ℕ) → Wrote r x w old → r ≤ length x
+unfolding over
+front-within r x w old p = omega (arith, p .ends, ap length (p .is) ∙ length-append w (drop (length w) old))

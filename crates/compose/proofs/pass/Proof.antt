@@ -3,7 +3,8 @@ use native.Mathlib.Omega.{arith}
 use Prim.Native.Nat.{ℕ, _+_, _-_, _≤_, _<_}
 use mathlib.Core.Path.{_≡_}
 use lib.ListN.{length, take, drop}
-use Rattle.compose.proofs.Passing.{Passing, begins, index-low, rest-short, rest-size, unread-told, forward, goes, ends-refused, ends-all}
+use Rattle.rules.proofs.Lists.{rest-shorter}
+use Rattle.compose.proofs.Passing.{Passing, begins, index-low, rest-size, unread-told, forward, goes, ends-refused, ends-all}
 use Rattle.compose.proofs.pass.Statement.{statement}
 use Rattle.compose.proofs.pass.Tie as tie
 
@@ -49,7 +50,7 @@ returns : tie.Need-returns Inv-loop μ-loop
 returns c = unread-told _ _ _ _ _ _ _ _ _ _ _ (c .before .before .before .before .before .before .before .before .loop .inv) _ (c .before .before .before .before .before .before .before .has-line .ensures) (c .before .before .before .before .before .before .if1 .taken) _ (c .before .before .before .before .next-group .ensures .0) _ (c .before .before .before .group .ensures) _ (c .before .before .fine .ensures) (c .before .if2 .taken) _ (c .unread .ensures) _
 
 put-next-requires : tie.Need-put-next-requires Inv-loop μ-loop
-put-next-requires c κs = (rest-short (c .before .before .before .before .before .before .before .before .before .before .before .args .sheet .now) (c .before .before .before .before .before .before .before .before .loop .at) _ (c .before .before .before .before .before .before .before .before .before .before .before .pre), omega (arith, (c .before .before .before .before .before .before .before .before .loop .inv .specimens-few), (c .before .before .before .before .before .before .before .before .loop .inv .within), (c .before .before .before .before .before .before .before .before .before .before .before .pre)), omega (arith, (c .before .before .before .before .before .before .before .before .loop .inv .results-few), (c .before .before .before .before .before .before .before .before .loop .inv .within), (c .before .before .before .before .before .before .before .before .before .before .before .pre)), omega (arith, (c .before .before .before .before .before .before .before .before .loop .inv .bytes-few), (c .before .before .before .before .before .before .before .before .loop .inv .within), (c .before .before .before .before .before .before .before .before .before .before .before .pre)))
+put-next-requires c κs = (rest-shorter (c .before .before .before .before .before .before .before .before .before .before .before .args .sheet .now) (c .before .before .before .before .before .before .before .before .loop .at) _ (c .before .before .before .before .before .before .before .before .before .before .before .pre), omega (arith, (c .before .before .before .before .before .before .before .before .loop .inv .specimens-few), (c .before .before .before .before .before .before .before .before .loop .inv .within), (c .before .before .before .before .before .before .before .before .before .before .before .pre)), omega (arith, (c .before .before .before .before .before .before .before .before .loop .inv .results-few), (c .before .before .before .before .before .before .before .before .loop .inv .within), (c .before .before .before .before .before .before .before .before .before .before .before .pre)), omega (arith, (c .before .before .before .before .before .before .before .before .loop .inv .bytes-few), (c .before .before .before .before .before .before .before .before .loop .inv .within), (c .before .before .before .before .before .before .before .before .before .before .before .pre)))
 
 segments-of-requires : tie.Need-segments-of-requires Inv-loop μ-loop
 segments-of-requires c κs = search needs
@@ -73,7 +74,7 @@ skip-lines-requires : tie.Need-skip-lines-requires Inv-loop μ-loop
 skip-lines-requires c κs = search needs
 
 add-at : tie.Need-add-at Inv-loop μ-loop
-add-at c = omega (arith, (c .before .before .before .before .before .before .before .before .before .before .before .before .before .before .before .before .loop .inv .within), (c .before .before .before .before .before .before .before .before .before .before .before .before .before .before .before .before .before .before .before .pre), (c .skip-lines .ensures .1), rest-short (c .before .before .before .before .before .before .before .before .before .before .before .before .before .before .before .before .before .before .before .args .sheet .now) (c .before .before .before .before .before .before .before .before .before .before .before .before .before .before .before .before .loop .at) _ (c .before .before .before .before .before .before .before .before .before .before .before .before .before .before .before .before .before .before .before .pre))
+add-at c = omega (arith, (c .before .before .before .before .before .before .before .before .before .before .before .before .before .before .before .before .loop .inv .within), (c .before .before .before .before .before .before .before .before .before .before .before .before .before .before .before .before .before .before .before .pre), (c .skip-lines .ensures .1), rest-shorter (c .before .before .before .before .before .before .before .before .before .before .before .before .before .before .before .before .before .before .before .args .sheet .now) (c .before .before .before .before .before .before .before .before .before .before .before .before .before .before .before .before .loop .at) _ (c .before .before .before .before .before .before .before .before .before .before .before .before .before .before .before .before .before .before .before .pre))
 
 loop-less : tie.Need-loop-less Inv-loop μ-loop
 loop-less c = omega (arith, (c .before .before .before .before .before .before .before .before .before .before .before .before .before .before .before .before .loop .inv .within), (c .before .before .before .before .before .before .before .before .before .before .before .before .before .before .before .before .before .before .before .pre), forward _ _ _ _ _ _ _ _ _ _ _ (c .before .before .before .before .before .before .before .before .before .before .before .before .before .before .before .before .loop .inv) _ (c .before .before .before .before .before .before .before .before .before .before .before .before .before .before .before .has-line .ensures) (c .before .before .before .before .before .before .before .before .before .before .before .before .before .before .if1 .taken) _ (c .before .before .before .before .before .before .before .before .before .before .before .before .next-group .ensures .0) _ (c .before .before .before .before .before .before .before .before .before .before .before .group .ensures) _ _ (c .before .lines-in .ensures .0) (c .before .before .before .before .before .before .before .before .before .before .before .before .next-group .ensures .1) (c .skip-lines .ensures .0) (c .skip-lines .ensures .1), (c .skip-lines .ensures .1), rest-size (c .before .before .before .before .before .before .before .before .before .before .before .before .before .before .before .before .before .before .before .args .sheet .now) (c .before .before .before .before .before .before .before .before .before .before .before .before .before .before .before .before .loop .at))

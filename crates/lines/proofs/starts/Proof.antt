@@ -2,14 +2,15 @@ use native.Mathlib.Omega.{arith}
 use Prim.Native.Nat.{ℕ, _+_, _-_, _≤_, _<_}
 use mathlib.Core.Path.{_≡_}
 use lib.ListN.{length, take, drop}
-use Rattle.lines.proofs.Laws.{short-not, starts-is}
+use Rattle.rules.proofs.Lists.{starts-short}
+use Rattle.lines.proofs.Laws.{starts-is}
 use Rattle.rules.proofs.Lists.{part-length}
 use borrow.Author.Needs.{needs}
 use Rattle.lines.proofs.starts.Statement.{statement}
 use Rattle.lines.proofs.starts.Tie as tie
 
 returns : tie.Need-returns
-returns c = search (short-not, needs)
+returns c = search (starts-short, needs)
 
 slice-aggregate-equal : tie.Need-slice-aggregate-equal
 slice-aggregate-equal c = search (part-length, needs)

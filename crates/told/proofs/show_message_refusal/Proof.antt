@@ -1,4 +1,4 @@
-use Rattle.told.proofs.Laws.{wrote-within, wrote-front}
+use Rattle.writer.proofs.Laws.{front-within, front-is}
 use borrow.Author.Needs.{needs}
 use Rattle.told.proofs.show_message_refusal.Statement.{statement}
 use Rattle.told.proofs.show_message_refusal.Tie as tie
@@ -7,10 +7,10 @@ of-message-requires : tie.Need-of-message-requires
 of-message-requires c κs = search needs
 
 array-share-prefix-lines : tie.Need-array-share-prefix-lines
-array-share-prefix-lines c = wrote-within _ _ _ _ (c .of-message .ensures)
+array-share-prefix-lines c = front-within _ _ _ _ (c .of-message .ensures)
 
 slice-aggregate-write-all : tie.Need-slice-aggregate-write-all
-slice-aggregate-write-all c = wrote-front _ _ _ _ (c .before .of-message .ensures)
+slice-aggregate-write-all c = front-is _ _ _ _ (c .before .of-message .ensures)
 
 write-all-requires : tie.Need-write-all-requires
 write-all-requires c κs = search needs

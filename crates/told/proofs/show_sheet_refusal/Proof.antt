@@ -1,4 +1,4 @@
-use Rattle.told.proofs.Laws.{wrote-within, wrote-front}
+use Rattle.writer.proofs.Laws.{front-within, front-is}
 use borrow.Author.Needs.{needs}
 use Rattle.told.proofs.show_sheet_refusal.Statement.{statement}
 use Rattle.told.proofs.show_sheet_refusal.Tie as tie
@@ -7,10 +7,10 @@ of-sheet-requires : tie.Need-of-sheet-requires
 of-sheet-requires c κs = search needs
 
 array-share-prefix-lines : tie.Need-array-share-prefix-lines
-array-share-prefix-lines c = wrote-within _ _ _ _ (c .of-sheet .ensures)
+array-share-prefix-lines c = front-within _ _ _ _ (c .of-sheet .ensures)
 
 slice-aggregate-write-all : tie.Need-slice-aggregate-write-all
-slice-aggregate-write-all c = wrote-front _ _ _ _ (c .before .of-sheet .ensures)
+slice-aggregate-write-all c = front-is _ _ _ _ (c .before .of-sheet .ensures)
 
 write-all-requires : tie.Need-write-all-requires
 write-all-requires c κs = search needs
