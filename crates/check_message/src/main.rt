@@ -12,7 +12,9 @@ fn main() {
 fn show(answer: Answer) {
     match answer {
         Answer::Accepted(counts) => show_counts(counts),
-        Answer::Refused(refusal) => told::show_message_refusal(refusal),
+        Answer::Refused(refusal) => {
+            told::show_message_refusal(refusal);
+        }
     }
 }
 

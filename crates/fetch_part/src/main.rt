@@ -86,6 +86,8 @@ fn part(ordinal: usize, field: usize, component: usize) {
             io::write_all(1, fetch::bytes_of(m, answer));
             io::write_all(1, b"\n");
         }
-        Fetched::NotFetched(refusal) => told::show_message_refusal(refusal),
+        Fetched::NotFetched(refusal) => {
+            told::show_message_refusal(refusal);
+        }
     }
 }

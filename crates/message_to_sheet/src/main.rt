@@ -15,6 +15,8 @@ fn convert(message: &[u8], lines: &mut [u8]) {
         Written::Wrote(k) => {
             io::write_all(1, &lines[..k]);
         }
-        Written::NotWritten(refusal) => told::show_message_refusal(refusal),
+        Written::NotWritten(refusal) => {
+            told::show_message_refusal(refusal);
+        }
     }
 }

@@ -8,7 +8,9 @@ fn main() {
     let mut message = [0u8; 32768];
     match to_message::to_message(&lines[..n], &mut message) {
         Written::Wrote(size) => show(&message[..size]),
-        Written::NotWritten(refusal) => told::show_sheet_refusal(refusal),
+        Written::NotWritten(refusal) => {
+            told::show_sheet_refusal(refusal);
+        }
     }
 }
 

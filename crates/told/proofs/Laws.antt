@@ -33,3 +33,7 @@ module _ (place : List ℕ) (f : Refusal) (old x y z : List ℕ) (i k m r : ℕ)
   pub three-is : Wrote r z (refusalText place f) old
   unfolding refusalText bytes
   three-is = then (then (rw e at a) b) c
+
+-- ---- how much was printed
+pub shown-length : (r : ℕ) (x w old : List ℕ) → Wrote r x w old → r ≡ length w
+shown-length r x w old p = p .ends

@@ -7,17 +7,23 @@ ghost use Rattle.rules.specs.Lists.{bytes};
 ghost use Rattle.writer.specs.Over.{Wrote, Put};
 ghost use Rattle.told.specs.Told.{lineText, refusalText};
 
-// Prints a message's refusal, and a sheet's.
-pub fn show_message_refusal(refusal: Refusal) {
+// Prints a message's refusal, and a sheet's: how many bytes were handed to standard output.
+pub fn show_message_refusal(refusal: Refusal) -> usize
+    ensures { λ r. ⌜ r ≡ length (refusalText (bytes "segment=") refusal) ⌝ }
+{
     let mut lines = [0u8; 96];
     let n = of_message(&mut lines, refusal);
     io::write_all(1, &lines[..n]);
+    n
 }
 
-pub fn show_sheet_refusal(refusal: Refusal) {
+pub fn show_sheet_refusal(refusal: Refusal) -> usize
+    ensures { λ r. ⌜ r ≡ length (refusalText (bytes "line=") refusal) ⌝ }
+{
     let mut lines = [0u8; 96];
     let n = of_sheet(&mut lines, refusal);
     io::write_all(1, &lines[..n]);
+    n
 }
 
 // A message's refusal names its segment.
