@@ -18,22 +18,23 @@ use Rattle.rules.specs.Escape.{unescape, unescapeAt}
 use Rattle.rules.specs.Places.{Four, valueRules}
 use Rattle.rules.specs.View.{componentOf}
 use Rattle.rules.specs.Judge.{judge, faultOr23, firstMarked, kanji, nameFault, namesFault, isSN, rawFour, beside, unjoined, partsFault, valueFault}
-use Rattle.rules.proofs.Logic.{cases, cond-same, and-comm, then-none, then-zero, then-assoc, when-none}
+use Rattle.rules.proofs.Logic.{cases, cond-same, then-none, then-zero, then-assoc, when-none}
 use Rattle.rules.proofs.Lists.{here, over, rest-is, empty-zero, filled-some, all-cons, same-eq}
 use Rattle.rules.proofs.Split.{split-nil, split-none}
 use Rattle.rules.proofs.Modes.{length-marks}
 use Rattle.rules.proofs.Clean.{same-met}
 use Rattle.scan.specs.Scan.{until, is, ends, after, next, plainText, CutOf, TailOf, Proper}
 use Rattle.scan.proofs.Laws.{from-met, piece-met, ends-far}
-use Rattle.value.specs.Rules.{faultNo, ruleOf, textOf}
+use Rattle.value.specs.Rules.{faultNo, ruleOf, rulesOf, textOf}
 use Rattle.value.specs.declared.Fault.{Fault}
 use Rattle.rules.specs.declared.Kind.the-variants.{Repeated, Escape, Value}
 use Rattle.value.specs.declared.Fault.the-variants.{Nothing, Found}
 use Rattle.value.specs.declared.Words.the-variants.{Comparators, Joiners}
 use Rattle.value.specs.declared.Rule.{Rule}
-use Rattle.value.specs.declared.Rule.the-variants.{Number, Text, OneOf}
-use Rattle.judge.specs.Judge.{Raw}
-use Rattle.closed.specs.Closed.{endsRepetition, fieldAt, repetitionAt, componentAt, forward, ClosedOf, charsetFault, MarkedOf, shapeFault, comparedFault, unjoinedFault, joinedFault, fourAt, FourOf, ValueOf}
+use Rattle.value.specs.declared.Rule.the-variants.{Time, Date, Number, Text, Digits, Capitals, OneOf}
+use Rattle.value.specs.declared.Parts.{Parts}
+use Rattle.judge.specs.Judge.{Raw, Small}
+use Rattle.closed.specs.Closed.{endsRepetition, fieldAt, repetitionAt, componentAt, forward, ClosedOf, charsetFault, MarkedOf, shapeFault, comparedFault, lastTwo, unjoinedFault, joinedFault, fourAt, FourOf, ValueOf}
 use Rattle.closed.proofs.Pieces.{after-free, after-none, after-short, component-at, components-over, forward-long, forward-repeats, forward-short, repetition-is, rest-long, rest-more, rest-none, split-after, until-free, until-none, whole-field}
 
 -- ---- general
@@ -334,14 +335,18 @@ pub compared-is : (d : Delims) (x y : List ℕ) (beside : Bool) (f g r : ℕ) �
 unfolding comparedFault valueRules ruleOf textOf same bytes
 compared-is d x y beside f g r e h k = cc
 
-module _ (x y : List ℕ) (p q : Bool) (e : p ≡ empty x) (f : q ≡ empty y) where
-  pub unjoined-yes : (p && not q) ≡ true → faultNo (Found Value) ≡ unjoinedFault x y
-  unfolding unjoinedFault faultNo
-  unjoined-yes h = cc (and-comm (empty x) (not (empty y)))
+module _ (x y : List ℕ) (p q r : Bool) (e : p ≡ empty x) (f : q ≡ empty y)
+    (g : (c : Four (List ℕ)) → not p ≡ filled (c .join) → not q ≡ filled (c .second) → r ≡ unjoined c) where
+  unjoined-is : r ≡ unjoined (lastTwo x y)
+  unjoined-is = g (lastTwo x y) (ap not e) (ap not f)
 
-  pub unjoined-no : (p && not q) ≡ false → faultNo Nothing ≡ unjoinedFault x y
+  pub unjoined-yes : r ≡ true → faultNo (Found Value) ≡ unjoinedFault x y
   unfolding unjoinedFault faultNo
-  unjoined-no h = cc (and-comm (empty x) (not (empty y)))
+  unjoined-yes h = rw (← unjoined-is, h)
+
+  pub unjoined-no : r ≡ false → faultNo Nothing ≡ unjoinedFault x y
+  unfolding unjoinedFault faultNo
+  unjoined-no h = rw (← unjoined-is, h)
 
 pub joined-is : (d : Delims) (x y : List ℕ) (f g u k r : ℕ) → f ≡ judge d false (ruleOf Number) y → u ≡ unjoinedFault x y → k ≡ (f then u)
     → g ≡ judge d false (ruleOf (OneOf Joiners)) x → r ≡ (g then k) → r ≡ joinedFault d x y
@@ -354,13 +359,14 @@ parts-are d c =
     let r = valueRules (bytes "SN") in
     then-assoc (judge d false (r .compare) (c .compare)) (judge d (beside c) (r .value) (c .value)) (joinedFault d (c .join) (c .second))
 
-pub four-is : (d : Delims) (t number joiner second : List ℕ) (a b c z : Bool) (f g r : ℕ)
-    → a ≡ empty (componentAt d t) → b ≡ empty (componentAt d joiner) → c ≡ empty (componentAt d second) → z ≡ empty (componentAt d number)
-    → f ≡ comparedFault d ((not a || not b) || not c) (componentAt d t) (componentAt d number) → g ≡ joinedFault d (componentAt d joiner) (componentAt d second)
-    → r ≡ (f then g) → FourOf d (fourAt d t number joiner second) r (not z) ((not a || not b) || not c)
-four-is d t number joiner second a b c z f g r ea eb ec ez ef eg er =
-    let q : ((not a || not b) || not c) ≡ beside (fourAt d t number joiner second) = unfold beside in cc in
-    record { told = er ∙ rw (ef, eg, q) (parts-are d (fourAt d t number joiner second)); filled = cc; beside = q }
+pub four-is : (d : Delims) (t number joiner second : List ℕ) (x y z v b : Bool) (f g r : ℕ)
+    → x ≡ empty (componentAt d t) → y ≡ empty (componentAt d joiner) → z ≡ empty (componentAt d second) → v ≡ empty (componentAt d number)
+    → ((c : Four (List ℕ)) → not x ≡ filled (c .compare) → not y ≡ filled (c .join) → not z ≡ filled (c .second) → b ≡ beside c)
+    → f ≡ comparedFault d b (componentAt d t) (componentAt d number) → g ≡ joinedFault d (componentAt d joiner) (componentAt d second)
+    → r ≡ (f then g) → FourOf d (fourAt d t number joiner second) r (not v) b
+four-is d t number joiner second x y z v b f g r ex ey ez ev eb ef eg er =
+    let q = eb (fourAt d t number joiner second) (ap not ex) (ap not ey) (ap not ez) in
+    record { told = er ∙ rw (ef, eg, q) (parts-are d (fourAt d t number joiner second)); filled = ap not ev; beside = q }
 
 module _ (t number joiner second : List ℕ) (d : Delims) (a b r : Fault) (n : ℕ) (y z : Bool) (p : Proper d) (e : ClosedOf (shapeFault d 3) (fieldAt d t) (faultNo a) n)
     (e₁ : met number ≡ forward d 1 (met t)) (e₂ : met joiner ≡ forward d 1 (met number)) (e₃ : met second ≡ forward d 1 (met joiner))
@@ -384,16 +390,41 @@ module _ (t number joiner second : List ℕ) (d : Delims) (a b r : Fault) (n : �
   }
 
 -- by OBX-2's word
-module _ (d : Delims) (word f : List ℕ) (fault n : ℕ) (y z v w : Bool) (ev : v ≡ same word (83 ∷ 78 ∷ [])) where
+module _ (d : Delims) (word f : List ℕ) (fault n : ℕ) (y z v : Bool) (ev : v ≡ same word (83 ∷ 78 ∷ [])) where
   pub value-sn : v ≡ true → ValueOf d (bytes "SN") f fault n y z → ValueOf d word f fault n y z
   unfolding bytes
   value-sn h = subst (λ (k : List ℕ). ValueOf d k f fault n y z) (sym (same-eq word (83 ∷ 78 ∷ []) (sym ev ∙ h)))
 
-  module _ (hv : v ≡ false) (ew : w ≡ same word (78 ∷ 77 ∷ [])) where
-    pub value-nm : w ≡ true → ((type : List ℕ) → isSN type ≡ false → valueRules type .value ≡ ruleOf Number → ValueOf d type f fault n y z) → ValueOf d word f fault n y z
-    unfolding bytes valueRules ruleOf
-    value-nm h g = g word (sym ev ∙ hv) (rw (sym ev ∙ hv, sym ew ∙ h))
+  pub value-alone : (rules : Parts) → v ≡ false → rulesOf rules ≡ valueRules word
+      → ((type : List ℕ) → isSN type ≡ false → valueRules type .value ≡ ruleOf (rules .value) → ValueOf d type f fault n y z) → ValueOf d word f fault n y z
+  unfolding bytes rulesOf
+  value-alone rules h e g = g word (sym ev ∙ h) (ap (λ (r : Four Val.Rule). r .value) (sym e))
 
-    pub value-st : w ≡ false → ((type : List ℕ) → isSN type ≡ false → valueRules type .value ≡ ruleOf (Text 200) → ValueOf d type f fault n y z) → ValueOf d word f fault n y z
-    unfolding bytes valueRules ruleOf
-    value-st h g = g word (sym ev ∙ hv) (rw (sym ev ∙ hv, sym ew ∙ h))
+-- no rule of its value takes more than 256 bytes
+longest : Val.Rule → ℕ
+longest Val.time = 0
+longest Val.date = 0
+longest Val.number = 0
+longest (Val.text n) = n
+longest (Val.digits n) = n
+longest (Val.capitals n) = n
+longest (Val.words w) = 0
+
+small-is : (rule : Rule) → longest (ruleOf rule) ≤ 256 → Small rule
+unfolding longest ruleOf Small
+small-is Time h = tt
+small-is Date h = tt
+small-is Number h = tt
+small-is (Text n) h = h
+small-is (Digits n) h = h
+small-is (Capitals n) h = h
+small-is (OneOf w) h = tt
+
+value-short : (word : List ℕ) → longest (valueRules word .value) ≤ 256
+unfolding longest valueRules
+value-short word =
+    cases (isSN word) (λ e. rw e (omega arith)) (λ e. cases (same word (bytes "NM")) (λ f. rw (e, f) (omega arith)) (λ f. rw (e, f) (omega arith)))
+
+pub value-small : (rules : Parts) (word : List ℕ) → rulesOf rules ≡ valueRules word → Small (rules .value)
+unfolding rulesOf
+value-small rules word e = small-is (rules .value) (rw (ap (λ (r : Four Val.Rule). r .value) e) (value-short word))

@@ -1,6 +1,6 @@
 -- What the routines of the closed fields tell, each of the field at the start of what is left of its segment.
 use mathlib.Core.Path.{_≡_}
-use mathlib.Core.Bool.{Bool, false, not, _&&_, _||_}
+use mathlib.Core.Bool.{Bool, false, not, _||_}
 use mathlib.Core.List.{List, [], _∷_}
 use Prim.Native.Nat.{ℕ, zero, suc}
 use lib.Dec.{eqb, ltb}
@@ -60,8 +60,11 @@ rulesSN = valueRules (bytes "SN")
 unfoldable pub comparedFault : Delims → Bool → List ℕ → List ℕ → ℕ
 comparedFault d required compare value = judge d false (rulesSN .compare) compare then judge d required (rulesSN .value) value
 
+abbrev pub lastTwo : List ℕ → List ℕ → Four (List ℕ)
+lastTwo join second = record { compare = []; value = []; join = join; second = second }
+
 unfoldable pub unjoinedFault : List ℕ → List ℕ → ℕ
-unjoinedFault join second = 25 when (L.filled second && empty join)
+unjoinedFault join second = 25 when J.unjoined (lastTwo join second)
 
 unfoldable pub joinedFault : Delims → List ℕ → List ℕ → ℕ
 joinedFault d join second = judge d false (rulesSN .join) join then judge d false (rulesSN .second) second then unjoinedFault join second

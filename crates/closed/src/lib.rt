@@ -226,17 +226,16 @@ fn compared(t: &[u8], number: &[u8], d: Delims, beside: bool) -> Fault
     requires { ⌜ Proper d ⌝ }
     ensures { λ r. ⌜ faultNo r ≡ comparedFault d beside (componentAt d (now (t .entry))) (componentAt d (now (number .entry))) ⌝ }
 {
-    earlier(
-        part(t, d, false, table::COMPARE),
-        part(number, d, beside, table::NUMBER),
-    )
+    let compare = table::SN.compare;
+    let value = table::SN.value;
+    earlier(part(t, d, false, compare), part(number, d, beside, value))
 }
 
 // "a second number needs a joiner"
 fn unjoined(joiner: &[u8], second: &[u8], d: Delims) -> Fault
     ensures { λ r. ⌜ faultNo r ≡ unjoinedFault (componentAt d (now (joiner .entry))) (componentAt d (now (second .entry))) ⌝ }
 {
-    if blank(joiner, d) & !blank(second, d) {
+    if value::unjoined(!blank(joiner, d), !blank(second, d)) {
         return Fault::Found(Kind::Value);
     }
     Fault::Nothing
@@ -247,12 +246,11 @@ fn joined(joiner: &[u8], second: &[u8], d: Delims) -> Fault
     requires { ⌜ Proper d ⌝ }
     ensures { λ r. ⌜ faultNo r ≡ joinedFault d (componentAt d (now (joiner .entry))) (componentAt d (now (second .entry))) ⌝ }
 {
+    let join = table::SN.join;
+    let number = table::SN.second;
     earlier(
-        part(joiner, d, false, table::JOIN),
-        earlier(
-            part(second, d, false, table::NUMBER),
-            unjoined(joiner, second, d),
-        ),
+        part(joiner, d, false, join),
+        earlier(part(second, d, false, number), unjoined(joiner, second, d)),
     )
 }
 
@@ -267,7 +265,7 @@ fn four(t: &[u8], number: &[u8], joiner: &[u8], second: &[u8], d: Delims) -> Fou
     requires { ⌜ Proper d ⌝ }
     ensures { λ r. ⌜ FourOf d (fourAt d (now (t .entry)) (now (number .entry)) (now (joiner .entry)) (now (second .entry))) (faultNo (r .fault)) (r .filled) (r .beside) ⌝ }
 {
-    let beside = !blank(t, d) | !blank(joiner, d) | !blank(second, d);
+    let beside = value::beside(!blank(t, d), !blank(joiner, d), !blank(second, d));
     let fault = earlier(compared(t, number, d, beside), joined(joiner, second, d));
     FourRead {
         fault,
@@ -308,8 +306,7 @@ pub fn value(t: &[u8], d: Delims, word: &[u8]) -> ValueRead
     if value::equal(word, b"SN") {
         return numbers(t, d);
     }
-    if value::equal(word, b"NM") {
-        return single(t, d, table::NUMBER);
-    }
-    single(t, d, table::TEXT)
+    let rules = value::part_rules(word);
+    let rule = rules.value;
+    single(t, d, rule)
 }

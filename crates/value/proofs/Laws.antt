@@ -15,17 +15,20 @@ use Rattle.rules.specs.Shift.{within}
 use Rattle.rules.specs.Told.{_then_}
 use Rattle.rules.specs.Frame.{digit, capitalOrDigit}
 use Rattle.rules.specs.Value as Val
-use Rattle.rules.specs.Places.{Four}
-use Rattle.rules.specs.Judge.{agrees, beside}
+use Rattle.rules.specs.Places.{Four, valueRules}
+use Rattle.rules.specs.Judge.{agrees, beside, unjoined}
 use Rattle.rules.specs.declared.Kind.{Kind}
 use Rattle.rules.proofs.Unique.{number-unique, number-some}
 use Rattle.rules.proofs.Logic.{cases, never, both, and-false, or-assoc, and-true, or-false}
 use Rattle.rules.proofs.Lists.{here, over, rest-is, rest-shorter, part-length, empty-zero, filled-some, all-cons, any-cons, any-nil}
 use Rattle.scan.specs.Scan.{until, is}
-use Rattle.value.specs.Rules.{oneOf, textOf, ruleOf, faultNo, fineOf}
+use Rattle.value.specs.Rules.{oneOf, textOf, ruleOf, rulesOf, faultNo, fineOf}
 use Rattle.value.specs.Number.{readByte, unread}
 use Rattle.value.specs.declared.Words.{Words}
+use Rattle.value.specs.declared.Words.the-variants.{Blank, Comparators, Joiners}
 use Rattle.value.specs.declared.Rule.{Rule}
+use Rattle.value.specs.declared.Rule.the-variants.{Number, Text, OneOf}
+use Rattle.value.specs.declared.Parts.{Parts}
 use Rattle.value.specs.declared.Fault.{Fault}
 use Rattle.rules.specs.declared.Kind.the-variants.{Missing, Long, Value}
 use Rattle.value.specs.declared.Fault.the-variants.{Nothing, Found}
@@ -375,6 +378,35 @@ module _ (required : Bool) (rule : Rule) (v : List ℕ) where
     fault-value q y g z = cc (filled-some v h, e v refl)
 
 pub ruleset fault_of·laws = (fault-missing, fault-blank, fault-long, fault-none, fault-value)
+
+-- ---- OBX-5: its rules, by OBX-2
+abbrev blankBut : Rule → Parts
+blankBut rule = record { compare = OneOf Blank; value = rule; join = OneOf Blank; second = OneOf Blank }
+
+module _ (kind : List ℕ) (t : Bool) (e : t ≡ same kind (83 ∷ 78 ∷ [])) where
+  pub rules-sn : t ≡ true → rulesOf (record { compare = OneOf Comparators; value = Number; join = OneOf Joiners; second = Number }) ≡ valueRules kind
+  unfolding rulesOf ruleOf textOf valueRules bytes
+  rules-sn h = rw (← e, h)
+
+  module _ (h : t ≡ false) (u : Bool) (f : u ≡ same kind (78 ∷ 77 ∷ [])) where
+    pub rules-nm : u ≡ true → rulesOf (blankBut Number) ≡ valueRules kind
+    unfolding rulesOf ruleOf textOf valueRules bytes
+    rules-nm g = rw (← e, h, ← f, g)
+
+    pub rules-st : u ≡ false → rulesOf (blankBut (Text 200)) ≡ valueRules kind
+    unfolding rulesOf ruleOf textOf valueRules bytes
+    rules-st g = rw (← e, h, ← f, g)
+
+pub ruleset part_rules·laws = (rules-sn, rules-nm, rules-st)
+
+-- its parts, by which are filled
+pub beside-is : (x y z : Bool) (c : Four (List ℕ)) → x ≡ filled (c .compare) → y ≡ filled (c .join) → z ≡ filled (c .second) → (x || y || z) ≡ beside c
+unfolding beside
+beside-is x y z c ex ey ez = cc
+
+pub unjoined-is : (y z : Bool) (c : Four (List ℕ)) → y ≡ filled (c .join) → z ≡ filled (c .second) → (z && not y) ≡ unjoined c
+unfolding unjoined
+unjoined-is y z c ey ez = rw (ey, ez) (cases (empty (c .join)) (λ q. cc) (λ q. cc))
 
 -- ---- OBX-11 against OBX-5
 module _ (status : List ℕ) (number parts y : Bool) (e : y ≡ oneOf (70 ∷ 32 ∷ 80 ∷ 32 ∷ 67 ∷ []) status) where

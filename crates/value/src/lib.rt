@@ -9,10 +9,10 @@ ghost use Rattle.rules.specs.Lists.{all, same, filled, isOneOf};
 ghost use Rattle.rules.specs.Shift.{within};
 ghost use Rattle.rules.specs.Frame.{digit, capitalOrDigit};
 ghost use Rattle.rules.specs.Value as Val;
-ghost use Rattle.rules.specs.Places.{Four};
+ghost use Rattle.rules.specs.Places.{Four, valueRules};
 ghost use Rattle.rules.specs.Judge as Judge;
 ghost use Rattle.scan.specs.Scan.{until, is};
-ghost use Rattle.value.specs.Rules.{faultNo, fineOf, textOf, ruleOf, oneOf};
+ghost use Rattle.value.specs.Rules.{faultNo, fineOf, textOf, ruleOf, rulesOf, oneOf};
 ghost use Rattle.value.specs.Number.{readByte, unread};
 
 pub mod table;
@@ -59,6 +59,14 @@ pub enum Place {
     Unread,
     Must(Rule),
     May(Rule),
+}
+
+// The rules of OBX-5's four parts.
+pub struct Parts {
+    pub compare: Rule,
+    pub value: Rule,
+    pub join: Rule,
+    pub second: Rule,
 }
 
 // Whether there is no fault.
@@ -411,6 +419,35 @@ pub fn fault_of(required: bool, rule: Rule, v: &[u8]) -> Fault
         return Fault::Nothing;
     }
     Fault::Found(Kind::Value)
+}
+
+// ---- OBX-5: comparator, number or text, joiner, second number
+
+// The rules of its parts, by the word of OBX-2.
+pub fn part_rules(kind: &[u8]) -> Parts
+    ensures { λ r. ⌜ rulesOf r ≡ valueRules (now (kind .entry)) ⌝ }
+{
+    if equal(kind, b"SN") {
+        return table::SN;
+    }
+    if equal(kind, b"NM") {
+        return table::NM;
+    }
+    table::ST
+}
+
+// Whether a part beside the value is filled, given which are.
+pub fn beside(compare: bool, join: bool, second: bool) -> bool
+    ensures { λ r. ⌜ ((c : Four (List ℕ)) → compare ≡ filled (c .compare) → join ≡ filled (c .join) → second ≡ filled (c .second) → r ≡ Judge.beside c) ⌝ }
+{
+    compare | join | second
+}
+
+// "a second number needs a joiner": whether it has none, given which are filled.
+pub fn unjoined(join: bool, second: bool) -> bool
+    ensures { λ r. ⌜ ((c : Four (List ℕ)) → join ≡ filled (c .join) → second ≡ filled (c .second) → r ≡ Judge.unjoined c) ⌝ }
+{
+    second & !join
 }
 
 // 26: whether the status of OBX-11 agrees with what OBX-5 fills: a value, a part beside it.

@@ -1,4 +1,5 @@
 // The read places of document 01 with their rules: one entry, for the message's place and for the sheet's line.
+use crate::Parts;
 use crate::Place;
 use crate::Place::May;
 use crate::Place::Must;
@@ -67,13 +68,28 @@ pub const ITEM_NAME: Place = May(Text(48));
 
 pub const JC10: Place = Must(OneOf(Words::Jc10)); // OBX-3 and SPM-4, component 3
 
-pub const COMPARE: Rule = OneOf(Words::Comparators); // 5: SN
+const BLANK: Rule = OneOf(Words::Blank); // 5: a part that NM and ST have no use for
 
-pub const JOIN: Rule = OneOf(Words::Joiners);
+pub const SN: Parts = Parts {
+    compare: OneOf(Words::Comparators),
+    value: Rule::Number,
+    join: OneOf(Words::Joiners),
+    second: Rule::Number,
+};
 
-pub const NUMBER: Rule = Rule::Number; // 5: NM, both numbers of SN
+pub const NM: Parts = Parts {
+    compare: BLANK,
+    value: Rule::Number,
+    join: BLANK,
+    second: BLANK,
+};
 
-pub const TEXT: Rule = Text(200); // 5: ST
+pub const ST: Parts = Parts {
+    compare: BLANK,
+    value: Text(200),
+    join: BLANK,
+    second: BLANK,
+};
 
 pub const UNIT: Place = May(Text(20)); // 6
 

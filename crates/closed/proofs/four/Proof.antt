@@ -13,6 +13,9 @@ blank-requires-2 c κs = search needs
 blank-requires-3 : tie.Need-blank-requires-3
 blank-requires-3 c κs = search needs
 
+beside-requires : tie.Need-beside-requires
+beside-requires c κs = search needs
+
 compared-requires : tie.Need-compared-requires
 compared-requires c κs = search needs
 
@@ -35,6 +38,7 @@ four-spec =
     blank-requires
     blank-requires-2
     blank-requires-3
+    beside-requires
     compared-requires
     joined-requires
     earlier-requires
