@@ -19,22 +19,21 @@ use Rattle.rules.specs.Places.{Four, valueRules}
 use Rattle.rules.specs.View.{componentOf}
 use Rattle.rules.specs.Judge.{judge, faultOr23, firstMarked, kanji, nameFault, namesFault, isSN, rawFour, beside, unjoined, partsFault, valueFault}
 use Rattle.rules.proofs.Logic.{cases, cond-same, then-none, then-zero, then-assoc, when-none}
-use Rattle.rules.proofs.Lists.{here, over, rest-is, empty-zero, filled-some, all-cons, same-eq}
+use Rattle.rules.proofs.Lists.{here, over, rest-is, empty-zero, filled-some, all-cons}
 use Rattle.rules.proofs.Split.{split-nil, split-none}
 use Rattle.rules.proofs.Modes.{length-marks}
 use Rattle.rules.proofs.Clean.{same-met}
 use Rattle.scan.specs.Scan.{until, is, ends, after, next, plainText, CutOf, TailOf, Proper}
 use Rattle.scan.proofs.Laws.{from-met, piece-met, ends-far}
-use Rattle.value.specs.Rules.{faultNo, ruleOf, rulesOf, textOf}
+use Rattle.value.specs.Rules.{faultNo, ruleOf, rulesOf}
 use Rattle.value.specs.declared.Fault.{Fault}
 use Rattle.rules.specs.declared.Kind.the-variants.{Repeated, Escape, Value}
 use Rattle.value.specs.declared.Fault.the-variants.{Nothing, Found}
-use Rattle.value.specs.declared.Words.the-variants.{Comparators, Joiners}
 use Rattle.value.specs.declared.Rule.{Rule}
 use Rattle.value.specs.declared.Rule.the-variants.{Time, Date, Number, Text, Digits, Capitals, OneOf}
 use Rattle.value.specs.declared.Parts.{Parts}
 use Rattle.judge.specs.Judge.{Raw, Small}
-use Rattle.closed.specs.Closed.{endsRepetition, fieldAt, repetitionAt, componentAt, forward, ClosedOf, charsetFault, MarkedOf, shapeFault, comparedFault, lastTwo, unjoinedFault, joinedFault, fourAt, FourOf, ValueOf}
+use Rattle.closed.specs.Closed.{endsRepetition, fieldAt, repetitionAt, componentAt, forward, ClosedOf, charsetFault, MarkedOf, shapeFault, comparedFault, lastTwo, unjoinedFault, joinedFault, fourAt, FourOf, ValueOf, SmallParts}
 use Rattle.closed.proofs.Pieces.{after-free, after-none, after-short, component-at, components-over, forward-long, forward-repeats, forward-short, repetition-is, rest-long, rest-more, rest-none, split-after, until-free, until-none, whole-field}
 
 -- ---- general
@@ -309,8 +308,8 @@ alone-is : (d : Delims) (type f : List ℕ) → isSN type ≡ false → rawFour 
 unfolding rawFour
 alone-is d type f s = rw s
 
-module _ (t : List ℕ) (d : Delims) (rule : Rule) (a b r : Fault) (n : ℕ) (y : Bool) (p : Proper d) (e : ClosedOf (shapeFault d 0) (fieldAt d t) (faultNo a) n)
-    (g : faultNo b ≡ judge d false (ruleOf rule) (componentAt d t)) (h : faultNo r ≡ (faultNo a then faultNo b)) (ey : y ≡ empty (componentAt d t)) where
+module _ (t : List ℕ) (d : Delims) (rules : Parts) (a b r : Fault) (n : ℕ) (y : Bool) (p : Proper d) (e : ClosedOf (shapeFault d 0) (fieldAt d t) (faultNo a) n)
+    (g : faultNo b ≡ judge d false (ruleOf (rules .value)) (componentAt d t)) (h : faultNo r ≡ (faultNo a then faultNo b)) (ey : y ≡ empty (componentAt d t)) where
   module _ (type : List ℕ) (s : isSN type ≡ false) where
     single-raw : has (d .repetition) (fieldAt d t) ≡ false → rawFour d type (fieldAt d t) ≡ alone (componentAt d t)
     unfolding forward
@@ -319,21 +318,22 @@ module _ (t : List ℕ) (d : Delims) (rule : Rule) (a b r : Fault) (n : ℕ) (y 
     single-shape : faultNo r ≡ (shapeFault d 0 (fieldAt d t) then faultNo b)
     single-shape = h ∙ ap (λ x. x then faultNo b) (e .told)
 
-    pub single-is : valueRules type .value ≡ ruleOf rule → ValueOf d type (fieldAt d t) (faultNo r) n (not y) false
-    unfolding beside empty
+    pub single-is : rulesOf rules ≡ valueRules type → ValueOf d type (fieldAt d t) (faultNo r) n (not y) false
+    unfolding rulesOf beside empty
     single-is v = record {
       told = single-shape ∙ sym (value-told d type (fieldAt d t) 0 (faultNo b) (rw s)
-          (λ z. ap (partsFault d (valueRules type)) (single-raw z) ∙ alone-fault d (valueRules type) (componentAt d t) ∙ rw v (sym g)));
+          (λ z. ap (partsFault d (valueRules type)) (single-raw z) ∙ alone-fault d (valueRules type) (componentAt d t) ∙ rw (← v) (sym g)));
       long = e .long;
       filled = λ z. let q = single-raw (unrepeated d 0 (fieldAt d t) (faultNo b) (sym single-shape ∙ z)) in cc;
       beside = λ z. let q = single-raw (unrepeated d 0 (fieldAt d t) (faultNo b) (sym single-shape ∙ z)) in cc;
     }
 
 -- SN
-pub compared-is : (d : Delims) (x y : List ℕ) (beside : Bool) (f g r : ℕ) → f ≡ judge d false (ruleOf (OneOf Comparators)) x → g ≡ judge d beside (ruleOf Number) y
-    → r ≡ (f then g) → r ≡ comparedFault d beside x y
-unfolding comparedFault valueRules ruleOf textOf same bytes
-compared-is d x y beside f g r e h k = cc
+pub compared-is : (d : Delims) (rules : Parts) (x y : List ℕ) (beside : Bool) (f g r : ℕ)
+    → f ≡ judge d false (ruleOf (rules .compare)) x → g ≡ judge d beside (ruleOf (rules .value)) y
+    → r ≡ (f then g) → r ≡ comparedFault d (rulesOf rules) beside x y
+unfolding comparedFault rulesOf
+compared-is d rules x y beside f g r e h k = cc
 
 module _ (x y : List ℕ) (p q r : Bool) (e : p ≡ empty x) (f : q ≡ empty y)
     (g : (c : Four (List ℕ)) → not p ≡ filled (c .join) → not q ≡ filled (c .second) → r ≡ unjoined c) where
@@ -348,59 +348,55 @@ module _ (x y : List ℕ) (p q r : Bool) (e : p ≡ empty x) (f : q ≡ empty y)
   unfolding unjoinedFault faultNo
   unjoined-no h = rw (← unjoined-is, h)
 
-pub joined-is : (d : Delims) (x y : List ℕ) (f g u k r : ℕ) → f ≡ judge d false (ruleOf Number) y → u ≡ unjoinedFault x y → k ≡ (f then u)
-    → g ≡ judge d false (ruleOf (OneOf Joiners)) x → r ≡ (g then k) → r ≡ joinedFault d x y
-unfolding joinedFault valueRules ruleOf textOf same bytes
-joined-is d x y f g u k r ef eu ek eg er = cc
+pub joined-is : (d : Delims) (rules : Parts) (x y : List ℕ) (f g u k r : ℕ)
+    → f ≡ judge d false (ruleOf (rules .second)) y → u ≡ unjoinedFault x y → k ≡ (f then u)
+    → g ≡ judge d false (ruleOf (rules .join)) x → r ≡ (g then k) → r ≡ joinedFault d (rulesOf rules) x y
+unfolding joinedFault rulesOf
+joined-is d rules x y f g u k r ef eu ek eg er = cc
 
-parts-are : (d : Delims) (c : Four (List ℕ)) → (comparedFault d (beside c) (c .compare) (c .value) then joinedFault d (c .join) (c .second)) ≡ partsFault d (valueRules (bytes "SN")) c
+parts-are : (d : Delims) (r : Four Val.Rule) (c : Four (List ℕ))
+    → (comparedFault d r (beside c) (c .compare) (c .value) then joinedFault d r (c .join) (c .second)) ≡ partsFault d r c
 unfolding comparedFault joinedFault unjoinedFault partsFault unjoined
-parts-are d c =
-    let r = valueRules (bytes "SN") in
-    then-assoc (judge d false (r .compare) (c .compare)) (judge d (beside c) (r .value) (c .value)) (joinedFault d (c .join) (c .second))
+parts-are d r c =
+    then-assoc (judge d false (r .compare) (c .compare)) (judge d (beside c) (r .value) (c .value)) (joinedFault d r (c .join) (c .second))
 
-pub four-is : (d : Delims) (t number joiner second : List ℕ) (x y z v b : Bool) (f g r : ℕ)
+pub four-is : (d : Delims) (rules : Four Val.Rule) (t number joiner second : List ℕ) (x y z v b : Bool) (f g r : ℕ)
     → x ≡ empty (componentAt d t) → y ≡ empty (componentAt d joiner) → z ≡ empty (componentAt d second) → v ≡ empty (componentAt d number)
     → ((c : Four (List ℕ)) → not x ≡ filled (c .compare) → not y ≡ filled (c .join) → not z ≡ filled (c .second) → b ≡ beside c)
-    → f ≡ comparedFault d b (componentAt d t) (componentAt d number) → g ≡ joinedFault d (componentAt d joiner) (componentAt d second)
-    → r ≡ (f then g) → FourOf d (fourAt d t number joiner second) r (not v) b
-four-is d t number joiner second x y z v b f g r ex ey ez ev eb ef eg er =
+    → f ≡ comparedFault d rules b (componentAt d t) (componentAt d number) → g ≡ joinedFault d rules (componentAt d joiner) (componentAt d second)
+    → r ≡ (f then g) → FourOf d rules (fourAt d t number joiner second) r (not v) b
+four-is d rules t number joiner second x y z v b f g r ex ey ez ev eb ef eg er =
     let q = eb (fourAt d t number joiner second) (ap not ex) (ap not ey) (ap not ez) in
-    record { told = er ∙ rw (ef, eg, q) (parts-are d (fourAt d t number joiner second)); filled = ap not ev; beside = q }
+    record { told = er ∙ rw (ef, eg, q) (parts-are d rules (fourAt d t number joiner second)); filled = ap not ev; beside = q }
 
-module _ (t number joiner second : List ℕ) (d : Delims) (a b r : Fault) (n : ℕ) (y z : Bool) (p : Proper d) (e : ClosedOf (shapeFault d 3) (fieldAt d t) (faultNo a) n)
+module _ (t number joiner second : List ℕ) (d : Delims) (rules : Four Val.Rule) (a b r : Fault) (n : ℕ) (y z : Bool) (p : Proper d) (e : ClosedOf (shapeFault d 3) (fieldAt d t) (faultNo a) n)
     (e₁ : met number ≡ forward d 1 (met t)) (e₂ : met joiner ≡ forward d 1 (met number)) (e₃ : met second ≡ forward d 1 (met joiner))
-    (g : FourOf d (fourAt d t number joiner second) (faultNo b) y z) (h : faultNo r ≡ (faultNo a then faultNo b)) where
-  numbers-raw : has (d .repetition) (fieldAt d t) ≡ false → rawFour d (bytes "SN") (fieldAt d t) ≡ fourAt d t number joiner second
-  unfolding rawFour same bytes forward
-  numbers-raw q =
-      cc (field-component d p 0 t t refl q, field-component d p 1 t number e₁ q, field-component d p 2 t joiner (e₂ ∙ ap (next d) e₁) q, field-component d p 3 t second (e₃ ∙ ap (next d) (e₂ ∙ ap (next d) e₁)) q)
-
+    (g : FourOf d rules (fourAt d t number joiner second) (faultNo b) y z) (h : faultNo r ≡ (faultNo a then faultNo b)) where
   numbers-shape : faultNo r ≡ (shapeFault d 3 (fieldAt d t) then faultNo b)
   numbers-shape = h ∙ ap (λ x. x then faultNo b) (e .told)
 
-  pub numbers-is : ValueOf d (bytes "SN") (fieldAt d t) (faultNo r) n y z
-  unfolding same bytes
-  numbers-is = record {
-    told = numbers-shape ∙ sym (value-told d (bytes "SN") (fieldAt d t) 3 (faultNo b) refl
-        (λ q. ap (partsFault d (valueRules (bytes "SN"))) (numbers-raw q) ∙ sym (g .told)));
-    long = e .long;
-    filled = λ q. let w = numbers-raw (unrepeated d 3 (fieldAt d t) (faultNo b) (sym numbers-shape ∙ q)) in cc (g .filled);
-    beside = λ q. let w = numbers-raw (unrepeated d 3 (fieldAt d t) (faultNo b) (sym numbers-shape ∙ q)) in cc (g .beside);
-  }
+  module _ (type : List ℕ) (s : isSN type ≡ true) where
+    numbers-raw : has (d .repetition) (fieldAt d t) ≡ false → rawFour d type (fieldAt d t) ≡ fourAt d t number joiner second
+    unfolding rawFour forward
+    numbers-raw q =
+        cc (field-component d p 0 t t refl q, field-component d p 1 t number e₁ q, field-component d p 2 t joiner (e₂ ∙ ap (next d) e₁) q, field-component d p 3 t second (e₃ ∙ ap (next d) (e₂ ∙ ap (next d) e₁)) q)
+
+    pub numbers-is : rules ≡ valueRules type → ValueOf d type (fieldAt d t) (faultNo r) n y z
+    numbers-is v = record {
+      told = numbers-shape ∙ sym (value-told d type (fieldAt d t) 3 (faultNo b) (rw s)
+          (λ q. ap (partsFault d (valueRules type)) (numbers-raw q) ∙ rw (← v) (sym (g .told))));
+      long = e .long;
+      filled = λ q. let w = numbers-raw (unrepeated d 3 (fieldAt d t) (faultNo b) (sym numbers-shape ∙ q)) in cc (g .filled);
+      beside = λ q. let w = numbers-raw (unrepeated d 3 (fieldAt d t) (faultNo b) (sym numbers-shape ∙ q)) in cc (g .beside);
+    }
 
 -- by OBX-2's word
-module _ (d : Delims) (word f : List ℕ) (fault n : ℕ) (y z v : Bool) (ev : v ≡ same word (83 ∷ 78 ∷ [])) where
-  pub value-sn : v ≡ true → ValueOf d (bytes "SN") f fault n y z → ValueOf d word f fault n y z
-  unfolding bytes
-  value-sn h = subst (λ (k : List ℕ). ValueOf d k f fault n y z) (sym (same-eq word (83 ∷ 78 ∷ []) (sym ev ∙ h)))
+pub value-is : (d : Delims) (word f : List ℕ) (fault n : ℕ) (y z v b : Bool) (rules : Four Val.Rule) → v ≡ same word (83 ∷ 78 ∷ []) → v ≡ b → rules ≡ valueRules word
+    → ((type : List ℕ) → isSN type ≡ b → rules ≡ valueRules type → ValueOf d type f fault n y z) → ValueOf d word f fault n y z
+unfolding bytes
+value-is d word f fault n y z v b rules e h q g = g word (sym e ∙ h) q
 
-  pub value-alone : (rules : Parts) → v ≡ false → rulesOf rules ≡ valueRules word
-      → ((type : List ℕ) → isSN type ≡ false → valueRules type .value ≡ ruleOf (rules .value) → ValueOf d type f fault n y z) → ValueOf d word f fault n y z
-  unfolding bytes rulesOf
-  value-alone rules h e g = g word (sym ev ∙ h) (ap (λ (r : Four Val.Rule). r .value) (sym e))
-
--- no rule of its value takes more than 256 bytes
+-- its rules, none for more than 256 bytes
 longest : Val.Rule → ℕ
 longest Val.time = 0
 longest Val.date = 0
@@ -420,11 +416,20 @@ small-is (Digits n) h = h
 small-is (Capitals n) h = h
 small-is (OneOf w) h = tt
 
-value-short : (word : List ℕ) → longest (valueRules word .value) ≤ 256
-unfolding longest valueRules
-value-short word =
-    cases (isSN word) (λ e. rw e (omega arith)) (λ e. cases (same word (bytes "NM")) (λ f. rw (e, f) (omega arith)) (λ f. rw (e, f) (omega arith)))
+abbrev Short : Four Val.Rule → Type 0
+Short r = (longest (r .compare) ≤ 256) × (longest (r .value) ≤ 256) × (longest (r .join) ≤ 256) × (longest (r .second) ≤ 256)
 
-pub value-small : (rules : Parts) (word : List ℕ) → rulesOf rules ≡ valueRules word → Small (rules .value)
+parts-short : (word : List ℕ) → Short (valueRules word)
+unfolding longest valueRules
+parts-short word =
+    cases (isSN word)
+    (λ e. rw e (omega arith, omega arith, omega arith, omega arith))
+    (λ e. cases (same word (bytes "NM"))
+    (λ f. rw (e, f) (omega arith, omega arith, omega arith, omega arith))
+    (λ f. rw (e, f) (omega arith, omega arith, omega arith, omega arith)))
+
+pub parts-small : (rules : Parts) (word : List ℕ) → rulesOf rules ≡ valueRules word → SmallParts rules
 unfolding rulesOf
-value-small rules word e = small-is (rules .value) (rw (ap (λ (r : Four Val.Rule). r .value) e) (value-short word))
+parts-small rules word e =
+    let h = subst Short (sym e) (parts-short word) in
+    (small-is (rules .compare) (h .0), small-is (rules .value) (h .1), small-is (rules .join) (h .2), small-is (rules .second) (h .3))

@@ -11,10 +11,12 @@ use Rattle.rules.specs.Lists.{bytes, empty, same, has, split}
 use Rattle.rules.specs.Lists as L
 use Rattle.rules.specs.Shift.{met}
 use Rattle.rules.specs.Value.{Rule}
-use Rattle.rules.specs.Places.{Four, valueRules}
+use Rattle.rules.specs.Places.{Four}
 use Rattle.rules.specs.Judge.{judge, firstMarked, partsFault, rawFour, valueFault}
 use Rattle.rules.specs.Judge as J
 use Rattle.scan.specs.Scan.{until, is, ends, next}
+use Rattle.value.specs.declared.Parts.{Parts}
+use Rattle.judge.specs.Judge.{Small}
 
 -- where a repetition ends
 abbrev pub endsRepetition : Delims → ℕ → Bool
@@ -53,12 +55,13 @@ pub record MarkedOf (d : Delims) (mark : ℕ) (f r : List ℕ) : Type 0 where
 unfoldable pub shapeFault : Delims → ℕ → List ℕ → ℕ
 shapeFault d n f = 22 when has (d .repetition) f then 23 when ltb (suc n) (length (split (d .component) f))
 
--- SN: the comparator and the number; the joiner and the second number, which needs one
-abbrev rulesSN : Four Rule
-rulesSN = valueRules (bytes "SN")
+-- OBX-5: the rules of its parts, none for more than 256 bytes
+abbrev pub SmallParts : Parts → Type 0
+SmallParts r = Small (r .compare) × Small (r .value) × Small (r .join) × Small (r .second)
 
-unfoldable pub comparedFault : Delims → Bool → List ℕ → List ℕ → ℕ
-comparedFault d required compare value = judge d false (rulesSN .compare) compare then judge d required (rulesSN .value) value
+-- SN: the comparator and the number; the joiner and the second number, which needs one
+unfoldable pub comparedFault : Delims → Four Rule → Bool → List ℕ → List ℕ → ℕ
+comparedFault d r required compare value = judge d false (r .compare) compare then judge d required (r .value) value
 
 abbrev pub lastTwo : List ℕ → List ℕ → Four (List ℕ)
 lastTwo join second = record { compare = []; value = []; join = join; second = second }
@@ -66,16 +69,16 @@ lastTwo join second = record { compare = []; value = []; join = join; second = s
 unfoldable pub unjoinedFault : List ℕ → List ℕ → ℕ
 unjoinedFault join second = 25 when J.unjoined (lastTwo join second)
 
-unfoldable pub joinedFault : Delims → List ℕ → List ℕ → ℕ
-joinedFault d join second = judge d false (rulesSN .join) join then judge d false (rulesSN .second) second then unjoinedFault join second
+unfoldable pub joinedFault : Delims → Four Rule → List ℕ → List ℕ → ℕ
+joinedFault d r join second = judge d false (r .join) join then judge d false (r .second) second then unjoinedFault join second
 
 -- SN: the four components at the starts of four parts
 abbrev pub fourAt : Delims → List ℕ → List ℕ → List ℕ → List ℕ → Four (List ℕ)
 fourAt d t number joiner second =
     record { compare = componentAt d t; value = componentAt d number; join = componentAt d joiner; second = componentAt d second }
 
-pub record FourOf (d : Delims) (c : Four (List ℕ)) (fault : ℕ) (number parts : Bool) : Type 0 where
-  pub told : fault ≡ partsFault d (valueRules (bytes "SN")) c
+pub record FourOf (d : Delims) (r : Four Rule) (c : Four (List ℕ)) (fault : ℕ) (number parts : Bool) : Type 0 where
+  pub told : fault ≡ partsFault d r c
   pub filled : number ≡ L.filled (c .value)
   pub beside : parts ≡ J.beside c
 

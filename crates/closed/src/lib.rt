@@ -2,23 +2,24 @@
 use rules::Delims;
 use rules::Kind;
 use value::Fault;
+use value::Parts;
 use value::Rule;
 use value::earlier;
 use value::table;
 ghost use mathlib.Core.Path.{_≡_};
-ghost use mathlib.Core.Bool.{false};
+ghost use mathlib.Core.Bool.{true, false};
 ghost use mathlib.Core.List.{List, [], _∷_};
 ghost use Prim.Native.Nat.{ℕ, _≤_};
 ghost use lib.ListN.{length};
-ghost use Rattle.rules.specs.Lists.{bytes, empty, filled, same, has};
+ghost use Rattle.rules.specs.Lists.{empty, same, has};
 ghost use Rattle.rules.specs.Shift.{met};
 ghost use Rattle.rules.specs.Places.{valueRules};
 ghost use Rattle.rules.specs.View.{componentOf};
 ghost use Rattle.rules.specs.Judge as J;
 ghost use Rattle.scan.specs.Scan.{Proper};
-ghost use Rattle.value.specs.Rules.{ruleOf, faultNo};
+ghost use Rattle.value.specs.Rules.{ruleOf, rulesOf, faultNo};
 ghost use Rattle.judge.specs.Judge.{Small};
-ghost use Rattle.closed.specs.Closed.{fieldAt, repetitionAt, componentAt, forward, ClosedOf, charsetFault, MarkedOf, shapeFault, comparedFault, unjoinedFault, joinedFault, fourAt, FourOf, ValueOf};
+ghost use Rattle.closed.specs.Closed.{fieldAt, repetitionAt, componentAt, forward, ClosedOf, charsetFault, MarkedOf, shapeFault, comparedFault, unjoinedFault, joinedFault, fourAt, FourOf, ValueOf, SmallParts};
 
 // A closed field: its first fault, and its length.
 pub struct ClosedRead {
@@ -204,14 +205,15 @@ pub struct ValueRead {
 }
 
 // NM and ST: one component.
-fn single(t: &[u8], d: Delims, rule: Rule) -> ValueRead
-    requires { ⌜ Proper d × Small rule ⌝ }
-    ensures { λ r. ⌜ ((type : List ℕ) → J.isSN type ≡ false → valueRules type .value ≡ ruleOf rule → ValueOf d type (fieldAt d (now (t .entry))) (faultNo (r .fault)) (r .len) (r .filled) (r .beside)) ⌝ }
+fn single(t: &[u8], d: Delims, rules: Parts) -> ValueRead
+    requires { ⌜ Proper d × SmallParts rules ⌝ }
+    ensures { λ r. ⌜ ((type : List ℕ) → J.isSN type ≡ false → rulesOf rules ≡ valueRules type → ValueOf d type (fieldAt d (now (t .entry))) (faultNo (r .fault)) (r .len) (r .filled) (r .beside)) ⌝ }
     ensures within { λ r. ⌜ r .len ≤ length (now (t .entry)) ⌝ }
 {
     let e = shape(t, d, 0);
     let len = e.len;
     let form = e.fault;
+    let rule = rules.value;
     let fault = earlier(form, part(t, d, false, rule));
     ValueRead {
         fault,
@@ -222,12 +224,12 @@ fn single(t: &[u8], d: Delims, rule: Rule) -> ValueRead
 }
 
 // SN's comparator, at the start of t, and its number.
-fn compared(t: &[u8], number: &[u8], d: Delims, beside: bool) -> Fault
-    requires { ⌜ Proper d ⌝ }
-    ensures { λ r. ⌜ faultNo r ≡ comparedFault d beside (componentAt d (now (t .entry))) (componentAt d (now (number .entry))) ⌝ }
+fn compared(t: &[u8], number: &[u8], d: Delims, rules: Parts, beside: bool) -> Fault
+    requires { ⌜ Proper d × SmallParts rules ⌝ }
+    ensures { λ r. ⌜ faultNo r ≡ comparedFault d (rulesOf rules) beside (componentAt d (now (t .entry))) (componentAt d (now (number .entry))) ⌝ }
 {
-    let compare = table::SN.compare;
-    let value = table::SN.value;
+    let compare = rules.compare;
+    let value = rules.value;
     earlier(part(t, d, false, compare), part(number, d, beside, value))
 }
 
@@ -242,12 +244,12 @@ fn unjoined(joiner: &[u8], second: &[u8], d: Delims) -> Fault
 }
 
 // SN's joiner and its second number.
-fn joined(joiner: &[u8], second: &[u8], d: Delims) -> Fault
-    requires { ⌜ Proper d ⌝ }
-    ensures { λ r. ⌜ faultNo r ≡ joinedFault d (componentAt d (now (joiner .entry))) (componentAt d (now (second .entry))) ⌝ }
+fn joined(joiner: &[u8], second: &[u8], d: Delims, rules: Parts) -> Fault
+    requires { ⌜ Proper d × SmallParts rules ⌝ }
+    ensures { λ r. ⌜ faultNo r ≡ joinedFault d (rulesOf rules) (componentAt d (now (joiner .entry))) (componentAt d (now (second .entry))) ⌝ }
 {
-    let join = table::SN.join;
-    let number = table::SN.second;
+    let join = rules.join;
+    let number = rules.second;
     earlier(
         part(joiner, d, false, join),
         earlier(part(second, d, false, number), unjoined(joiner, second, d)),
@@ -261,12 +263,15 @@ struct FourRead {
     beside: bool,
 }
 
-fn four(t: &[u8], number: &[u8], joiner: &[u8], second: &[u8], d: Delims) -> FourRead
-    requires { ⌜ Proper d ⌝ }
-    ensures { λ r. ⌜ FourOf d (fourAt d (now (t .entry)) (now (number .entry)) (now (joiner .entry)) (now (second .entry))) (faultNo (r .fault)) (r .filled) (r .beside) ⌝ }
+fn four(t: &[u8], number: &[u8], joiner: &[u8], second: &[u8], d: Delims, rules: Parts) -> FourRead
+    requires { ⌜ Proper d × SmallParts rules ⌝ }
+    ensures { λ r. ⌜ FourOf d (rulesOf rules) (fourAt d (now (t .entry)) (now (number .entry)) (now (joiner .entry)) (now (second .entry))) (faultNo (r .fault)) (r .filled) (r .beside) ⌝ }
 {
     let beside = value::beside(!blank(t, d), !blank(joiner, d), !blank(second, d));
-    let fault = earlier(compared(t, number, d, beside), joined(joiner, second, d));
+    let fault = earlier(
+        compared(t, number, d, rules, beside),
+        joined(joiner, second, d, rules),
+    );
     FourRead {
         fault,
         filled: !blank(number, d),
@@ -275,9 +280,9 @@ fn four(t: &[u8], number: &[u8], joiner: &[u8], second: &[u8], d: Delims) -> Fou
 }
 
 // SN: comparator, number, joiner, second number.
-fn numbers(t: &[u8], d: Delims) -> ValueRead
-    requires { ⌜ Proper d ⌝ }
-    ensures { λ r. ⌜ ValueOf d (bytes "SN") (fieldAt d (now (t .entry))) (faultNo (r .fault)) (r .len) (r .filled) (r .beside) ⌝ }
+fn numbers(t: &[u8], d: Delims, rules: Parts) -> ValueRead
+    requires { ⌜ Proper d × SmallParts rules ⌝ }
+    ensures { λ r. ⌜ ((type : List ℕ) → J.isSN type ≡ true → rulesOf rules ≡ valueRules type → ValueOf d type (fieldAt d (now (t .entry))) (faultNo (r .fault)) (r .len) (r .filled) (r .beside)) ⌝ }
     ensures within { λ r. ⌜ r .len ≤ length (now (t .entry)) ⌝ }
 {
     let e = shape(t, d, 3);
@@ -286,7 +291,7 @@ fn numbers(t: &[u8], d: Delims) -> ValueRead
     let number = component(t, d, 1);
     let joiner = component(number, d, 1);
     let second = component(joiner, d, 1);
-    let p = four(t, number, joiner, second, d);
+    let p = four(t, number, joiner, second, d, rules);
     let own = p.fault;
     let fault = earlier(form, own);
     ValueRead {
@@ -303,10 +308,9 @@ pub fn value(t: &[u8], d: Delims, word: &[u8]) -> ValueRead
     ensures { λ r. ⌜ ValueOf d (now (word .entry)) (fieldAt d (now (t .entry))) (faultNo (r .fault)) (r .len) (r .filled) (r .beside) ⌝ }
     ensures within { λ r. ⌜ r .len ≤ length (now (t .entry)) ⌝ }
 {
-    if value::equal(word, b"SN") {
-        return numbers(t, d);
-    }
     let rules = value::part_rules(word);
-    let rule = rules.value;
-    single(t, d, rule)
+    if value::equal(word, b"SN") {
+        return numbers(t, d, rules);
+    }
+    single(t, d, rules)
 }

@@ -1,16 +1,13 @@
 -- `closed::joined` meets its contract.
 use borrow.Author.Needs.{needs}
-use Rattle.judge.specs.Judge.{Small}
 use Rattle.closed.proofs.Laws.{joined-is}
 use Rattle.closed.proofs.joined.Statement.{statement}
 use Rattle.closed.proofs.joined.Tie as tie
 
 part-requires : tie.Need-part-requires
-unfolding Small
 part-requires c κs = search needs
 
 part-requires-2 : tie.Need-part-requires-2
-unfolding Small
 part-requires-2 c κs = search needs
 
 unjoined-requires : tie.Need-unjoined-requires
