@@ -6,8 +6,8 @@ use Prim.Native.Nat.{ℕ, suc, _+_, _-_, _≤_, _<_}
 use native.Mathlib.Omega.{arith}
 use borrow.Author.Tests.{eq-eqb, ne-eqb, eqb-true}
 use lib.Dec.{eqb}
-use lib.ListN.{length, take, drop, length-take, length-drop, drop-of-length-le}
-use lib.Seq.{drop-drop, getD-drop}
+use lib.ListN.{length, take, drop, getD, set, length-set, length-take, length-drop, drop-of-length-le}
+use lib.Seq.{drop-drop, getD-drop, getD-set-same, getD-set-other}
 use Rattle.rules.specs.declared.Name.{Name}
 use Rattle.rules.specs.declared.Name.the-variants.{Msh, Pid, Pv1, Spm, Obr, Obx}
 use Rattle.rules.specs.Lists.{bytes, empty, filled, nth, same, starts, split, allButLast, isOneOf, any, onto}
@@ -30,7 +30,7 @@ use Rattle.value.specs.Rules.{faultNo, fineOf, ruleOf, textOf}
 use Rattle.value.proofs.Laws.{split-last, split-more, fine-zero, fault-some}
 use Rattle.lines.specs.declared.Verdict.{Verdict}
 use Rattle.lines.specs.declared.Verdict.the-variants.{Fine, Key, Value}
-use Rattle.lines.specs.Lines.{fitsPlace, fourOf, joinedOk, andThen, isFine, lineAs, lineVerdict, verdict, groupVerdict, nextGroup}
+use Rattle.lines.specs.Lines.{behind, Cut, fitsPlace, fourOf, joinedOk, andThen, isFine, lineAs, lineVerdict, verdict, groupVerdict, nextGroup}
 
 -- ---- lines by their 0A
 none : (s : List ℕ) → length (until (is 0x0A) s) ≡ length s → linesOf s ≡ []
@@ -64,8 +64,16 @@ module _ (s : List ℕ) (at n : ℕ) (e : n ≡ length (until (is 0x0A) (take (l
           → length (until (is 0x0A) (drop at s)) < length (drop at s)
       less f g = omega arith
 
-  pub past-none : n ≡ length (take (length s - at) (drop at s)) → linesOf (drop (length s) s) ≡ drop 1 (linesOf (drop at s))
-  past-none h = no-lines s (length s) (omega arith) ∙ rw (found-none h)
+  pub past-none : n ≡ length (take (length s - at) (drop at s)) → linesOf (drop at s) ≡ drop 1 (linesOf (drop at s))
+  past-none h = rw (found-none h)
+
+  pub behind-none : n ≡ length (take (length s - at) (drop at s)) → at ≡ behind (linesOf (drop at s)) at
+  unfolding behind
+  behind-none h = rw (found-none h)
+
+  pub behind-some : (n ≡ length (take (length s - at) (drop at s)) → ⊥) → at + n + 1 ≡ behind (linesOf (drop at s)) at
+  unfolding behind
+  behind-some h = rw (found-some h) (let z : length (take n (drop at s)) ≡ n = simp (length-take) (omega (arith, size)) in omega (arith, z))
 
   pub past-some : at ≤ length s → (n ≡ length (take (length s - at) (drop at s)) → ⊥) → linesOf (drop (at + n + 1) s) ≡ drop 1 (linesOf (drop at s))
   past-some g h =
@@ -118,6 +126,35 @@ skip-goes s at r i e f = f ∙ ap (drop 1) e ∙ drop-drop 1 i (linesOf s)
 
 pub skip-ends : (s : List ℕ) (at i n : ℕ) → linesOf (drop at s) ≡ drop i (linesOf s) → i ≤ n → n ≤ i → linesOf (drop at s) ≡ drop n (linesOf s)
 skip-ends s at i n e h g = let z : i ≡ n = omega arith in e ∙ ap (λ (k : ℕ). drop k (linesOf s)) z
+
+-- ---- the places of a group's lines
+pub cut-start : (s at : List ℕ) → length at ≡ 11 → getD at 0 0 ≡ 0 → Cut 0 s at
+cut-start s at n e = record { size = n; within = λ k w. only k w (λ (m : ℕ). getD at m 0 ≤ length s) (omega (arith, e)); from = λ k w. only k w (λ (m : ℕ). linesOf (drop (getD at m 0) s) ≡ drop m (linesOf s)) (rw e); next = λ k w. absurd (omega arith) }
+  where
+    only : (k : ℕ) → k ≤ 0 → (P : ℕ → Type 0) → P 0 → P k
+    only k w P p = let z : 0 ≡ k = omega arith in subst P z p
+
+module _ (s at : List ℕ) (i r : ℕ) (c : Cut i s at) (h : i < 10) (e : r ≡ behind (linesOf (drop (getD at i 0) s)) (getD at i 0)) (f : linesOf (drop r s) ≡ drop 1 (linesOf (drop (getD at i 0) s))) (g : r ≤ length s) where
+  new : getD (set at (i + 1) r) (i + 1) 0 ≡ r
+  new = getD-set-same at (i + 1) r 0 (omega (arith, c .size))
+
+  old : (k : ℕ) → k ≤ i → getD (set at (i + 1) r) k 0 ≡ getD at k 0
+  old k w = getD-set-other at (i + 1) k r 0 (λ q. absurd (omega arith))
+
+  up-to : (P : ℕ → Type 0) (m k : ℕ) → k < m + 1 → (k < m → P k) → P m → P k
+  up-to P m k w p q = cases (eqb k m) (λ b. subst P (sym (eqb-true k m b)) q) (λ b. p (less (λ z. never (sym (eq-eqb k m z) ∙ b))))
+    where
+      less : (k ≡ m → ⊥) → k < m
+      less z = omega arith
+
+  pub cut-on : Cut (i + 1) s (set at (i + 1) r)
+  cut-on = record { size = length-set at (i + 1) r ∙ c .size; within = λ k w. up-to (λ (m : ℕ). getD (set at (i + 1) r) m 0 ≤ length s) (i + 1) k (omega arith) (λ v. rw (old k (omega arith)) (c .within k (omega arith))) (rw new g); from = λ k w. up-to (λ (m : ℕ). linesOf (drop (getD (set at (i + 1) r) m 0) s) ≡ drop m (linesOf s)) (i + 1) k (omega arith) (λ v. rw (old k (omega arith)) (c .from k (omega arith))) (rw new (skip-goes s (getD at i 0) r i (c .from i (omega arith)) f)); next = λ k w. up-to (λ (m : ℕ). getD (set at (i + 1) r) (m + 1) 0 ≡ behind (drop m (linesOf s)) (getD (set at (i + 1) r) m 0)) i k w (λ v. rw (old k (omega arith), old (k + 1) (omega arith)) (c .next k v)) (rw (new, old i (omega arith), ← c .from i (omega arith)) e) }
+
+pub cut-place : (s at : List ℕ) (i k : ℕ) → Cut i s at → k ≤ i → getD at k 0 ≤ length s
+cut-place s at i k c h = c .within k h
+
+pub cut-ends : (s at : List ℕ) (i : ℕ) → Cut i s at → i ≤ 10 → 10 ≤ i → Cut 10 s at
+cut-ends s at i c h g = let z : i ≡ 10 = omega arith in subst (λ (m : ℕ). Cut m s at) z c
 
 -- ---- a key
 starts-front : (key t : List ℕ) → length key ≤ length t → same (take (length key) t) key ≡ starts key t

@@ -8,7 +8,7 @@ use value::Words;
 use value::table;
 ghost use mathlib.Core.Path.{_≡_};
 ghost use mathlib.Core.Bool.{_&&_, _||_};
-ghost use Prim.Native.Nat.{_+_, _≤_};
+ghost use Prim.Native.Nat.{_+_, _≤_, _<_};
 ghost use lib.Dec.{eqb};
 ghost use lib.ListN.{length, drop};
 ghost use Rattle.rules.specs.Lists.{nth, empty, filled};
@@ -19,7 +19,7 @@ ghost use Rattle.rules.specs.Places.{valueRules};
 ghost use Rattle.rules.specs.Row.{lines};
 ghost use Rattle.rules.specs.Sheet.{linesOf};
 ghost use Rattle.value.specs.Rules.{ruleOf};
-ghost use Rattle.lines.specs.Lines.{fitsPlace, fourOf, joinedOk, andThen, isFine, lineAs, groupVerdict, nextGroup};
+ghost use Rattle.lines.specs.Lines.{fitsPlace, fourOf, joinedOk, andThen, isFine, lineAs, groupVerdict, nextGroup, behind, Cut};
 
 // On the lines of a group, by their place in it, from 0.
 pub enum Verdict {
@@ -50,18 +50,32 @@ fn first(a: Verdict, b: Verdict) -> Verdict
 
 // ---- lines
 
-// The place behind the line at a place, or the end where there is no 0A.
+// The place behind the line at a place, or that place where no 0A ends one.
 fn next_line(s: &[u8], at: usize) -> usize
     requires { ⌜ at ≤ length (now s) ⌝ }
-    ensures { λ r. ⌜ linesOf (drop r (now (s .entry))) ≡ drop 1 (linesOf (drop at (now (s .entry)))) ⌝ }
+    ensures { λ r. ⌜ r ≡ behind (linesOf (drop at (now (s .entry)))) at ⌝ }
+    ensures rest { λ r. ⌜ linesOf (drop r (now (s .entry))) ≡ drop 1 (linesOf (drop at (now (s .entry)))) ⌝ }
     ensures within { λ r. ⌜ r ≤ length (now (s .entry)) ⌝ }
 {
     let rest = &s[at..];
     let n = value::before(rest, 0x0A);
     if n == rest.len() {
-        return s.len();
+        return at;
     }
     at + n + 1
+}
+
+// The places of the first ten lines, as many as the longest group has, and the place behind each.
+pub fn cut(s: &[u8]) -> [usize; 11]
+    ensures { λ r. ⌜ Cut 10 (now (s .entry)) r ⌝ }
+{
+    let mut at = [0; 11];
+    let mut i = 0;
+    while i < 10 {
+        at[i + 1] = next_line(s, at[i]);
+        i += 1;
+    }
+    at
 }
 
 // The place behind n lines.
@@ -89,7 +103,7 @@ pub fn has_line(s: &[u8], at: usize) -> bool
 }
 
 // The k-th line, from 0; empty where there are fewer.
-fn line_at(s: &[u8], k: usize) -> &[u8]
+fn walked_line(s: &[u8], k: usize) -> &[u8]
     ensures { λ r. ⌜ (now r ≡ nth (linesOf (now (s .entry))) k) × (length (now r) ≤ length (now (s .entry))) ⌝ }
 {
     let at = skip_lines(s, k);
@@ -102,15 +116,23 @@ fn line_at(s: &[u8], k: usize) -> &[u8]
 }
 
 // What stands in it behind n bytes, those of its key.
-pub fn value_at(s: &[u8], k: usize, n: usize) -> &[u8]
+fn walked_value(s: &[u8], k: usize, n: usize) -> &[u8]
     ensures { λ r. ⌜ (now r ≡ drop n (nth (linesOf (now (s .entry))) k)) × (length (now r) ≤ length (now (s .entry))) ⌝ }
 {
-    let t = line_at(s, k);
+    let t = walked_line(s, k);
     let len = t.len();
     if len < n {
         return &t[len..];
     }
     &t[n..]
+}
+
+// What stands in the k-th line behind n bytes, those of its key.
+pub fn value_at<'a>(s: &'a [u8], at: &[usize; 11], k: usize, n: usize) -> &'a [u8]
+    requires { ⌜ Cut 10 (now s) (now at) × (k < 10) ⌝ }
+    ensures { λ r. ⌜ (now r ≡ drop n (nth (linesOf (now (s .entry))) k)) × (length (now r) ≤ length (now (s .entry))) ⌝ }
+{
+    walked_value(s, k, n)
 }
 
 fn starts(key: &[u8], t: &[u8]) -> bool
@@ -128,7 +150,7 @@ fn starts(key: &[u8], t: &[u8]) -> bool
 fn judged(before: Verdict, s: &[u8], k: usize, key: &[u8], good: bool) -> Verdict
     ensures { λ r. ⌜ r ≡ andThen before (lineAs k (now (key .entry)) good (nth (linesOf (now (s .entry))) k)) ⌝ }
 {
-    let t = line_at(s, k);
+    let t = walked_line(s, k);
     if !starts(key, t) {
         return first(before, Verdict::Key(k));
     }
@@ -163,7 +185,7 @@ fn keeps_place(v: &[u8], place: Place) -> bool
 fn line(before: Verdict, s: &[u8], k: usize, key: &[u8], place: Place) -> Verdict
     ensures { λ r. ⌜ r ≡ andThen before (lineAs k (now (key .entry)) (fitsPlace place (drop (length (now (key .entry))) (nth (linesOf (now (s .entry))) k))) (nth (linesOf (now (s .entry))) k)) ⌝ }
 {
-    let v = value_at(s, k, key.len());
+    let v = walked_value(s, k, key.len());
     judged(before, s, k, key, keeps_place(v, place))
 }
 
@@ -171,7 +193,7 @@ fn line(before: Verdict, s: &[u8], k: usize, key: &[u8], place: Place) -> Verdic
 fn line_if(before: Verdict, s: &[u8], k: usize, key: &[u8], place: Place, also: bool) -> Verdict
     ensures { λ r. ⌜ r ≡ andThen before (lineAs k (now (key .entry)) (fitsPlace place (drop (length (now (key .entry))) (nth (linesOf (now (s .entry))) k)) && also) (nth (linesOf (now (s .entry))) k)) ⌝ }
 {
-    let v = value_at(s, k, key.len());
+    let v = walked_value(s, k, key.len());
     judged(before, s, k, key, keeps_place(v, place) & also)
 }
 
@@ -200,7 +222,7 @@ fn order(s: &[u8]) -> Verdict
 fn header(s: &[u8]) -> Verdict
     ensures { λ r. ⌜ r ≡ groupVerdict Name.Msh (linesOf (now (s .entry))) ⌝ }
 {
-    let one = value::equal(value_at(s, 0, 8), b"1");
+    let one = value::equal(walked_value(s, 0, 8), b"1");
     let version = line_if(Verdict::Fine, s, 0, b"version=", Must(Rule::Text(1)), one);
     let mode = line(version, s, 1, b"mode=", table::MODE);
     let sent = line(mode, s, 2, b"sent=", table::SENT);
@@ -217,7 +239,7 @@ fn kana_fits(family: &[u8], given: &[u8]) -> bool
 fn patient(s: &[u8]) -> Verdict
     ensures { λ r. ⌜ r ≡ groupVerdict Name.Pid (linesOf (now (s .entry))) ⌝ }
 {
-    let also = kana_fits(value_at(s, 3, 11), value_at(s, 4, 10));
+    let also = kana_fits(walked_value(s, 3, 11), walked_value(s, 4, 10));
     let id = line(Verdict::Fine, s, 0, b"patient=", table::PATIENT);
     let family = line(id, s, 1, b"family=", Must(table::NAME));
     let given = line(family, s, 2, b"given=", May(table::NAME));
@@ -293,12 +315,12 @@ fn agrees(status: &[u8], compare: &[u8], value: &[u8], join: &[u8], second: &[u8
 fn result(s: &[u8]) -> Verdict
     ensures { λ r. ⌜ r ≡ groupVerdict Name.Obx (linesOf (now (s .entry))) ⌝ }
 {
-    let kind = value_at(s, 2, 5);
-    let compare = value_at(s, 3, 8);
-    let value = value_at(s, 4, 6);
-    let join = value_at(s, 5, 5);
-    let second = value_at(s, 6, 7);
-    let met = agrees(value_at(s, 9, 7), compare, value, join, second);
+    let kind = walked_value(s, 2, 5);
+    let compare = walked_value(s, 3, 8);
+    let value = walked_value(s, 4, 6);
+    let join = walked_value(s, 5, 5);
+    let second = walked_value(s, 6, 7);
+    let met = agrees(walked_value(s, 9, 7), compare, value, join, second);
     let item = line(Verdict::Fine, s, 0, b"item=", table::ITEM);
     let name = line(item, s, 1, b"name=", table::ITEM_NAME);
     let to_type = line(name, s, 2, b"type=", table::TYPE);
@@ -318,7 +340,8 @@ fn result(s: &[u8]) -> Verdict
     line_if(flag, s, 9, b"status=", table::STATUS, met)
 }
 
-pub fn group(name: Name, s: &[u8]) -> Verdict
+pub fn group(name: Name, s: &[u8], at: &[usize; 11]) -> Verdict
+    requires { ⌜ Cut 10 (now s) (now at) ⌝ }
     ensures { λ r. ⌜ r ≡ groupVerdict name (linesOf (now (s .entry))) ⌝ }
 {
     match name {
@@ -346,7 +369,7 @@ pub fn next_group(name: Name, s: &[u8]) -> Name
         Name::Spm => Name::Obr,
         Name::Obr => Name::Obx,
         Name::Orc => Name::Obx,
-        Name::Obx => after_result(line_at(s, 0)),
+        Name::Obx => after_result(walked_line(s, 0)),
     }
 }
 

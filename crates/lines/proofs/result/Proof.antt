@@ -7,23 +7,23 @@ use borrow.Author.Needs.{needs}
 use Rattle.lines.proofs.result.Statement.{statement}
 use Rattle.lines.proofs.result.Tie as tie
 
-value-at-requires : tie.Need-value-at-requires
-value-at-requires c κs = search needs
+walked-value-requires : tie.Need-walked-value-requires
+walked-value-requires c κs = search needs
 
-value-at-requires-2 : tie.Need-value-at-requires-2
-value-at-requires-2 c κs = search needs
+walked-value-requires-2 : tie.Need-walked-value-requires-2
+walked-value-requires-2 c κs = search needs
 
-value-at-requires-3 : tie.Need-value-at-requires-3
-value-at-requires-3 c κs = search needs
+walked-value-requires-3 : tie.Need-walked-value-requires-3
+walked-value-requires-3 c κs = search needs
 
-value-at-requires-4 : tie.Need-value-at-requires-4
-value-at-requires-4 c κs = search needs
+walked-value-requires-4 : tie.Need-walked-value-requires-4
+walked-value-requires-4 c κs = search needs
 
-value-at-requires-5 : tie.Need-value-at-requires-5
-value-at-requires-5 c κs = search needs
+walked-value-requires-5 : tie.Need-walked-value-requires-5
+walked-value-requires-5 c κs = search needs
 
-value-at-requires-6 : tie.Need-value-at-requires-6
-value-at-requires-6 c κs = search needs
+walked-value-requires-6 : tie.Need-walked-value-requires-6
+walked-value-requires-6 c κs = search needs
 
 agrees-requires : tie.Need-agrees-requires
 agrees-requires c κs = search needs
@@ -104,18 +104,18 @@ line-if-requires-5 : tie.Need-line-if-requires-5
 line-if-requires-5 c κs = search needs
 
 returns : tie.Need-returns
-returns c = result-is _ _ _ _ _ _ _ _ _ _ _ _ _ (c .before .before .before .before .before .before .before .before .before .before .before .before .before .before .before .before .before .before .before .before .before .before .before .before .before .before .before .before .before .before .before .value-at .ensures .0) (c .before .before .before .before .before .before .before .before .before .before .before .before .before .before .before .before .before .before .before .before .before .before .before .before .before .before .before .before .before .before .value-at2 .ensures .0) (c .before .before .before .before .before .before .before .before .before .before .before .before .before .before .before .before .before .before .before .before .before .before .before .before .before .before .before .before .before .value-at3 .ensures .0) (c .before .before .before .before .before .before .before .before .before .before .before .before .before .before .before .before .before .before .before .before .before .before .before .before .before .before .before .before .value-at4 .ensures .0) (c .before .before .before .before .before .before .before .before .before .before .before .before .before .before .before .before .before .before .before .before .before .before .before .before .before .before .before .value-at5 .ensures .0) (c .before .before .before .before .before .before .before .before .before .before .before .before .before .before .before .before .before .before .before .before .before .before .before .before .before .before .value-at6 .ensures .0) (c .before .before .before .before .before .before .before .before .before .before .before .before .before .before .before .before .before .before .before .before .before .before .before .before .before .agrees .ensures) (c .before .before .before .before .before .before .before .joined .ensures) (c .before .before .before .before .before .before .before .before .before .before .before .before .before .before .before .before .before .compare-rule .ensures) (c .before .before .before .before .before .before .before .before .before .before .before .before .before .before .value-rule .ensures) (c .before .before .before .before .before .before .before .before .before .before .before .join-rule .ensures) (c .before .before .before .before .before .before .before .before .second-rule .ensures) _ _ _ _ _ _ _ _ _ _ (c .before .before .before .before .before .before .before .before .before .before .before .before .before .before .before .before .before .before .before .before .before .before .before .line .ensures) (c .before .before .before .before .before .before .before .before .before .before .before .before .before .before .before .before .before .before .before .before .before .line2 .ensures) (c .before .before .before .before .before .before .before .before .before .before .before .before .before .before .before .before .before .before .before .line3 .ensures) (c .before .before .before .before .before .before .before .before .before .before .before .before .before .before .before .before .line-if .ensures) (c .before .before .before .before .before .before .before .before .before .before .before .before .before .line-if2 .ensures) (c .before .before .before .before .before .before .before .before .before .before .line-if3 .ensures) (c .before .before .before .before .before .before .line-if4 .ensures) (c .before .before .before .before .line4 .ensures) (c .before .before .line5 .ensures) (c .line-if5 .ensures)
+returns c = result-is _ _ _ _ _ _ _ _ _ _ _ _ _ (c .before .before .before .before .before .before .before .before .before .before .before .before .before .before .before .before .before .before .before .before .before .before .before .before .before .before .before .before .before .before .before .walked-value .ensures .0) (c .before .before .before .before .before .before .before .before .before .before .before .before .before .before .before .before .before .before .before .before .before .before .before .before .before .before .before .before .before .before .walked-value2 .ensures .0) (c .before .before .before .before .before .before .before .before .before .before .before .before .before .before .before .before .before .before .before .before .before .before .before .before .before .before .before .before .before .walked-value3 .ensures .0) (c .before .before .before .before .before .before .before .before .before .before .before .before .before .before .before .before .before .before .before .before .before .before .before .before .before .before .before .before .walked-value4 .ensures .0) (c .before .before .before .before .before .before .before .before .before .before .before .before .before .before .before .before .before .before .before .before .before .before .before .before .before .before .before .walked-value5 .ensures .0) (c .before .before .before .before .before .before .before .before .before .before .before .before .before .before .before .before .before .before .before .before .before .before .before .before .before .before .walked-value6 .ensures .0) (c .before .before .before .before .before .before .before .before .before .before .before .before .before .before .before .before .before .before .before .before .before .before .before .before .before .agrees .ensures) (c .before .before .before .before .before .before .before .joined .ensures) (c .before .before .before .before .before .before .before .before .before .before .before .before .before .before .before .before .before .compare-rule .ensures) (c .before .before .before .before .before .before .before .before .before .before .before .before .before .before .value-rule .ensures) (c .before .before .before .before .before .before .before .before .before .before .before .join-rule .ensures) (c .before .before .before .before .before .before .before .before .second-rule .ensures) _ _ _ _ _ _ _ _ _ _ (c .before .before .before .before .before .before .before .before .before .before .before .before .before .before .before .before .before .before .before .before .before .before .before .line .ensures) (c .before .before .before .before .before .before .before .before .before .before .before .before .before .before .before .before .before .before .before .before .before .line2 .ensures) (c .before .before .before .before .before .before .before .before .before .before .before .before .before .before .before .before .before .before .before .line3 .ensures) (c .before .before .before .before .before .before .before .before .before .before .before .before .before .before .before .before .line-if .ensures) (c .before .before .before .before .before .before .before .before .before .before .before .before .before .line-if2 .ensures) (c .before .before .before .before .before .before .before .before .before .before .line-if3 .ensures) (c .before .before .before .before .before .before .line-if4 .ensures) (c .before .before .before .before .line4 .ensures) (c .before .before .line5 .ensures) (c .line-if5 .ensures)
 
 pub result-spec : {M : Type 1} → statement M
 result-spec =
     tie.close
     (tie.spec
-    value-at-requires
-    value-at-requires-2
-    value-at-requires-3
-    value-at-requires-4
-    value-at-requires-5
-    value-at-requires-6
+    walked-value-requires
+    walked-value-requires-2
+    walked-value-requires-3
+    walked-value-requires-4
+    walked-value-requires-5
+    walked-value-requires-6
     agrees-requires
     slice-aggregate-line
     line-requires

@@ -5,8 +5,8 @@ use mathlib.Core.Path.{_≡_}
 use lib.ListN.{length, take, drop}
 use Rattle.lines.proofs.Laws.{front-short, line-none, line-some, tail-short}
 use Rattle.rules.proofs.Lists.{part-length}
-use Rattle.lines.proofs.line_at.Statement.{statement}
-use Rattle.lines.proofs.line_at.Tie as tie
+use Rattle.lines.proofs.walked_line.Statement.{statement}
+use Rattle.lines.proofs.walked_line.Tie as tie
 
 skip-lines-requires : tie.Need-skip-lines-requires
 skip-lines-requires c κs = search needs
@@ -41,8 +41,8 @@ slice-aggregate-result c = search (part-length, needs)
 returns-2 : tie.Need-returns-2
 returns-2 c = search (line-none, line-some, tail-short, front-short, needs)
 
-pub line-at-spec : {M : Type 1} → statement M
-line-at-spec =
+pub walked-line-spec : {M : Type 1} → statement M
+walked-line-spec =
     tie.close
     (tie.spec
     skip-lines-requires
