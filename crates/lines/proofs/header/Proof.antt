@@ -7,8 +7,8 @@ use borrow.Author.Needs.{needs}
 use Rattle.lines.proofs.header.Statement.{statement}
 use Rattle.lines.proofs.header.Tie as tie
 
-walked-value-requires : tie.Need-walked-value-requires
-walked-value-requires c κs = search needs
+value-at-requires : tie.Need-value-at-requires
+value-at-requires c κs = search needs
 
 slice-aggregate-equal : tie.Need-slice-aggregate-equal
 slice-aggregate-equal c = search needs
@@ -47,7 +47,7 @@ pub header-spec : {M : Type 1} → statement M
 header-spec =
     tie.close
     (tie.spec
-    walked-value-requires
+    value-at-requires
     slice-aggregate-equal
     equal-requires
     slice-aggregate-line-if

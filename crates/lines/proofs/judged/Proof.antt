@@ -7,9 +7,6 @@ use Rattle.lines.proofs.Laws.{key-room, line-bad, line-good, line-key, 
 use Rattle.lines.proofs.judged.Statement.{statement}
 use Rattle.lines.proofs.judged.Tie as tie
 
-walked-line-requires : tie.Need-walked-line-requires
-walked-line-requires c κs = search needs
-
 starts-requires : tie.Need-starts-requires
 starts-requires c κs = search needs
 
@@ -56,7 +53,6 @@ pub judged-spec : {M : Type 1} → statement M
 judged-spec =
     tie.close
     (tie.spec
-    walked-line-requires
     starts-requires
     first-requires
     returns
