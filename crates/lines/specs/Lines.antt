@@ -1,8 +1,9 @@
 -- A group of a sheet, read line by line: the verdict on its lines, its values, and the group that may come next.
 use mathlib.Core.Bool.{Bool, true, false, cond, not, _&&_, _||_}
 use mathlib.Core.List.{List, [], _∷_, _++_}
-use Prim.Native.Nat.{ℕ, zero, suc, _+_}
-use lib.ListN.{length, drop}
+use mathlib.Core.Path.{_≡_}
+use Prim.Native.Nat.{ℕ, zero, suc, _+_, _≤_, _<_}
+use lib.ListN.{length, drop, getD}
 use Rattle.rules.specs.declared.Name.{Name}
 use Rattle.rules.specs.declared.Name.the-variants.{Msh, Pid, Pv1, Spm, Obr, Orc, Obx, Other}
 use Rattle.rules.specs.Told.{Told, refused}
@@ -11,12 +12,24 @@ use Rattle.rules.specs.Value.{fits}
 use Rattle.rules.specs.Places.{Four}
 use Rattle.rules.specs.Judge.{beside, unjoined}
 use Rattle.rules.specs.Row.{Line, lines}
-use Rattle.rules.specs.Sheet.{keyOf, lineOk}
+use Rattle.rules.specs.Sheet.{keyOf, lineOk, linesOf}
 use Rattle.value.specs.declared.Place.{Place}
 use Rattle.value.specs.declared.Place.the-variants.{Unread, Must, May}
 use Rattle.value.specs.Rules.{ruleOf}
 use Rattle.lines.specs.declared.Verdict.{Verdict}
 use Rattle.lines.specs.declared.Verdict.the-variants.{Fine, Key, Value}
+
+-- the place behind the first of the lines ls, where it starts at p; p itself where there is none
+unfoldable pub behind : List (List ℕ) → ℕ → ℕ
+behind [] p = p
+behind (l ∷ ls) p = p + length l + 1
+
+-- at holds the places of the first n lines of s and the place behind each; eleven places, for no group has more than ten lines
+pub record Cut (n : ℕ) (s at : List ℕ) : Type 0 where
+  pub size : length at ≡ 11
+  pub within : (k : ℕ) → k ≤ n → getD at k 0 ≤ length s
+  pub from : (k : ℕ) → k ≤ n → linesOf (drop (getD at k 0) s) ≡ drop k (linesOf s)
+  pub next : (k : ℕ) → k < n → getD at (k + 1) 0 ≡ behind (drop k (linesOf s)) (getD at k 0)
 
 -- the first fault counts
 unfoldable pub andThen : Verdict → Verdict → Verdict

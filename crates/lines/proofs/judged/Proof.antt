@@ -7,9 +7,6 @@ use Rattle.lines.proofs.Laws.{key-room, line-bad, line-good, line-key, 
 use Rattle.lines.proofs.judged.Statement.{statement}
 use Rattle.lines.proofs.judged.Tie as tie
 
-line-at-requires : tie.Need-line-at-requires
-line-at-requires c κs = search needs
-
 starts-requires : tie.Need-starts-requires
 starts-requires c κs = search needs
 
@@ -56,7 +53,6 @@ pub judged-spec : {M : Type 1} → statement M
 judged-spec =
     tie.close
     (tie.spec
-    line-at-requires
     starts-requires
     first-requires
     returns

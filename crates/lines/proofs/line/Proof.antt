@@ -7,8 +7,11 @@ use Rattle.lines.proofs.Laws.{line-is}
 use Rattle.lines.proofs.line.Statement.{statement}
 use Rattle.lines.proofs.line.Tie as tie
 
-value-at-requires : tie.Need-value-at-requires
-value-at-requires c κs = search needs
+line-at-requires : tie.Need-line-at-requires
+line-at-requires c κs = search needs
+
+behind-key-requires : tie.Need-behind-key-requires
+behind-key-requires c κs = search needs
 
 keeps-place-requires : tie.Need-keeps-place-requires
 keeps-place-requires c κs = search needs
@@ -20,4 +23,4 @@ returns : tie.Need-returns
 returns c = search (line-is, needs)
 
 pub line-spec : {M : Type 1} → statement M
-line-spec = tie.close (tie.spec value-at-requires keeps-place-requires judged-requires returns)
+line-spec = tie.close (tie.spec line-at-requires behind-key-requires keeps-place-requires judged-requires returns)

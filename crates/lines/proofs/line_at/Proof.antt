@@ -1,27 +1,22 @@
 use borrow.Author.Needs.{needs}
-use native.Mathlib.Omega.{arith}
-use Prim.Native.Nat.{ℕ, _+_, _-_, _≤_, _<_}
-use mathlib.Core.Path.{_≡_}
-use lib.ListN.{length, take, drop}
-use Rattle.lines.proofs.Laws.{front-short, line-none, line-some, tail-short}
-use Rattle.rules.proofs.Lists.{part-length}
+use Rattle.lines.proofs.Laws.{line-starts, line-room, line-missing, line-ended, line-ends, line-between, part-short}
 use Rattle.lines.proofs.line_at.Statement.{statement}
 use Rattle.lines.proofs.line_at.Tie as tie
 
-skip-lines-requires : tie.Need-skip-lines-requires
-skip-lines-requires c κs = search needs
+mul-start : tie.Need-mul-start
+mul-start c = search needs
 
-sub-rest : tie.Need-sub-rest
-sub-rest c = search needs
+element-copy-out-start : tie.Need-element-copy-out-start
+element-copy-out-start c = search needs
 
-part-rest-start : tie.Need-part-rest-start
-part-rest-start c = search needs
+add-end : tie.Need-add-end
+add-end c = search needs
 
-part-rest-end : tie.Need-part-rest-end
-part-rest-end c = search needs
+mul-end : tie.Need-mul-end
+mul-end c = search needs
 
-before-requires : tie.Need-before-requires
-before-requires c κs = search needs
+element-copy-out-end : tie.Need-element-copy-out-end
+element-copy-out-end c = search needs
 
 sub-result : tie.Need-sub-result
 sub-result c = search needs
@@ -30,29 +25,41 @@ part-result-start : tie.Need-part-result-start
 part-result-start c = search needs
 
 part-result-end : tie.Need-part-result-end
-part-result-end c = search needs
+part-result-end c = search (line-starts, needs)
 
 returns : tie.Need-returns
-returns c = search (line-none, line-some, tail-short, front-short, needs)
+returns c = (search (line-missing, needs), search (part-short, needs))
 
-slice-aggregate-result : tie.Need-slice-aggregate-result
-slice-aggregate-result c = search (part-length, needs)
+sub-result-2 : tie.Need-sub-result-2
+sub-result-2 c = search (line-ended, needs)
+
+sub-result-3 : tie.Need-sub-result-3
+sub-result-3 c = search (line-ends, needs)
+
+part-result-start-2 : tie.Need-part-result-start-2
+part-result-start-2 c = search (line-ends, needs)
+
+part-result-end-2 : tie.Need-part-result-end-2
+part-result-end-2 c = search (line-room, needs)
 
 returns-2 : tie.Need-returns-2
-returns-2 c = search (line-none, line-some, tail-short, front-short, needs)
+returns-2 c = (search (line-between, needs), search (part-short, needs))
 
 pub line-at-spec : {M : Type 1} → statement M
 line-at-spec =
     tie.close
     (tie.spec
-    skip-lines-requires
-    sub-rest
-    part-rest-start
-    part-rest-end
-    before-requires
+    mul-start
+    element-copy-out-start
+    add-end
+    mul-end
+    element-copy-out-end
     sub-result
     part-result-start
     part-result-end
     returns
-    slice-aggregate-result
+    sub-result-2
+    sub-result-3
+    part-result-start-2
+    part-result-end-2
     returns-2)

@@ -2,7 +2,7 @@ use native.Mathlib.Omega.{arith}
 use Prim.Native.Nat.{ℕ, _+_, _-_, _≤_, _<_}
 use mathlib.Core.Path.{_≡_}
 use lib.ListN.{length, take, drop}
-use Rattle.lines.proofs.Laws.{past-none, past-some, past-within}
+use Rattle.lines.proofs.Laws.{past-none, past-some, past-within, behind-none, behind-some}
 use borrow.Author.Needs.{needs}
 use Rattle.lines.proofs.next_line.Statement.{statement}
 use Rattle.lines.proofs.next_line.Tie as tie
@@ -20,7 +20,7 @@ before-requires : tie.Need-before-requires
 before-requires c κs = search needs
 
 returns : tie.Need-returns
-returns c = search (past-none, past-some, past-within, needs)
+returns c = (search (behind-none, needs), (search (past-none, needs), search needs))
 
 add-result : tie.Need-add-result
 add-result c = search needs
@@ -29,7 +29,7 @@ add-result-2 : tie.Need-add-result-2
 add-result-2 c = search needs
 
 returns-2 : tie.Need-returns-2
-returns-2 c = search (past-none, past-some, past-within, needs)
+returns-2 c = (search (behind-some, needs), (search (past-some, needs), search (past-within, needs)))
 
 pub next-line-spec : {M : Type 1} → statement M
 next-line-spec =

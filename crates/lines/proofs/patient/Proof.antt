@@ -50,13 +50,13 @@ slice-aggregate-line-5 : tie.Need-slice-aggregate-line-5
 slice-aggregate-line-5 c = search needs
 
 line-requires-5 : tie.Need-line-requires-5
-line-requires-5 c κs = search needs
+line-requires-5 c κs = (c .before .before .before .before .before .before .before .before .before .before .before .before .before .before .before .pre, search needs)
 
 slice-aggregate-line-6 : tie.Need-slice-aggregate-line-6
 slice-aggregate-line-6 c = search needs
 
 line-requires-6 : tie.Need-line-requires-6
-line-requires-6 c κs = search needs
+line-requires-6 c κs = (c .before .before .before .before .before .before .before .before .before .before .before .before .before .before .before .before .before .pre, search needs)
 
 returns : tie.Need-returns
 returns c = patient-is _ _ _ _ (c .before .before .before .before .before .before .before .before .before .before .before .before .before .before .before .before .value-at .ensures .0) (c .before .before .before .before .before .before .before .before .before .before .before .before .before .before .before .value-at2 .ensures .0) (c .before .before .before .before .before .before .before .before .before .before .before .before .before .before .kana-fits .ensures) _ _ _ _ _ _ _ (c .before .before .before .before .before .before .before .before .before .before .before .before .line .ensures) (c .before .before .before .before .before .before .before .before .before .before .line2 .ensures) (c .before .before .before .before .before .before .before .before .line3 .ensures) (c .before .before .before .before .before .before .line4 .ensures) (c .before .before .before .before .line-if .ensures) (c .before .before .line5 .ensures) (c .line6 .ensures)

@@ -1,49 +1,16 @@
 use borrow.Author.Needs.{needs}
-use native.Mathlib.Omega.{arith}
-use Prim.Native.Nat.{ℕ, _+_, _-_, _≤_, _<_}
-use mathlib.Core.Path.{_≡_}
-use lib.ListN.{length, take, drop}
-use Rattle.lines.proofs.Laws.{past-short, value-none, value-some}
+use Rattle.lines.proofs.Laws.{value-is}
 use Rattle.lines.proofs.value_at.Statement.{statement}
 use Rattle.lines.proofs.value_at.Tie as tie
 
 line-at-requires : tie.Need-line-at-requires
 line-at-requires c κs = search needs
 
-sub-result : tie.Need-sub-result
-sub-result c = search needs
-
-part-result-start : tie.Need-part-result-start
-part-result-start c = search needs
-
-part-result-end : tie.Need-part-result-end
-part-result-end c = search needs
+behind-key-requires : tie.Need-behind-key-requires
+behind-key-requires c κs = search needs
 
 returns : tie.Need-returns
-returns c = search (value-none, value-some, past-short, needs)
-
-sub-result-2 : tie.Need-sub-result-2
-sub-result-2 c = search needs
-
-part-result-start-2 : tie.Need-part-result-start-2
-part-result-start-2 c = search needs
-
-part-result-end-2 : tie.Need-part-result-end-2
-part-result-end-2 c = search needs
-
-returns-2 : tie.Need-returns-2
-returns-2 c = search (value-none, value-some, past-short, needs)
+returns c = (search (value-is, needs), search needs)
 
 pub value-at-spec : {M : Type 1} → statement M
-value-at-spec =
-    tie.close
-    (tie.spec
-    line-at-requires
-    sub-result
-    part-result-start
-    part-result-end
-    returns
-    sub-result-2
-    part-result-start-2
-    part-result-end-2
-    returns-2)
+value-at-spec = tie.close (tie.spec line-at-requires behind-key-requires returns)

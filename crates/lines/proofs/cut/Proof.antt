@@ -1,0 +1,65 @@
+use borrow.Author.Needs.{needs}
+use native.Mathlib.Omega.{arith}
+use Prim.Native.Nat.{ℕ, _+_, _-_, _≤_, _<_}
+use lib.ListN.{length}
+use Rattle.lines.specs.Lines.{Cut}
+use Rattle.lines.proofs.Laws.{cut-start, cut-on, cut-ends, cut-place}
+use Rattle.lines.proofs.cut.Statement.{statement}
+use Rattle.lines.proofs.cut.Tie as tie
+
+abbrev Inv-loop : tie.InvT-loop
+Inv-loop s at₀ i₀ at i = (i ≤ 10) × Cut i s at
+
+abbrev μ-loop : tie.MeasureT-loop
+μ-loop s at₀ i₀ at i = 10 - i
+
+loop-holds : tie.Need-loop-holds Inv-loop μ-loop
+loop-holds c = search (cut-start, needs)
+
+mul-next-line : tie.Need-mul-next-line Inv-loop μ-loop
+mul-next-line c = search needs
+
+array-read-next-line : tie.Need-array-read-next-line Inv-loop μ-loop
+array-read-next-line c = search needs
+
+next-line-requires : tie.Need-next-line-requires Inv-loop μ-loop
+next-line-requires c κs = search (cut-place, needs)
+
+add-at : tie.Need-add-at Inv-loop μ-loop
+add-at c = search needs
+
+mul-at : tie.Need-mul-at Inv-loop μ-loop
+mul-at c = search needs
+
+array-write-at : tie.Need-array-write-at Inv-loop μ-loop
+array-write-at c = search needs
+
+add-i : tie.Need-add-i Inv-loop μ-loop
+add-i c = search needs
+
+loop-less : tie.Need-loop-less Inv-loop μ-loop
+loop-less c = search needs
+
+loop-again : tie.Need-loop-again Inv-loop μ-loop
+loop-again c = search (cut-on, needs)
+
+returns : tie.Need-returns Inv-loop μ-loop
+returns c = search (cut-ends, needs)
+
+pub cut-spec : {M : Type 1} → statement M
+cut-spec =
+    tie.close
+    (tie.spec
+    Inv-loop
+    μ-loop
+    loop-holds
+    mul-next-line
+    array-read-next-line
+    next-line-requires
+    add-at
+    mul-at
+    array-write-at
+    add-i
+    loop-less
+    loop-again
+    returns)
