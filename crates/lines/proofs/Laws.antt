@@ -1,6 +1,6 @@
 -- The laws of a sheet's lines and groups. Assumes nothing.
 use mathlib.Core.Path.{_≡_, refl, sym, subst, ap, _∙_}
-use mathlib.Core.Bool.{Bool, true, false, cond, not, _&&_, _||_}
+use mathlib.Core.Bool.{Bool, true, false, not, _&&_, _||_}
 use mathlib.Core.List.{List, [], _∷_, _++_, append-assoc}
 use Prim.Native.Nat.{ℕ, suc, _+_, _-_, _≤_, _<_}
 use native.Mathlib.Omega.{arith}
@@ -11,7 +11,7 @@ use lib.Seq.{drop-drop, getD-drop, getD-set-same, getD-set-other}
 use Rattle.rules.specs.declared.Name.{Name}
 use Rattle.rules.specs.declared.Name.the-variants.{Msh, Pid, Pv1, Spm, Obr, Obx}
 use Rattle.rules.specs.Lists.{bytes, empty, filled, nth, same, starts, split, allButLast, last, ended, isOneOf, any, onto}
-use Rattle.rules.specs.Value.{Rule, fault, fits, holds, tooLong, words, text, number}
+use Rattle.rules.specs.Value.{Rule, fault, fits, holds, tooLong, words, text}
 use Rattle.rules.specs.Places.{Four, valueRules, entryOf, entryIn, places}
 use Rattle.rules.specs.Judge.{beside, unjoined, agrees}
 use Rattle.rules.specs.Row.{line, lines, fourAt}
@@ -21,12 +21,13 @@ use Rattle.rules.proofs.Lists.{over, rest-is, take-own, same-eq, empty-zero, fi
 use Rattle.rules.proofs.Split.{butLast-split, ended-split}
 use Rattle.scan.specs.Scan.{until, is}
 use Rattle.value.specs.declared.Fault.{Fault}
-use Rattle.value.specs.declared.Words.the-variants.{Modes, Sexes, Classes, Types, Flags, Statuses, Blank, Comparators, Joiners}
+use Rattle.value.specs.declared.Words.the-variants.{Modes, Sexes, Classes, Types, Flags, Statuses}
 use Rattle.value.specs.declared.Place.{Place}
 use Rattle.value.specs.declared.Place.the-variants.{Unread, Must, May}
 use Rattle.value.specs.declared.Rule.{Rule as Coded}
-use Rattle.value.specs.declared.Rule.the-variants.{Time, Date, Number, Text, Digits, Capitals, OneOf}
-use Rattle.value.specs.Rules.{faultNo, fineOf, ruleOf, textOf}
+use Rattle.value.specs.declared.Rule.the-variants.{Time, Date, Text, Digits, Capitals, OneOf}
+use Rattle.value.specs.declared.Parts.{Parts}
+use Rattle.value.specs.Rules.{faultNo, fineOf, ruleOf, rulesOf, textOf}
 use Rattle.value.proofs.Laws.{split-last, split-more, fine-zero, fault-some}
 use Rattle.lines.specs.declared.Verdict.{Verdict}
 use Rattle.lines.specs.declared.Verdict.the-variants.{Fine, Key, Value}
@@ -286,74 +287,24 @@ blank s =
 pub kana-is : (a b : List ℕ) → (not (eqb (length a) 0) || eqb (length b) 0) ≡ (filled a || empty b)
 kana-is a b = rw (blank a, blank b)
 
-pub beside-is : (a b c : List ℕ) → (not (eqb (length a) 0) || not (eqb (length b) 0) || not (eqb (length c) 0)) ≡ (filled a || filled b || filled c)
-beside-is a b c = rw (blank a, blank b, blank c)
+-- the four parts of OBX-5, by which are filled
+module _ (c v j s : List ℕ) (q : Bool)
+    (e : (k : Four (List ℕ)) → not (eqb (length c) 0) ≡ filled (k .compare) → not (eqb (length j) 0) ≡ filled (k .join) → not (eqb (length s) 0) ≡ filled (k .second) → q ≡ beside k) where
+  beside-is : q ≡ beside (fourOf c v j s)
+  beside-is = e (fourOf c v j s) (ap not (blank c)) (ap not (blank j)) (ap not (blank s))
 
-module _ (c v j s : List ℕ) (q : Bool) (e : q ≡ (filled c || filled j || filled s)) where
-  pub joined-is : (not (not (eqb (length s) 0) && eqb (length j) 0) && (not (eqb (length v) 0) || not q)) ≡ joinedOk (fourOf c v j s)
-  unfolding joinedOk beside unjoined
-  joined-is = rw (e, blank s, blank j, blank v)
+  pub joined-is : (u : Bool) → ((k : Four (List ℕ)) → not (eqb (length j) 0) ≡ filled (k .join) → not (eqb (length s) 0) ≡ filled (k .second) → u ≡ unjoined k)
+      → (not u && (not (eqb (length v) 0) || not q)) ≡ joinedOk (fourOf c v j s)
+  unfolding joinedOk
+  joined-is u f = rw (beside-is, f (fourOf c v j s) (ap not (blank j)) (ap not (blank s)), blank v)
 
   pub agrees-is : (t : List ℕ) (r : Bool) → ((k : Four (List ℕ)) → not (eqb (length v) 0) ≡ filled (k .value) → q ≡ beside k → r ≡ agrees t k) → r ≡ agrees t (fourOf c v j s)
-  unfolding beside
-  agrees-is t r h = h (fourOf c v j s) (ap not (blank v)) e
-
--- ---- the rules of the parts, by OBX-2
-abbrev nm : Four Rule
-nm = record { compare = words ""; value = number; join = words ""; second = words "" }
-
-abbrev st : Four Rule
-st = record { compare = words ""; value = text 200; join = words ""; second = words "" }
-
-cond-blank : (kind : List ℕ) (part : Four Rule → Rule) → part nm ≡ words "" → part st ≡ words "" → part (cond (same kind (78 ∷ 77 ∷ [])) nm st) ≡ words ""
-cond-blank kind part a b = cases (same kind (78 ∷ 77 ∷ [])) (λ q. rw q a) (λ q. rw q b)
-
-module _ (kind : List ℕ) (t : Bool) (e : t ≡ same kind (83 ∷ 78 ∷ [])) where
-  module _ (h : t ≡ true) where
-    pub sn-compare : ruleOf (OneOf Comparators) ≡ valueRules kind .compare
-    unfolding valueRules bytes ruleOf textOf
-    sn-compare = rw (← e, h)
-
-    pub sn-number : (ruleOf Number ≡ valueRules kind .value) × (ruleOf Number ≡ valueRules kind .second)
-    unfolding valueRules bytes ruleOf textOf
-    sn-number = (rw (← e, h), rw (← e, h))
-
-    pub sn-join : ruleOf (OneOf Joiners) ≡ valueRules kind .join
-    unfolding valueRules bytes ruleOf textOf
-    sn-join = rw (← e, h)
-
-    pub sn-value : ruleOf Number ≡ valueRules kind .value
-    sn-value = sn-number .0
-
-    pub sn-second : ruleOf Number ≡ valueRules kind .second
-    sn-second = sn-number .1
-
-  module _ (h : t ≡ false) where
-    module _ (u : Bool) (f : u ≡ same kind (78 ∷ 77 ∷ [])) where
-      pub nm-value : u ≡ true → ruleOf Number ≡ valueRules kind .value
-      unfolding valueRules bytes ruleOf
-      nm-value g = rw (← e, h, ← f, g)
-
-      pub st-value : u ≡ false → ruleOf (Text 200) ≡ valueRules kind .value
-      unfolding valueRules bytes ruleOf
-      st-value g = rw (← e, h, ← f, g)
-
-    pub blank-compare : ruleOf (OneOf Blank) ≡ valueRules kind .compare
-    unfolding valueRules bytes ruleOf textOf
-    blank-compare = rw (← e, h) (sym (cond-blank kind (λ (r : Four Rule). r .compare) refl refl))
-
-    pub blank-join : ruleOf (OneOf Blank) ≡ valueRules kind .join
-    unfolding valueRules bytes ruleOf textOf
-    blank-join = rw (← e, h) (sym (cond-blank kind (λ (r : Four Rule). r .join) refl refl))
-
-    pub blank-second : ruleOf (OneOf Blank) ≡ valueRules kind .second
-    unfolding valueRules bytes ruleOf textOf
-    blank-second = rw (← e, h) (sym (cond-blank kind (λ (r : Four Rule). r .second) refl refl))
+  agrees-is t r h = h (fourOf c v j s) (ap not (blank v)) beside-is
 
 -- ---- the groups
 -- to unfold this name is to unfold the table of lines
 unfoldable pub table : Unit {0}
-unfolding verdict lineVerdict lines line entryOf entryIn places keyOf bytes ruleOf textOf fourAt joinedOk
+unfolding verdict lineVerdict lines line entryOf entryIn places keyOf bytes ruleOf rulesOf textOf fourAt joinedOk
 table = tt
 
 pub group-is : (n x : Name) (ts : List (List ℕ)) (r : Verdict) → n ≡ x → r ≡ groupVerdict x ts → r ≡ groupVerdict n ts
@@ -434,28 +385,29 @@ module _ (ts : List (List ℕ)) where
       let o : also ≡ (filled (drop 11 (nth ts 3)) || empty (drop 10 (nth ts 4))) = rw (← ef, ← eg) ea in
       link r v5 _ _ e6 (link v5 v4 _ _ e5 (link v4 v3 _ _ (rw o at e4) (link v3 v2 _ _ e3 (link v2 v1 _ _ e2 (link v1 v0 _ _ e1 e0)))))
 
-  pub result-is : (kind c v j s t : List ℕ) (met also : Bool) (RC RV RJ RS : Coded)
+  pub result-is : (kind c v j s t : List ℕ) (met also : Bool) (rules : Parts)
       → kind ≡ drop 5 (nth ts 2) → c ≡ drop 8 (nth ts 3) → v ≡ drop 6 (nth ts 4) → j ≡ drop 5 (nth ts 5) → s ≡ drop 7 (nth ts 6) → t ≡ drop 7 (nth ts 9)
       → met ≡ agrees t (fourOf c v j s) → also ≡ joinedOk (fourOf c v j s)
-      → ruleOf RC ≡ valueRules kind .compare → ruleOf RV ≡ valueRules kind .value → ruleOf RJ ≡ valueRules kind .join → ruleOf RS ≡ valueRules kind .second
+      → rulesOf rules ≡ valueRules kind
       → (v0 v1 v2 v3 v4 v5 v6 v7 v8 r : Verdict) → v0 ≡ andThen Fine (judge 0 (105 ∷ 116 ∷ 101 ∷ 109 ∷ 61 ∷ []) true (Capitals 17))
       → v1 ≡ andThen v0 (judge 1 (110 ∷ 97 ∷ 109 ∷ 101 ∷ 61 ∷ []) false (Text 48))
       → v2 ≡ andThen v1 (judge 2 (116 ∷ 121 ∷ 112 ∷ 101 ∷ 61 ∷ []) true (OneOf Types))
-      → v3 ≡ andThen v2 (judge-if 3 (99 ∷ 111 ∷ 109 ∷ 112 ∷ 97 ∷ 114 ∷ 101 ∷ 61 ∷ []) false (RC) true)
-      → v4 ≡ andThen v3 (judge-if 4 (118 ∷ 97 ∷ 108 ∷ 117 ∷ 101 ∷ 61 ∷ []) false (RV) true)
-      → v5 ≡ andThen v4 (judge-if 5 (106 ∷ 111 ∷ 105 ∷ 110 ∷ 61 ∷ []) false (RJ) true)
-      → v6 ≡ andThen v5 (judge-if 6 (115 ∷ 101 ∷ 99 ∷ 111 ∷ 110 ∷ 100 ∷ 61 ∷ []) false (RS) also)
+      → v3 ≡ andThen v2 (judge-if 3 (99 ∷ 111 ∷ 109 ∷ 112 ∷ 97 ∷ 114 ∷ 101 ∷ 61 ∷ []) false (rules .compare) true)
+      → v4 ≡ andThen v3 (judge-if 4 (118 ∷ 97 ∷ 108 ∷ 117 ∷ 101 ∷ 61 ∷ []) false (rules .value) true)
+      → v5 ≡ andThen v4 (judge-if 5 (106 ∷ 111 ∷ 105 ∷ 110 ∷ 61 ∷ []) false (rules .join) true)
+      → v6 ≡ andThen v5 (judge-if 6 (115 ∷ 101 ∷ 99 ∷ 111 ∷ 110 ∷ 100 ∷ 61 ∷ []) false (rules .second) also)
       → v7 ≡ andThen v6 (judge 7 (117 ∷ 110 ∷ 105 ∷ 116 ∷ 61 ∷ []) false (Text 20))
       → v8 ≡ andThen v7 (judge 8 (102 ∷ 108 ∷ 97 ∷ 103 ∷ 61 ∷ []) false (OneOf Flags))
       → r ≡ andThen v8 (judge-if 9 (115 ∷ 116 ∷ 97 ∷ 116 ∷ 117 ∷ 115 ∷ 61 ∷ []) true (OneOf Statuses) met) → r ≡ groupVerdict Obx ts
   unfolding table
-  result-is kind c v j s t met also RC RV RJ RS ek ec ev ej es et em ea rc rv rj rs v0 v1 v2 v3 v4 v5 v6 v7 v8 r e0 e1 e2 e3 e4 e5 e6 e7 e8 e9 =
+  result-is kind c v j s t met also rules ek ec ev ej es et em ea er v0 v1 v2 v3 v4 v5 v6 v7 v8 r e0 e1 e2 e3 e4 e5 e6 e7 e8 e9 =
       let four : fourOf c v j s ≡ fourOf (drop 8 (nth ts 3)) (drop 6 (nth ts 4)) (drop 5 (nth ts 5)) (drop 7 (nth ts 6)) = rw (ec, ev, ej, es) in
       let ok : also ≡ joinedOk (fourOf (drop 8 (nth ts 3)) (drop 6 (nth ts 4)) (drop 5 (nth ts 5)) (drop 7 (nth ts 6))) = ea ∙ ap joinedOk four in
       let fit : met ≡ agrees (drop 7 (nth ts 9)) (fourOf (drop 8 (nth ts 3)) (drop 6 (nth ts 4)) (drop 5 (nth ts 5)) (drop 7 (nth ts 6))) = em ∙ ap (agrees t) four ∙ ap (λ (u : List ℕ). agrees u (fourOf (drop 8 (nth ts 3)) (drop 6 (nth ts 4)) (drop 5 (nth ts 5)) (drop 7 (nth ts 6)))) et in
-      let w3 = swap v3 v2 3 (99 ∷ 111 ∷ 109 ∷ 112 ∷ 97 ∷ 114 ∷ 101 ∷ 61 ∷ []) (drop 8 (nth ts 3)) (nth ts 3) RC _ true (rc ∙ ap (λ (k : List ℕ). valueRules k .compare) ek) e3 in
-      let w4 = swap v4 v3 4 (118 ∷ 97 ∷ 108 ∷ 117 ∷ 101 ∷ 61 ∷ []) (drop 6 (nth ts 4)) (nth ts 4) RV _ true (rv ∙ ap (λ (k : List ℕ). valueRules k .value) ek) e4 in
-      let w5 = swap v5 v4 5 (106 ∷ 111 ∷ 105 ∷ 110 ∷ 61 ∷ []) (drop 5 (nth ts 5)) (nth ts 5) RJ _ true (rj ∙ ap (λ (k : List ℕ). valueRules k .join) ek) e5 in
-      let w6 = swap-also v6 v5 6 (115 ∷ 101 ∷ 99 ∷ 111 ∷ 110 ∷ 100 ∷ 61 ∷ []) (nth ts 6) (fits false (valueRules (drop 5 (nth ts 2)) .second) (drop 7 (nth ts 6))) also _ ok (swap v6 v5 6 (115 ∷ 101 ∷ 99 ∷ 111 ∷ 110 ∷ 100 ∷ 61 ∷ []) (drop 7 (nth ts 6)) (nth ts 6) RS _ also (rs ∙ ap (λ (k : List ℕ). valueRules k .second) ek) e6) in
+      let own : rulesOf rules ≡ valueRules (drop 5 (nth ts 2)) = er ∙ ap valueRules ek in
+      let w3 = swap v3 v2 3 (99 ∷ 111 ∷ 109 ∷ 112 ∷ 97 ∷ 114 ∷ 101 ∷ 61 ∷ []) (drop 8 (nth ts 3)) (nth ts 3) (rules .compare) _ true (ap (λ (f : Four Rule). f .compare) own) e3 in
+      let w4 = swap v4 v3 4 (118 ∷ 97 ∷ 108 ∷ 117 ∷ 101 ∷ 61 ∷ []) (drop 6 (nth ts 4)) (nth ts 4) (rules .value) _ true (ap (λ (f : Four Rule). f .value) own) e4 in
+      let w5 = swap v5 v4 5 (106 ∷ 111 ∷ 105 ∷ 110 ∷ 61 ∷ []) (drop 5 (nth ts 5)) (nth ts 5) (rules .join) _ true (ap (λ (f : Four Rule). f .join) own) e5 in
+      let w6 = swap-also v6 v5 6 (115 ∷ 101 ∷ 99 ∷ 111 ∷ 110 ∷ 100 ∷ 61 ∷ []) (nth ts 6) (fits false (valueRules (drop 5 (nth ts 2)) .second) (drop 7 (nth ts 6))) also _ ok (swap v6 v5 6 (115 ∷ 101 ∷ 99 ∷ 111 ∷ 110 ∷ 100 ∷ 61 ∷ []) (drop 7 (nth ts 6)) (nth ts 6) (rules .second) _ also (ap (λ (f : Four Rule). f .second) own) e6) in
       let w9 = swap-also r v8 9 (115 ∷ 116 ∷ 97 ∷ 116 ∷ 117 ∷ 115 ∷ 61 ∷ []) (nth ts 9) (fits true (ruleOf (OneOf Statuses)) (drop 7 (nth ts 9))) met _ fit e9 in
       link r v8 _ _ w9 (link v8 v7 _ _ e8 (link v7 v6 _ _ e7 (link v6 v5 _ _ w6 (link v5 v4 _ _ w5 (link v4 v3 _ _ w4 (link v3 v2 _ _ w3 (link v2 v1 _ _ e2 (link v1 v0 _ _ e1 e0))))))))

@@ -4,18 +4,15 @@ use value::Place;
 use value::Place::May;
 use value::Place::Must;
 use value::Rule;
-use value::Words;
 use value::table;
 ghost use mathlib.Core.Path.{_≡_};
 ghost use mathlib.Core.Bool.{_&&_, _||_};
 ghost use Prim.Native.Nat.{_+_, _≤_, _<_};
-ghost use lib.Dec.{eqb};
 ghost use lib.ListN.{length, drop};
 ghost use Rattle.rules.specs.Lists.{nth, empty, filled};
 ghost use Rattle.rules.specs.Lists as Lists;
 ghost use Rattle.rules.specs.Value.{fits};
 ghost use Rattle.rules.specs.Judge as Judge;
-ghost use Rattle.rules.specs.Places.{valueRules};
 ghost use Rattle.rules.specs.Row.{lines};
 ghost use Rattle.rules.specs.Sheet.{linesOf};
 ghost use Rattle.value.specs.Rules.{ruleOf};
@@ -273,72 +270,32 @@ fn patient(s: &[u8], at: &[usize; 11]) -> Verdict
 
 // ---- OBX-5
 
-fn compare_rule(kind: &[u8]) -> Rule
-    ensures { λ r. ⌜ ruleOf r ≡ valueRules (now (kind .entry)) .compare ⌝ }
-{
-    if value::equal(kind, b"SN") {
-        return table::COMPARE;
-    }
-    Rule::OneOf(Words::Blank)
-}
-
-fn value_rule(kind: &[u8]) -> Rule
-    ensures { λ r. ⌜ ruleOf r ≡ valueRules (now (kind .entry)) .value ⌝ }
-{
-    if value::equal(kind, b"SN") {
-        return table::NUMBER;
-    }
-    if value::equal(kind, b"NM") {
-        return table::NUMBER;
-    }
-    table::TEXT
-}
-
-fn join_rule(kind: &[u8]) -> Rule
-    ensures { λ r. ⌜ ruleOf r ≡ valueRules (now (kind .entry)) .join ⌝ }
-{
-    if value::equal(kind, b"SN") {
-        return table::JOIN;
-    }
-    Rule::OneOf(Words::Blank)
-}
-
-fn second_rule(kind: &[u8]) -> Rule
-    ensures { λ r. ⌜ ruleOf r ≡ valueRules (now (kind .entry)) .second ⌝ }
-{
-    if value::equal(kind, b"SN") {
-        return table::NUMBER;
-    }
-    Rule::OneOf(Words::Blank)
-}
-
-fn beside(compare: &[u8], join: &[u8], second: &[u8]) -> bool
-    ensures { λ r. ⌜ r ≡ (filled (now (compare .entry)) || filled (now (join .entry)) || filled (now (second .entry))) ⌝ }
-{
-    (compare.len() != 0) | (join.len() != 0) | (second.len() != 0)
-}
-
 // "a missing joiner, and an SN whose value is blank beside a filled compare, join or second"
 fn joined(compare: &[u8], value: &[u8], join: &[u8], second: &[u8]) -> bool
     ensures { λ r. ⌜ r ≡ joinedOk (fourOf (now (compare .entry)) (now (value .entry)) (now (join .entry)) (now (second .entry))) ⌝ }
 {
-    let alone = !beside(compare, join, second);
-    !((second.len() != 0) & (join.len() == 0)) & ((value.len() != 0) | alone)
+    let beside = value::beside(compare.len() != 0, join.len() != 0, second.len() != 0);
+    let unjoined = value::unjoined(join.len() != 0, second.len() != 0);
+    !unjoined & ((value.len() != 0) | !beside)
 }
 
 // "Status F, P or C needs a value (for SN its first number); I or X needs OBX-5 empty in every component."
 fn agrees(status: &[u8], compare: &[u8], value: &[u8], join: &[u8], second: &[u8]) -> bool
     ensures { λ r. ⌜ r ≡ Judge.agrees (now (status .entry)) (fourOf (now (compare .entry)) (now (value .entry)) (now (join .entry)) (now (second .entry))) ⌝ }
 {
-    let parts = beside(compare, join, second);
-    value::agrees(status, value.len() != 0, parts)
+    let beside = value::beside(compare.len() != 0, join.len() != 0, second.len() != 0);
+    value::agrees(status, value.len() != 0, beside)
 }
 
 fn result(s: &[u8], at: &[usize; 11]) -> Verdict
     requires { ⌜ Cut 10 (now s) (now at) ⌝ }
     ensures { λ r. ⌜ r ≡ groupVerdict Name.Obx (linesOf (now (s .entry))) ⌝ }
 {
-    let kind = value_at(s, at, 2, 5);
+    let rules = value::part_rules(value_at(s, at, 2, 5));
+    let compare_rule = rules.compare;
+    let value_rule = rules.value;
+    let join_rule = rules.join;
+    let second_rule = rules.second;
     let compare = value_at(s, at, 3, 8);
     let value = value_at(s, at, 4, 6);
     let join = value_at(s, at, 5, 5);
@@ -347,24 +304,16 @@ fn result(s: &[u8], at: &[usize; 11]) -> Verdict
     let item = line(Verdict::Fine, s, at, 0, b"item=", table::ITEM);
     let name = line(item, s, at, 1, b"name=", table::ITEM_NAME);
     let to_type = line(name, s, at, 2, b"type=", table::TYPE);
-    let to_compare = line_if(
-        to_type,
-        s,
-        at,
-        3,
-        b"compare=",
-        May(compare_rule(kind)),
-        true,
-    );
-    let to_value = line_if(to_compare, s, at, 4, b"value=", May(value_rule(kind)), true);
-    let to_join = line_if(to_value, s, at, 5, b"join=", May(join_rule(kind)), true);
+    let to_compare = line_if(to_type, s, at, 3, b"compare=", May(compare_rule), true);
+    let to_value = line_if(to_compare, s, at, 4, b"value=", May(value_rule), true);
+    let to_join = line_if(to_value, s, at, 5, b"join=", May(join_rule), true);
     let to_second = line_if(
         to_join,
         s,
         at,
         6,
         b"second=",
-        May(second_rule(kind)),
+        May(second_rule),
         joined(compare, value, join, second),
     );
     let unit = line(to_second, s, at, 7, b"unit=", table::UNIT);

@@ -11,7 +11,7 @@ agrees-requires : tie.Need-agrees-requires
 agrees-requires c κs = search needs
 
 returns : tie.Need-returns
-returns c = search (agrees-is, needs)
+returns c = agrees-is _ _ _ _ _ (c .before .beside .ensures) _ _ (c .agrees .ensures)
 
 pub agrees-spec : {M : Type 1} → statement M
 agrees-spec = tie.close (tie.spec beside-requires agrees-requires returns)

@@ -10,6 +10,9 @@ use Rattle.lines.proofs.result.Tie as tie
 value-at-requires : tie.Need-value-at-requires
 value-at-requires c κs = search needs
 
+part-rules-requires : tie.Need-part-rules-requires
+part-rules-requires c κs = search needs
+
 value-at-requires-2 : tie.Need-value-at-requires-2
 value-at-requires-2 c κs = search needs
 
@@ -38,19 +41,16 @@ slice-aggregate-line-2 : tie.Need-slice-aggregate-line-2
 slice-aggregate-line-2 c = search needs
 
 line-requires-2 : tie.Need-line-requires-2
-line-requires-2 c κs = search needs
+line-requires-2 c κs = (c .before .before .before .before .before .before .before .before .before .before .before .before .pre, search needs)
 
 slice-aggregate-line-3 : tie.Need-slice-aggregate-line-3
 slice-aggregate-line-3 c = search needs
 
 line-requires-3 : tie.Need-line-requires-3
-line-requires-3 c κs = (c .before .before .before .before .before .before .before .before .before .before .before .before .before .pre, search needs)
+line-requires-3 c κs = (c .before .before .before .before .before .before .before .before .before .before .before .before .before .before .pre, search needs)
 
 slice-aggregate-line-if : tie.Need-slice-aggregate-line-if
 slice-aggregate-line-if c = search needs
-
-compare-rule-requires : tie.Need-compare-rule-requires
-compare-rule-requires c κs = search needs
 
 line-if-requires : tie.Need-line-if-requires
 line-if-requires c κs = (c .before .before .before .before .before .before .before .before .before .before .before .before .before .before .before .before .pre, search needs)
@@ -58,59 +58,51 @@ line-if-requires c κs = (c .before .before .before .before .before .before .bef
 slice-aggregate-line-if-2 : tie.Need-slice-aggregate-line-if-2
 slice-aggregate-line-if-2 c = search needs
 
-value-rule-requires : tie.Need-value-rule-requires
-value-rule-requires c κs = search needs
-
 line-if-requires-2 : tie.Need-line-if-requires-2
-line-if-requires-2 c κs = (c .before .before .before .before .before .before .before .before .before .before .before .before .before .before .before .before .before .before .before .pre, search needs)
+line-if-requires-2 c κs = (c .before .before .before .before .before .before .before .before .before .before .before .before .before .before .before .before .before .before .pre, search needs)
 
 slice-aggregate-line-if-3 : tie.Need-slice-aggregate-line-if-3
 slice-aggregate-line-if-3 c = search needs
 
-join-rule-requires : tie.Need-join-rule-requires
-join-rule-requires c κs = search needs
-
 line-if-requires-3 : tie.Need-line-if-requires-3
-line-if-requires-3 c κs = (c .before .before .before .before .before .before .before .before .before .before .before .before .before .before .before .before .before .before .before .before .before .before .pre, search needs)
+line-if-requires-3 c κs = (c .before .before .before .before .before .before .before .before .before .before .before .before .before .before .before .before .before .before .before .before .pre, search needs)
 
 slice-aggregate-line-if-4 : tie.Need-slice-aggregate-line-if-4
 slice-aggregate-line-if-4 c = search needs
-
-second-rule-requires : tie.Need-second-rule-requires
-second-rule-requires c κs = search needs
 
 joined-requires : tie.Need-joined-requires
 joined-requires c κs = search needs
 
 line-if-requires-4 : tie.Need-line-if-requires-4
-line-if-requires-4 c κs = (c .before .before .before .before .before .before .before .before .before .before .before .before .before .before .before .before .before .before .before .before .before .before .before .before .before .before .pre, search needs)
+line-if-requires-4 c κs = (c .before .before .before .before .before .before .before .before .before .before .before .before .before .before .before .before .before .before .before .before .before .before .before .pre, search needs)
 
 slice-aggregate-line-4 : tie.Need-slice-aggregate-line-4
 slice-aggregate-line-4 c = search needs
 
 line-requires-4 : tie.Need-line-requires-4
-line-requires-4 c κs = (c .before .before .before .before .before .before .before .before .before .before .before .before .before .before .before .before .before .before .before .before .before .before .before .before .before .before .before .before .pre, search needs)
+line-requires-4 c κs = (c .before .before .before .before .before .before .before .before .before .before .before .before .before .before .before .before .before .before .before .before .before .before .before .before .before .pre, search needs)
 
 slice-aggregate-line-5 : tie.Need-slice-aggregate-line-5
 slice-aggregate-line-5 c = search needs
 
 line-requires-5 : tie.Need-line-requires-5
-line-requires-5 c κs = (c .before .before .before .before .before .before .before .before .before .before .before .before .before .before .before .before .before .before .before .before .before .before .before .before .before .before .before .before .before .before .pre, search needs)
+line-requires-5 c κs = (c .before .before .before .before .before .before .before .before .before .before .before .before .before .before .before .before .before .before .before .before .before .before .before .before .before .before .before .pre, search needs)
 
 slice-aggregate-line-if-5 : tie.Need-slice-aggregate-line-if-5
 slice-aggregate-line-if-5 c = search needs
 
 line-if-requires-5 : tie.Need-line-if-requires-5
-line-if-requires-5 c κs = (c .before .before .before .before .before .before .before .before .before .before .before .before .before .before .before .before .before .before .before .before .before .before .before .before .before .before .before .before .before .before .before .before .pre, search needs)
+line-if-requires-5 c κs = (c .before .before .before .before .before .before .before .before .before .before .before .before .before .before .before .before .before .before .before .before .before .before .before .before .before .before .before .before .before .pre, search needs)
 
 returns : tie.Need-returns
-returns c = result-is _ _ _ _ _ _ _ _ _ _ _ _ _ (c .before .before .before .before .before .before .before .before .before .before .before .before .before .before .before .before .before .before .before .before .before .before .before .before .before .before .before .before .before .before .before .value-at .ensures .0) (c .before .before .before .before .before .before .before .before .before .before .before .before .before .before .before .before .before .before .before .before .before .before .before .before .before .before .before .before .before .before .value-at2 .ensures .0) (c .before .before .before .before .before .before .before .before .before .before .before .before .before .before .before .before .before .before .before .before .before .before .before .before .before .before .before .before .before .value-at3 .ensures .0) (c .before .before .before .before .before .before .before .before .before .before .before .before .before .before .before .before .before .before .before .before .before .before .before .before .before .before .before .before .value-at4 .ensures .0) (c .before .before .before .before .before .before .before .before .before .before .before .before .before .before .before .before .before .before .before .before .before .before .before .before .before .before .before .value-at5 .ensures .0) (c .before .before .before .before .before .before .before .before .before .before .before .before .before .before .before .before .before .before .before .before .before .before .before .before .before .before .value-at6 .ensures .0) (c .before .before .before .before .before .before .before .before .before .before .before .before .before .before .before .before .before .before .before .before .before .before .before .before .before .agrees .ensures) (c .before .before .before .before .before .before .before .joined .ensures) (c .before .before .before .before .before .before .before .before .before .before .before .before .before .before .before .before .before .compare-rule .ensures) (c .before .before .before .before .before .before .before .before .before .before .before .before .before .before .value-rule .ensures) (c .before .before .before .before .before .before .before .before .before .before .before .join-rule .ensures) (c .before .before .before .before .before .before .before .before .second-rule .ensures) _ _ _ _ _ _ _ _ _ _ (c .before .before .before .before .before .before .before .before .before .before .before .before .before .before .before .before .before .before .before .before .before .before .before .line .ensures) (c .before .before .before .before .before .before .before .before .before .before .before .before .before .before .before .before .before .before .before .before .before .line2 .ensures) (c .before .before .before .before .before .before .before .before .before .before .before .before .before .before .before .before .before .before .before .line3 .ensures) (c .before .before .before .before .before .before .before .before .before .before .before .before .before .before .before .before .line-if .ensures) (c .before .before .before .before .before .before .before .before .before .before .before .before .before .line-if2 .ensures) (c .before .before .before .before .before .before .before .before .before .before .line-if3 .ensures) (c .before .before .before .before .before .before .line-if4 .ensures) (c .before .before .before .before .line4 .ensures) (c .before .before .line5 .ensures) (c .line-if5 .ensures)
+returns c = result-is _ _ _ _ _ _ _ _ _ _ (c .before .before .before .before .before .before .before .before .before .before .before .before .before .before .before .before .before .before .before .before .before .before .before .before .before .before .before .before .value-at .ensures .0) (c .before .before .before .before .before .before .before .before .before .before .before .before .before .before .before .before .before .before .before .before .before .before .before .before .before .before .value-at2 .ensures .0) (c .before .before .before .before .before .before .before .before .before .before .before .before .before .before .before .before .before .before .before .before .before .before .before .before .before .value-at3 .ensures .0) (c .before .before .before .before .before .before .before .before .before .before .before .before .before .before .before .before .before .before .before .before .before .before .before .before .value-at4 .ensures .0) (c .before .before .before .before .before .before .before .before .before .before .before .before .before .before .before .before .before .before .before .before .before .before .before .value-at5 .ensures .0) (c .before .before .before .before .before .before .before .before .before .before .before .before .before .before .before .before .before .before .before .before .before .before .value-at6 .ensures .0) (c .before .before .before .before .before .before .before .before .before .before .before .before .before .before .before .before .before .before .before .before .before .agrees .ensures) (c .before .before .before .before .before .before .before .joined .ensures) (c .before .before .before .before .before .before .before .before .before .before .before .before .before .before .before .before .before .before .before .before .before .before .before .before .before .before .before .part-rules .ensures) _ _ _ _ _ _ _ _ _ _ (c .before .before .before .before .before .before .before .before .before .before .before .before .before .before .before .before .before .before .before .line .ensures) (c .before .before .before .before .before .before .before .before .before .before .before .before .before .before .before .before .before .line2 .ensures) (c .before .before .before .before .before .before .before .before .before .before .before .before .before .before .before .line3 .ensures) (c .before .before .before .before .before .before .before .before .before .before .before .before .before .line-if .ensures) (c .before .before .before .before .before .before .before .before .before .before .before .line-if2 .ensures) (c .before .before .before .before .before .before .before .before .before .line-if3 .ensures) (c .before .before .before .before .before .before .line-if4 .ensures) (c .before .before .before .before .line4 .ensures) (c .before .before .line5 .ensures) (c .line-if5 .ensures)
 
 pub result-spec : {M : Type 1} → statement M
 result-spec =
     tie.close
     (tie.spec
     value-at-requires
+    part-rules-requires
     value-at-requires-2
     value-at-requires-3
     value-at-requires-4
@@ -124,16 +116,12 @@ result-spec =
     slice-aggregate-line-3
     line-requires-3
     slice-aggregate-line-if
-    compare-rule-requires
     line-if-requires
     slice-aggregate-line-if-2
-    value-rule-requires
     line-if-requires-2
     slice-aggregate-line-if-3
-    join-rule-requires
     line-if-requires-3
     slice-aggregate-line-if-4
-    second-rule-requires
     joined-requires
     line-if-requires-4
     slice-aggregate-line-4
