@@ -113,6 +113,7 @@ pub cut-start : (s at : List ℕ) → length at ≡ 11 → getD at 0 0 ≡ 0 →
 cut-start s at n e =
     record {
       size = n;
+      start = e;
       within = λ k w. only k w (λ (m : ℕ). getD at m 0 ≤ length s) (omega (arith, e));
       from = λ k w. only k w (λ (m : ℕ). linesOf (drop (getD at m 0) s) ≡ drop m (linesOf s)) (rw e);
       next = λ k w. absurd (omega arith);
@@ -161,8 +162,9 @@ module _ (s at : List ℕ) (i r : ℕ) (c : Cut i s at) (h : i < 10)
       (rw (new, old i (omega arith), ← c .from i (omega arith)) e)
 
   pub cut-on : Cut (i + 1) s (set at (i + 1) r)
-  cut-on = record { size = length-set at (i + 1) r ∙ c .size; within = more-within; from = more-from; next = more-next }
+  cut-on = record { size = length-set at (i + 1) r ∙ c .size; start = old 0 (omega arith) ∙ c .start; within = more-within; from = more-from; next = more-next }
 
+-- the last place found is one of the text; ten are all
 pub cut-place : (s at : List ℕ) (i : ℕ) → Cut i s at → getD at i 0 ≤ length s
 cut-place s at i c = c .within i (omega arith)
 
