@@ -6,7 +6,7 @@ use Prim.Native.Nat.{ℕ, suc, _+_, _-_, _≤_, _<_}
 use native.Mathlib.Omega.{arith}
 use borrow.Author.Tests.{eq-eqb, ne-eqb, eqb-true}
 use lib.Dec.{eqb}
-use lib.ListN.{length, take, drop, getD, set, length-set, length-take, length-drop, drop-of-length-le}
+use lib.ListN.{length, take, drop, getD, set, length-set, length-take, length-drop}
 use lib.Seq.{drop-drop, getD-drop, getD-set-same, getD-set-other}
 use Rattle.rules.specs.declared.Name.{Name}
 use Rattle.rules.specs.declared.Name.the-variants.{Msh, Pid, Pv1, Spm, Obr, Obx}
@@ -72,14 +72,6 @@ module _ (s : List ℕ) (at n : ℕ) (e : n ≡ length (until (is 0x0A) (take (l
   pub past-none : n ≡ length (take (length s - at) (drop at s)) → linesOf (drop at s) ≡ drop 1 (linesOf (drop at s))
   past-none h = rw (found-none h)
 
-  pub behind-none : n ≡ length (take (length s - at) (drop at s)) → at ≡ behind (linesOf (drop at s)) at
-  unfolding behind
-  behind-none h = rw (found-none h)
-
-  pub behind-some : (n ≡ length (take (length s - at) (drop at s)) → ⊥) → at + n + 1 ≡ behind (linesOf (drop at s)) at
-  unfolding behind
-  behind-some h = rw (found-some h) (let z : length (take n (drop at s)) ≡ n = simp (length-take) (omega (arith, size)) in omega (arith, z))
-
   pub past-some : at ≤ length s → (n ≡ length (take (length s - at) (drop at s)) → ⊥) → linesOf (drop (at + n + 1) s) ≡ drop 1 (linesOf (drop at s))
   past-some g h =
       let q : linesOf (drop (suc n) (drop at s)) ≡ linesOf (drop (at + n + 1) s) = let z : at + suc n ≡ at + n + 1 = omega arith in ap linesOf (drop-drop (suc n) at s ∙ ap (λ (k : ℕ). drop k s) z) in
@@ -87,6 +79,14 @@ module _ (s : List ℕ) (at n : ℕ) (e : n ≡ length (until (is 0x0A) (take (l
 
   pub past-within : at ≤ length s → (n ≡ length (take (length s - at) (drop at s)) → ⊥) → at + n + 1 ≤ length s
   past-within g h = omega (arith, size, length-drop at s)
+
+  pub behind-none : n ≡ length (take (length s - at) (drop at s)) → at ≡ behind (linesOf (drop at s)) at
+  unfolding behind
+  behind-none h = rw (found-none h)
+
+  pub behind-some : (n ≡ length (take (length s - at) (drop at s)) → ⊥) → at + n + 1 ≡ behind (linesOf (drop at s)) at
+  unfolding behind
+  behind-some h = rw (found-some h) (let z : length (take n (drop at s)) ≡ n = simp (length-take) (omega (arith, size)) in omega (arith, z))
 
   pub none-there : n ≡ length (take (length s - at) (drop at s)) → not (eqb n (length (take (length s - at) (drop at s)))) ≡ filled (linesOf (drop at s))
   unfolding empty
@@ -108,39 +108,71 @@ module _ (s : List ℕ) (n : ℕ) (e : n ≡ length (until (is 0x0A) s)) where
   pub first-some : n ≤ length s → (n ≡ length s → ⊥) → take n s ≡ nth (linesOf s) 0
   first-some w h = rw (some s (omega (arith, e)), ← e)
 
-skip-goes : (s : List ℕ) (at r i : ℕ) → linesOf (drop at s) ≡ drop i (linesOf s) → linesOf (drop r s) ≡ drop 1 (linesOf (drop at s)) → linesOf (drop r s) ≡ drop (i + 1) (linesOf s)
-skip-goes s at r i e f = f ∙ ap (drop 1) e ∙ drop-drop 1 i (linesOf s)
-
 -- ---- the places of a group's lines
+-- none found yet
 pub cut-start : (s at : List ℕ) → length at ≡ 11 → getD at 0 0 ≡ 0 → Cut 0 s at
-cut-start s at n e = record { size = n; within = λ k w. only k w (λ (m : ℕ). getD at m 0 ≤ length s) (omega (arith, e)); from = λ k w. only k w (λ (m : ℕ). linesOf (drop (getD at m 0) s) ≡ drop m (linesOf s)) (rw e); next = λ k w. absurd (omega arith) }
+cut-start s at n e =
+    record {
+      size = n;
+      start = e;
+      within = λ k w. only k w (λ (m : ℕ). getD at m 0 ≤ length s) (omega (arith, e));
+      from = λ k w. only k w (λ (m : ℕ). linesOf (drop (getD at m 0) s) ≡ drop m (linesOf s)) (rw e);
+      next = λ k w. absurd (omega arith);
+    }
   where
     only : (k : ℕ) → k ≤ 0 → (P : ℕ → Type 0) → P 0 → P k
     only k w P p = let z : 0 ≡ k = omega arith in subst P z p
 
-module _ (s at : List ℕ) (i r : ℕ) (c : Cut i s at) (h : i < 10) (e : r ≡ behind (linesOf (drop (getD at i 0) s)) (getD at i 0)) (f : linesOf (drop r s) ≡ drop 1 (linesOf (drop (getD at i 0) s))) (g : r ≤ length s) where
-  new : getD (set at (i + 1) r) (i + 1) 0 ≡ r
+-- a fact of every number up to m, by its last
+up-to : (P : ℕ → Type 0) (m k : ℕ) → k < m + 1 → (k < m → P k) → P m → P k
+up-to P m k w p q = cases (eqb k m) (λ b. subst P (sym (eqb-true k m b)) q) (λ b. p (less (λ z. never (sym (eq-eqb k m z) ∙ b))))
+  where
+    less : (k ≡ m → ⊥) → k < m
+    less z = omega arith
+
+-- one more: the place r behind the line at the last
+module _ (s at : List ℕ) (i r : ℕ) (c : Cut i s at) (h : i < 10)
+    (e : r ≡ behind (linesOf (drop (getD at i 0) s)) (getD at i 0))
+    (f : linesOf (drop r s) ≡ drop 1 (linesOf (drop (getD at i 0) s)))
+    (g : r ≤ length s) where
+  abbrev more : List ℕ
+  more = set at (i + 1) r
+
+  new : getD more (i + 1) 0 ≡ r
   new = getD-set-same at (i + 1) r 0 (omega (arith, c .size))
 
-  old : (k : ℕ) → k ≤ i → getD (set at (i + 1) r) k 0 ≡ getD at k 0
+  old : (k : ℕ) → k ≤ i → getD more k 0 ≡ getD at k 0
   old k w = getD-set-other at (i + 1) k r 0 (λ q. absurd (omega arith))
 
-  up-to : (P : ℕ → Type 0) (m k : ℕ) → k < m + 1 → (k < m → P k) → P m → P k
-  up-to P m k w p q = cases (eqb k m) (λ b. subst P (sym (eqb-true k m b)) q) (λ b. p (less (λ z. never (sym (eq-eqb k m z) ∙ b))))
-    where
-      less : (k ≡ m → ⊥) → k < m
-      less z = omega arith
+  more-within : (k : ℕ) → k ≤ i + 1 → getD more k 0 ≤ length s
+  more-within k w =
+      up-to (λ (m : ℕ). getD more m 0 ≤ length s) (i + 1) k (omega arith)
+      (λ v. rw (old k (omega arith)) (c .within k (omega arith)))
+      (rw new g)
+
+  more-from : (k : ℕ) → k ≤ i + 1 → linesOf (drop (getD more k 0) s) ≡ drop k (linesOf s)
+  more-from k w =
+      up-to (λ (m : ℕ). linesOf (drop (getD more m 0) s) ≡ drop m (linesOf s)) (i + 1) k (omega arith)
+      (λ v. rw (old k (omega arith)) (c .from k (omega arith)))
+      (rw new (f ∙ ap (drop 1) (c .from i (omega arith)) ∙ drop-drop 1 i (linesOf s)))
+
+  more-next : (k : ℕ) → k < i + 1 → getD more (k + 1) 0 ≡ behind (drop k (linesOf s)) (getD more k 0)
+  more-next k w =
+      up-to (λ (m : ℕ). getD more (m + 1) 0 ≡ behind (drop m (linesOf s)) (getD more m 0)) i k w
+      (λ v. rw (old k (omega arith), old (k + 1) (omega arith)) (c .next k v))
+      (rw (new, old i (omega arith), ← c .from i (omega arith)) e)
 
   pub cut-on : Cut (i + 1) s (set at (i + 1) r)
-  cut-on = record { size = length-set at (i + 1) r ∙ c .size; within = λ k w. up-to (λ (m : ℕ). getD (set at (i + 1) r) m 0 ≤ length s) (i + 1) k (omega arith) (λ v. rw (old k (omega arith)) (c .within k (omega arith))) (rw new g); from = λ k w. up-to (λ (m : ℕ). linesOf (drop (getD (set at (i + 1) r) m 0) s) ≡ drop m (linesOf s)) (i + 1) k (omega arith) (λ v. rw (old k (omega arith)) (c .from k (omega arith))) (rw new (skip-goes s (getD at i 0) r i (c .from i (omega arith)) f)); next = λ k w. up-to (λ (m : ℕ). getD (set at (i + 1) r) (m + 1) 0 ≡ behind (drop m (linesOf s)) (getD (set at (i + 1) r) m 0)) i k w (λ v. rw (old k (omega arith), old (k + 1) (omega arith)) (c .next k v)) (rw (new, old i (omega arith), ← c .from i (omega arith)) e) }
+  cut-on = record { size = length-set at (i + 1) r ∙ c .size; start = old 0 (omega arith) ∙ c .start; within = more-within; from = more-from; next = more-next }
 
+-- the last place found is one of the text; ten are all
 pub cut-place : (s at : List ℕ) (i : ℕ) → Cut i s at → getD at i 0 ≤ length s
 cut-place s at i c = c .within i (omega arith)
 
 pub cut-ends : (s at : List ℕ) (i : ℕ) → Cut i s at → i ≤ 10 → 10 ≤ i → Cut 10 s at
 cut-ends s at i c h g = let z : i ≡ 10 = omega arith in subst (λ (m : ℕ). Cut m s at) z c
 
--- the line between two places, the second behind its 0A
+-- the k-th line, between its place and its 0A
 module _ (s at : List ℕ) (k : ℕ) (c : Cut 10 s at) (h : k < 10) where
   nth-first : nth (drop k (linesOf s)) 0 ≡ nth (linesOf s) k
   nth-first = getD-drop k (linesOf s) 0 [] ∙ (let z : k + 0 ≡ k = omega arith in ap (λ (m : ℕ). nth (linesOf s) m) z)
@@ -180,6 +212,7 @@ module _ (s at : List ℕ) (k : ℕ) (c : Cut 10 s at) (h : k < 10) where
     pub line-between : take (getD at (k + 1) 0 - 1 - getD at k 0) (drop (getD at k 0) s) ≡ nth (linesOf s) k
     line-between = between (drop k (linesOf s)) (c .from k (omega arith)) (c .next k h) .1 ∙ nth-first
 
+-- a part is no longer than the whole
 pub part-short : (s : List ℕ) (a n : ℕ) → length (take n (drop a s)) ≤ length s
 part-short s a n = simp (length-take, length-drop) (omega arith)
 

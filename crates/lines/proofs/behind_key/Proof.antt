@@ -1,8 +1,5 @@
+-- `lines::behind_key` meets its contract. Assumes nothing.
 use borrow.Author.Needs.{needs}
-use native.Mathlib.Omega.{arith}
-use Prim.Native.Nat.{ℕ, _+_, _-_, _≤_, _<_}
-use mathlib.Core.Path.{_≡_}
-use lib.ListN.{length, take, drop}
 use Rattle.lines.proofs.Laws.{value-none}
 use Rattle.rules.proofs.Lists.{rest-is, rest-shorter}
 use Rattle.lines.proofs.behind_key.Statement.{statement}

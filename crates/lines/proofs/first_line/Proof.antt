@@ -1,3 +1,4 @@
+-- `lines::first_line` meets its contract. Assumes nothing.
 use borrow.Author.Needs.{needs}
 use Rattle.rules.proofs.Lists.{part-length}
 use Rattle.lines.proofs.Laws.{first-none, first-some}

@@ -1,3 +1,4 @@
+-- `lines::line_at` meets its contract. Assumes nothing.
 use borrow.Author.Needs.{needs}
 use Rattle.lines.proofs.Laws.{line-starts, line-room, line-missing, line-ended, line-ends, line-between, part-short}
 use Rattle.lines.proofs.line_at.Statement.{statement}

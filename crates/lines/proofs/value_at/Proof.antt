@@ -1,3 +1,4 @@
+-- `lines::value_at` meets its contract. Assumes nothing.
 use borrow.Author.Needs.{needs}
 use Rattle.lines.proofs.Laws.{value-is}
 use Rattle.lines.proofs.value_at.Statement.{statement}
