@@ -1,6 +1,6 @@
 -- The verdict on a group's lines is what the definitions tell, and so is the group that comes next. Assumes nothing.
 use mathlib.Core.Path.{_≡_, refl, sym, ap, _∙_}
-use mathlib.Core.Bool.{Bool, true, false, cond, not}
+use mathlib.Core.Bool.{Bool, true, false, cond}
 use mathlib.Core.List.{List, [], _∷_, _++_, append-assoc, append-nil}
 use Prim.Native.Nat.{ℕ, zero, suc, _+_, _≤_, _<_}
 use native.Mathlib.Omega.{arith}
@@ -11,8 +11,7 @@ use lib.ListN.{length, drop}
 use Rattle.rules.specs.declared.Name.{Name}
 use Rattle.rules.specs.declared.Name.the-variants.{Msh, Pid, Pv1, Spm, Obr, Orc, Obx, Other}
 use Rattle.rules.specs.Told.{Told, gives, refused, _>>=_}
-use Rattle.rules.specs.Lists.{bytes, empty, nth, starts}
-use Rattle.rules.specs.Frame.{is}
+use Rattle.rules.specs.Lists.{bytes, nth, starts}
 use Rattle.rules.specs.Row.{Line, line, lines, Row, rowOf}
 use Rattle.rules.specs.Sheet.{keyOf, lineOk, lineTold, nextGroups, opens, openedBy, rowsTold}
 use Rattle.rules.proofs.Logic.{cases}

@@ -287,6 +287,7 @@ fn agrees(status: &[u8], compare: &[u8], value: &[u8], join: &[u8], second: &[u8
     value::agrees(status, value.len() != 0, beside)
 }
 
+// A result: each part of OBX-5 has the rule of its type.
 fn result(s: &[u8], at: &[usize; 11]) -> Verdict
     requires { ⌜ Cut 10 (now s) (now at) ⌝ }
     ensures { λ r. ⌜ r ≡ groupVerdict Name.Obx (linesOf (now (s .entry))) ⌝ }

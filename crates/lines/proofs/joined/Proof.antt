@@ -1,8 +1,4 @@
 use borrow.Author.Needs.{needs}
-use native.Mathlib.Omega.{arith}
-use Prim.Native.Nat.{ℕ, _+_, _-_, _≤_, _<_}
-use mathlib.Core.Path.{_≡_}
-use lib.ListN.{length, take, drop}
 use Rattle.lines.proofs.Laws.{joined-is}
 use Rattle.lines.proofs.joined.Statement.{statement}
 use Rattle.lines.proofs.joined.Tie as tie
