@@ -4,7 +4,7 @@ use mathlib.Core.Bool.{Bool, true, false, cond, not}
 use mathlib.Core.List.{List, [], _∷_, _++_, append-assoc}
 use Prim.Native.Nat.{ℕ, _+_, _-_, _*_, _≤_, _<_}
 use native.Mathlib.Omega.{arith}
-use lib.ListN.{length, take, drop, length-append, length-drop}
+use lib.ListN.{length, take, drop, getD, length-append, length-drop}
 use lib.Seq.{drop-drop}
 use Rattle.rules.specs.declared.Delims.{Delims}
 use Rattle.rules.specs.declared.Kind.the-variants.{Key, Line}
@@ -18,12 +18,12 @@ use Rattle.rules.specs.Row.{lines, Row, rowOf}
 use Rattle.rules.specs.Sheet.{rowsTold, linesOf}
 use Rattle.rules.specs.Message.{written, messageOf}
 use Rattle.rules.proofs.Logic.{never, not-true, not-false, zeroCases}
-use Rattle.rules.proofs.Lists.{here, rest-is, empty-is, empty-zero}
+use Rattle.rules.proofs.Lists.{here, rest-is, rest-shorter, rest-within, empty-is, empty-zero}
 use Rattle.writer.specs.Over.{over, Wrote, Put}
 use Rattle.writer.proofs.Laws.{then}
 use Rattle.lines.specs.declared.Verdict.{Verdict}
 use Rattle.lines.specs.declared.Verdict.the-variants.{Fine, Key as WrongKey, Value}
-use Rattle.lines.specs.Lines.{isFine, indexOf, toldOf, verdict, groupVerdict, groupValues, nextGroup}
+use Rattle.lines.specs.Lines.{Cut, isFine, indexOf, toldOf, verdict, groupVerdict, groupValues, nextGroup}
 use Rattle.lines.proofs.Groups.{verdict-told, next-told, group-index}
 use Rattle.compose.specs.declared.Size.{Size}
 use Rattle.compose.specs.declared.Passed.{Passed}
@@ -35,6 +35,7 @@ use Rattle.compose.proofs.Messages.{specimensIn, resultsIn, message-app
 pub record Passing (d : Delims) (s out₀ : List ℕ) (g : Name) (at line bytes segments specimens results : ℕ) (out : List ℕ) : Type 0 where
   pub rows : List Row
   pub vs : List (List ℕ)
+  pub small : length s ≤ 65536
   pub within : at ≤ length s
   pub lines-few : line ≤ 10 * at + 1
   pub bytes-few : bytes ≤ 300000000 * at
@@ -101,14 +102,12 @@ wrong d s x y line after done r (Value k) q a b = record { told = b ∙ rw a; wr
 pub index-low : (v : Verdict) (h : Name) (ts : List (List ℕ)) → v ≡ groupVerdict h ts → indexOf v ≤ 10
 index-low v h ts e = rw e (group-index h ts)
 
-pub rest-size : (s : List ℕ) (at : ℕ) → length (take (length s - at) (drop at s)) ≡ length s - at
-rest-size s at = ap length (rest-is s at) ∙ length-drop at s
-
-pub begins : (d : Delims) (s out : List ℕ) → Passing d s out Other 0 1 0 0 0 0 out
+pub begins : (d : Delims) (s out : List ℕ) → length s ≤ 65536 → Passing d s out Other 0 1 0 0 0 0 out
 unfolding rowOf specimensIn resultsIn over
-begins d s out = record {
+begins d s out h = record {
   rows = [];
   vs = [];
+  small = h;
   within = omega arith;
   lines-few = omega arith;
   bytes-few = omega arith;
@@ -121,10 +120,10 @@ begins d s out = record {
   specimens-are = refl;
   results-are = refl;
   same = refl;
-  wrote = λ h. rw (message-none d) refl;
+  wrote = λ room. rw (message-none d) refl;
 }
 
-module _ (d : Delims) (s out₀ : List ℕ) (g : Name) (at line bytes segments specimens results : ℕ) (out : List ℕ)
+module _ {d : Delims} {s out₀ : List ℕ} {g : Name} {at line bytes segments specimens results : ℕ} {out : List ℕ}
     (inv : Passing d s out₀ g at line bytes segments specimens results out) where
   abbrev rest : List ℕ
   rest = take (length s - at) (drop at s)
@@ -138,19 +137,45 @@ module _ (d : Delims) (s out₀ : List ℕ) (g : Name) (at line bytes segments s
   lines-same : linesOf rest ≡ ts
   lines-same = ap linesOf (rest-is s at)
 
-  -- ---- a line more
-  module _ (q : Bool) (there : q ≡ filled ts) (yes : q ≡ true) where
+  pub rest-low : length rest ≤ 65536
+  rest-low = rest-shorter s at 65536 (inv .small)
+
+  -- ---- the place behind n lines
+  module _ {places : List ℕ} (cut : Cut 10 rest places) {n : ℕ} (low : n ≤ 10) where
+    pub ahead : at + getD places n 0 ≤ length s
+    ahead = rest-within s at (getD places n 0) (inv .within) (cut .within n low)
+
+    on : linesOf (drop (at + getD places n 0) s) ≡ drop n ts
+    on = ap linesOf (sym (drop-drop (getD places n 0) at s)) ∙ ap (λ (l : List ℕ). linesOf (drop (getD places n 0) l)) (sym (rest-is s at)) ∙ cut .from n low
+        ∙ ap (λ (l : List (List ℕ)). drop n l) lines-same
+
+  -- ---- a line more, and the group that it begins
+  module _ {q : Bool} (there : q ≡ filled ts) (yes : q ≡ true) {h : Name} (next : (h ≡ nextGroup g (nth (linesOf rest) 0)) × (1 ≤ length (lines h))) where
     some : 0 < length ts
     some = zeroCases (length ts) (λ z. never (sym yes ∙ there ∙ ap not (empty-zero ts z))) (λ k e. omega arith)
 
-    module _ (h : Name) (next : h ≡ nextGroup g (nth (linesOf rest) 0)) (v : Verdict) (says : v ≡ groupVerdict h (linesOf rest)) where
+    module _ {places : List ℕ} (cut : Cut 10 rest places) {n : ℕ} (count : (n ≡ length (lines h)) × (n ≤ 10)) where
+      forward : 1 ≤ getD places n 0
+      forward = zeroCases (getD places n 0) (λ z. absurd (stuck z)) (λ k e. omega arith)
+        where
+          stuck : getD places n 0 ≡ 0 → ⊥
+          stuck z =
+              let a : at + getD places n 0 ≡ at = omega arith in
+              let e : length ts ≡ length ts - n = ap (λ (k : ℕ). length (linesOf (drop k s))) (sym a) ∙ ap length (on cut (count .1)) ∙ length-drop n ts in
+              omega (arith, some, next .1, count .0)
+
+      pub nearer : length s - (at + getD places n 0) < length s - at
+      nearer = omega (arith, forward, ahead cut (count .1))
+
+    -- ---- the verdict on its lines
+    module _ {v : Verdict} (says : v ≡ groupVerdict h (linesOf rest)) where
       abbrev after : Told (List Row)
       after = rowsTold h [] (groupValues h ts) (line + length (lines h)) (drop (length (lines h)) ts)
 
       told-on : rowsIn s ≡ (toldOf v line after >>= λ rs. gives (done ++ rs))
       told-on =
           let e : ts ≡ nth ts 0 ∷ drop 1 ts = here [] ts 0 some in
-          let n : h ≡ nextGroup g (nth ts 0) = next ∙ ap (λ (l : List (List ℕ)). nextGroup g (nth l 0)) lines-same in
+          let n : h ≡ nextGroup g (nth ts 0) = next .0 ∙ ap (λ (l : List (List ℕ)). nextGroup g (nth l 0)) lines-same in
           let w : v ≡ verdict Fine (lines h) [] 0 ts = says ∙ ap (groupVerdict h) lines-same in
           let z : line + 0 ≡ line = omega arith in
           let y : 0 + length (lines h) ≡ length (lines h) = omega arith in
@@ -162,71 +187,58 @@ module _ (d : Delims) (s out₀ : List ℕ) (g : Name) (at line bytes segments s
           ∙ bind-twice (toldOf v line after) (rowOf g (inv .vs)) (inv .rows)
 
       -- ---- its lines are wrong
-      pub unread-told : (f : Bool) → f ≡ isFine v → not f ≡ true → (r : Passed) → toldSize r ≡ toldOf v line (refused 42 line 0) → (y : List ℕ) → Pass d s out₀ r y
-      unread-told f e n r t y = wrong d s out₀ y line after done r v (sym e ∙ not-true f n) told-on t
+      pub unread-told : {f : Bool} → f ≡ isFine v → not f ≡ true → {r : Passed} → toldSize r ≡ toldOf v line (refused 42 line 0) → {y : List ℕ} → Pass d s out₀ r y
+      unread-told {f} e n {r} t {y} = wrong d s out₀ y line after done r v (sym e ∙ not-true f n) told-on t
 
       -- ---- its lines are right
-      module _ (m : ℕ) (n : ℕ) (ne : n ≡ length (lines h)) (few : 1 ≤ length (lines h)) (skip : linesOf (drop m rest) ≡ drop n (linesOf rest)) (short : m ≤ length rest) where
-        on : linesOf (drop (at + m) s) ≡ drop (length (lines h)) ts
-        on = ap linesOf (sym (drop-drop m at s)) ∙ ap (λ (l : List ℕ). linesOf (drop m l)) (sym (rest-is s at)) ∙ skip ∙ ap (λ (l : List (List ℕ)). drop n l) lines-same ∙ ap (λ (k : ℕ). drop k ts) ne
-
-        pub forward : 1 ≤ m
-        forward = zeroCases m (λ z. absurd (stuck z)) (λ k e. omega arith)
-          where
-            stuck : m ≡ 0 → ⊥
-            stuck z =
-                let a : at + m ≡ at = omega arith in
-                let e : length ts ≡ length ts - length (lines h) = ap (λ (k : ℕ). length (linesOf (drop k s))) (sym a) ∙ ap length on ∙ length-drop (length (lines h)) ts in
-                omega (arith, some)
-
+      module _ {places : List ℕ} (cut : Cut 10 rest places) {n : ℕ} (count : (n ≡ length (lines h)) × (n ≤ 10)) where
         abbrev ws : List (List ℕ)
         ws = groupValues h ts
 
-        pub goes : (f : Bool) → f ≡ isFine v → not f ≡ false
-            → (r u a b : ℕ) (y : List ℕ) → Added bytes out (groupText d specimens results h (linesOf rest)) r y → r ≤ bytes + 300000000
-            → u ≡ segmentsOf h → u ≤ 2 → a ≡ specimensWith specimens h → a ≤ specimens + 1 → b ≡ resultsWith results h → b ≤ results + 1 → n ≤ 10
-            → Passing d s out₀ h (at + m) (line + n) r (segments + u) a b y
+        abbrev text : List ℕ
+        text = groupText d specimens results h (linesOf rest)
+
+        pub goes : {f : Bool} → f ≡ isFine v → not f ≡ false
+            → {r u a b : ℕ} {y : List ℕ} → Added bytes out text r y × (r ≤ bytes + 300000000) → (u ≡ segmentsOf h) × (u ≤ 2)
+            → (a ≡ specimensWith specimens h) × (a ≤ specimens + 1) → (b ≡ resultsWith results h) × (b ≤ results + 1)
+            → Passing d s out₀ h (at + getD places n 0) (line + n) r (segments + u) a b y
         unfolding groupText
-        goes f e q r u a b y w wr eu lu ea la eb lb ln =
-            let p = forward in
+        goes {f} e q {r} {u} {a} {b} {y} w us ss rs =
+            let p = forward cut count in
             let fine : v ≡ Fine = fine-only v (sym e ∙ not-false f q) in
-            let z = size-of-rest in
-            let text : groupText d specimens results h (linesOf rest) ≡ rowsText d (specimensIn 0 done) (resultsIn 0 done) (rowOf h ws)
+            let same-text : text ≡ rowsText d (specimensIn 0 done) (resultsIn 0 done) (rowOf h ws)
             = ap (λ (l : List (List ℕ)). groupText d specimens results h l) lines-same ∙ rw (inv .specimens-are, inv .results-are) in
-            let grown : messageOf d (done ++ rowOf h ws) ≡ messageOf d done ++ groupText d specimens results h (linesOf rest)
-            = message-append d done (rowOf h ws) ∙ ap (λ (t : List ℕ). messageOf d done ++ t) (sym text) in
+            let grown : messageOf d (done ++ rowOf h ws) ≡ messageOf d done ++ text
+            = message-append d done (rowOf h ws) ∙ ap (λ (t : List ℕ). messageOf d done ++ t) (sym same-text) in
             let ends : r ≡ length (messageOf d (done ++ rowOf h ws))
-            = w .ends ∙ ap (λ (k : ℕ). k + length (groupText d specimens results h (linesOf rest))) (inv .bytes-are)
-            ∙ sym (ap length grown ∙ length-append (messageOf d done) (groupText d specimens results h (linesOf rest))) in
+            = w .0 .ends ∙ ap (λ (k : ℕ). k + length text) (inv .bytes-are) ∙ sym (ap length grown ∙ length-append (messageOf d done) text) in
             record {
               rows = done;
               vs = ws;
-              within = omega arith;
-              lines-few = omega (arith, inv .lines-few);
-              bytes-few = omega (arith, inv .bytes-few);
-              segments-few = omega (arith, inv .segments-few);
-              specimens-few = omega (arith, inv .specimens-few);
-              results-few = omega (arith, inv .results-few);
+              small = inv .small;
+              within = ahead cut (count .1);
+              lines-few = omega (arith, inv .lines-few, count .1);
+              bytes-few = omega (arith, inv .bytes-few, w .1);
+              segments-few = omega (arith, inv .segments-few, us .1);
+              specimens-few = omega (arith, inv .specimens-few, ss .1);
+              results-few = omega (arith, inv .results-few, rs .1);
               told = told-on ∙ ap (λ (x : Told (List Row)). x >>= λ rs. gives (done ++ rs)) (told-fine fine);
               bytes-are = ends;
-              segments-are = ap (λ (k : ℕ). k + u) (inv .segments-are) ∙ ap (λ (k : ℕ). length (written d done) + k) (eu ∙ sym (segments-in d (specimensIn 0 done) (resultsIn 0 done) h ws)) ∙ sym (segments-append d done (rowOf h ws));
-              specimens-are = ea ∙ ap (λ (k : ℕ). specimensWith k h) (inv .specimens-are) ∙ sym (specimens-append 0 done (rowOf h ws) ∙ specimens-in (specimensIn 0 done) h ws);
-              results-are = eb ∙ ap (λ (k : ℕ). resultsWith k h) (inv .results-are) ∙ sym (results-append 0 done (rowOf h ws) ∙ results-in (resultsIn 0 done) h ws);
-              same = w .same ∙ inv .same;
+              segments-are = ap (λ (k : ℕ). k + u) (inv .segments-are) ∙ ap (λ (k : ℕ). length (written d done) + k) (us .0 ∙ sym (segments-in d (specimensIn 0 done) (resultsIn 0 done) h ws)) ∙ sym (segments-append d done (rowOf h ws));
+              specimens-are = ss .0 ∙ ap (λ (k : ℕ). specimensWith k h) (inv .specimens-are) ∙ sym (specimens-append 0 done (rowOf h ws) ∙ specimens-in (specimensIn 0 done) h ws);
+              results-are = rs .0 ∙ ap (λ (k : ℕ). resultsWith k h) (inv .results-are) ∙ sym (results-append 0 done (rowOf h ws) ∙ results-in (resultsIn 0 done) h ws);
+              same = w .0 .same ∙ inv .same;
               wrote = λ room.
-                  let old : Wrote bytes out (messageOf d done) out₀ = record { ends = inv .bytes-are; is = inv .wrote (omega (arith, ap length grown, length-append (messageOf d done) (groupText d specimens results h (linesOf rest)))) } in
-                  let put : Put bytes out (groupText d specimens results h (linesOf rest)) r y = record { ends = w .ends; is = w .is (omega (arith, inv .same)) } in
+                  let old : Wrote bytes out (messageOf d done) out₀ = record { ends = inv .bytes-are; is = inv .wrote (omega (arith, ap length grown, length-append (messageOf d done) text)) } in
+                  let put : Put bytes out text r y = record { ends = w .0 .ends; is = w .0 .is (omega (arith, inv .same)) } in
                   rw grown (then old put .is);
             }
           where
-            size-of-rest : length rest ≡ length s - at
-            size-of-rest = ap length (rest-is s at) ∙ length-drop at s
-
-            told-fine : v ≡ Fine → toldOf v line after ≡ rowsTold h [] ws (line + n) (linesOf (drop (at + m) s))
-            told-fine i = ap (λ (x : Verdict). toldOf x line after) i ∙ fine-told line after ∙ rw (ne, on)
+            told-fine : v ≡ Fine → toldOf v line after ≡ rowsTold h [] ws (line + n) (linesOf (drop (at + getD places n 0) s))
+            told-fine i = ap (λ (x : Verdict). toldOf x line after) i ∙ fine-told line after ∙ rw (on cut (count .1), count .0)
 
   -- ---- no line more
-  module _ (q : Bool) (there : q ≡ filled ts) (last : q ≡ false) where
+  module _ {q : Bool} (there : q ≡ filled ts) (last : q ≡ false) where
     over-all : ts ≡ []
     over-all = empty-is ts (not-false (empty ts) (sym there ∙ last))
 
@@ -234,9 +246,9 @@ module _ (d : Delims) (s out₀ : List ℕ) (g : Name) (at line bytes segments s
     unfolding rowsTold
     told-last = inv .told ∙ ap (λ (l : List (List ℕ)). rowsTold g [] (inv .vs) line l >>= λ rs. gives (inv .rows ++ rs)) over-all
 
-    module _ (p : Bool) (e : p ≡ is g Obx) where
-      pub ends-refused : (r : Refusal) → not p ≡ true → r ≡ refusalAt Key line → Pass d s out₀ (Not r) out
-      ends-refused r h f =
+    module _ {p : Bool} (e : p ≡ is g Obx) where
+      pub ends-refused : {r : Refusal} → not p ≡ true → r ≡ refusalAt Key line → Pass d s out₀ (Not r) out
+      ends-refused h f =
           let w : rowsIn s ≡ refused 42 line 0 = rw (← e, not-true p h) at told-last in
           record { told = rw (f, w); wrote = λ rows x y. cc }
 

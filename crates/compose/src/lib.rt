@@ -12,19 +12,19 @@ ghost use Rattle.rules.specs.Told as Told;
 ghost use Rattle.rules.specs.Sheet.{linesOf};
 ghost use Rattle.rules.specs.Frame.{is};
 ghost use Rattle.writer.specs.Over.{Fit};
-ghost use Rattle.lines.specs.Lines.{toldOf, indexOf};
+ghost use Rattle.lines.specs.Lines.{toldOf, indexOf, Cut};
 ghost use Rattle.compose.specs.Compose.{Named, groupText, specimenText, resultText, specimensWith, resultsWith, segmentsOf, isValue, Added, toldSize, refusalAt, Pass};
 
 // ---- the groups written, each where there is room; their names are the bytes that the reader compares with
 
-fn header<'a>(out: &mut [u8], msh: &'a [u8], s: &'a [u8], d: Delims) -> usize
-    requires { ⌜ (length (now s) ≤ 65536) × Named (now msh) Name.Msh ⌝ }
+fn header<'a>(out: &mut [u8], msh: &'a [u8], s: &'a [u8], places: &[usize; 11], d: Delims) -> usize
+    requires { ⌜ (length (now s) ≤ 65536) × Cut 10 (now s) (now places) × Named (now msh) Name.Msh ⌝ }
     ensures { λ r. ⌜ Fit r (now (out .exit)) (groupText d 0 0 Name.Msh (linesOf (now (s .entry)))) (now (out .entry)) ⌝ }
     ensures within { λ r. ⌜ r ≤ 300000000 ⌝ }
 {
-    let mode = lines::value_at(s, 1, 5);
-    let sent = lines::value_at(s, 2, 5);
-    let control = lines::value_at(s, 3, 8);
+    let mode = lines::value_at(s, places, 1, 5);
+    let sent = lines::value_at(s, places, 2, 5);
+    let control = lines::value_at(s, places, 3, 8);
     writer::fit_woven(
         out,
         b"#|^~\\&|||||$||OUL^R22^OUL_R22|$|$|2.5||||||~ISO IR87||ISO 2022-1994\r",
@@ -33,22 +33,29 @@ fn header<'a>(out: &mut [u8], msh: &'a [u8], s: &'a [u8], d: Delims) -> usize
     )
 }
 
-fn visit<'a>(out: &mut [u8], pv1: &'a [u8], s: &'a [u8], d: Delims) -> usize
-    requires { ⌜ (length (now s) ≤ 65536) × Named (now pv1) Name.Pv1 ⌝ }
+fn visit<'a>(out: &mut [u8], pv1: &'a [u8], s: &'a [u8], places: &[usize; 11], d: Delims) -> usize
+    requires { ⌜ (length (now s) ≤ 65536) × Cut 10 (now s) (now places) × Named (now pv1) Name.Pv1 ⌝ }
     ensures { λ r. ⌜ Fit r (now (out .exit)) (groupText d 0 0 Name.Pv1 (linesOf (now (s .entry)))) (now (out .entry)) ⌝ }
     ensures within { λ r. ⌜ r ≤ 300000000 ⌝ }
 {
-    let class = lines::value_at(s, 0, 6);
+    let class = lines::value_at(s, places, 0, 6);
     writer::fit_woven(out, b"#||$\r", &[pv1, class], d)
 }
 
-fn order<'a>(out: &mut [u8], obr: &'a [u8], orc: &'a [u8], s: &'a [u8], d: Delims) -> usize
-    requires { ⌜ (length (now s) ≤ 65536) × Named (now obr) Name.Obr × Named (now orc) Name.Orc ⌝ }
+fn order<'a>(
+    out: &mut [u8],
+    obr: &'a [u8],
+    orc: &'a [u8],
+    s: &'a [u8],
+    places: &[usize; 11],
+    d: Delims,
+) -> usize
+    requires { ⌜ (length (now s) ≤ 65536) × Cut 10 (now s) (now places) × Named (now obr) Name.Obr × Named (now orc) Name.Orc ⌝ }
     ensures { λ r. ⌜ Fit r (now (out .exit)) (groupText d 0 0 Name.Obr (linesOf (now (s .entry)))) (now (out .entry)) ⌝ }
     ensures within { λ r. ⌜ r ≤ 300000000 ⌝ }
 {
-    let id = lines::value_at(s, 0, 6);
-    let group = lines::value_at(s, 1, 6);
+    let id = lines::value_at(s, places, 0, 6);
+    let group = lines::value_at(s, places, 1, 6);
     writer::fit_woven(
         out,
         b"#||$||$^^99003\r#|RE|$\r",
@@ -58,18 +65,18 @@ fn order<'a>(out: &mut [u8], obr: &'a [u8], orc: &'a [u8], s: &'a [u8], d: Delim
 }
 
 // "a kana name is a second repetition with P"
-fn patient<'a>(out: &mut [u8], pid: &'a [u8], s: &'a [u8], d: Delims) -> usize
-    requires { ⌜ (length (now s) ≤ 65536) × Named (now pid) Name.Pid ⌝ }
+fn patient<'a>(out: &mut [u8], pid: &'a [u8], s: &'a [u8], places: &[usize; 11], d: Delims) -> usize
+    requires { ⌜ (length (now s) ≤ 65536) × Cut 10 (now s) (now places) × Named (now pid) Name.Pid ⌝ }
     ensures { λ r. ⌜ Fit r (now (out .exit)) (groupText d 0 0 Name.Pid (linesOf (now (s .entry)))) (now (out .entry)) ⌝ }
     ensures within { λ r. ⌜ r ≤ 300000000 ⌝ }
 {
-    let id = lines::value_at(s, 0, 8);
-    let family = lines::value_at(s, 1, 7);
-    let given = lines::value_at(s, 2, 6);
-    let kana_family = lines::value_at(s, 3, 11);
-    let kana_given = lines::value_at(s, 4, 10);
-    let birth = lines::value_at(s, 5, 6);
-    let sex = lines::value_at(s, 6, 4);
+    let id = lines::value_at(s, places, 0, 8);
+    let family = lines::value_at(s, places, 1, 7);
+    let given = lines::value_at(s, places, 2, 6);
+    let kana_family = lines::value_at(s, places, 3, 11);
+    let kana_given = lines::value_at(s, places, 4, 10);
+    let birth = lines::value_at(s, places, 5, 6);
+    let sex = lines::value_at(s, places, 6, 4);
     if kana_family.len() == 0 {
         return writer::fit_woven(
             out,
@@ -106,13 +113,20 @@ fn put_specimen<'a>(
     )
 }
 
-fn specimen<'a>(out: &mut [u8], spm: &'a [u8], s: &'a [u8], i: usize, d: Delims) -> usize
-    requires { ⌜ (length (now s) ≤ 65536) × Named (now spm) Name.Spm × (i ≤ 65536) ⌝ }
+fn specimen<'a>(
+    out: &mut [u8],
+    spm: &'a [u8],
+    s: &'a [u8],
+    places: &[usize; 11],
+    i: usize,
+    d: Delims,
+) -> usize
+    requires { ⌜ (length (now s) ≤ 65536) × Cut 10 (now s) (now places) × Named (now spm) Name.Spm × (i ≤ 65536) ⌝ }
     ensures { λ r. ⌜ Fit r (now (out .exit)) (groupText d i 0 Name.Spm (linesOf (now (s .entry)))) (now (out .entry)) ⌝ }
     ensures within { λ r. ⌜ r ≤ 300000000 ⌝ }
 {
-    let kind = lines::value_at(s, 0, 9);
-    let collected = lines::value_at(s, 1, 10);
+    let kind = lines::value_at(s, places, 0, 9);
+    let collected = lines::value_at(s, places, 1, 10);
     let mut digits = [0u8; 5];
     let n = writer::put_number(&mut digits, i + 1);
     put_specimen(out, spm, &digits[..n], kind, collected, d)
@@ -168,21 +182,28 @@ fn put_result<'a>(
     )
 }
 
-fn result<'a>(out: &mut [u8], obx: &'a [u8], s: &'a [u8], j: usize, d: Delims) -> usize
-    requires { ⌜ (length (now s) ≤ 65536) × Named (now obx) Name.Obx × (j ≤ 65536) ⌝ }
+fn result<'a>(
+    out: &mut [u8],
+    obx: &'a [u8],
+    s: &'a [u8],
+    places: &[usize; 11],
+    j: usize,
+    d: Delims,
+) -> usize
+    requires { ⌜ (length (now s) ≤ 65536) × Cut 10 (now s) (now places) × Named (now obx) Name.Obx × (j ≤ 65536) ⌝ }
     ensures { λ r. ⌜ Fit r (now (out .exit)) (groupText d 0 j Name.Obx (linesOf (now (s .entry)))) (now (out .entry)) ⌝ }
     ensures within { λ r. ⌜ r ≤ 300000000 ⌝ }
 {
-    let item = lines::value_at(s, 0, 5);
-    let name = lines::value_at(s, 1, 5);
-    let kind = lines::value_at(s, 2, 5);
-    let compare = lines::value_at(s, 3, 8);
-    let value = lines::value_at(s, 4, 6);
-    let join = lines::value_at(s, 5, 5);
-    let second = lines::value_at(s, 6, 7);
-    let unit = lines::value_at(s, 7, 5);
-    let flag = lines::value_at(s, 8, 5);
-    let status = lines::value_at(s, 9, 7);
+    let item = lines::value_at(s, places, 0, 5);
+    let name = lines::value_at(s, places, 1, 5);
+    let kind = lines::value_at(s, places, 2, 5);
+    let compare = lines::value_at(s, places, 3, 8);
+    let value = lines::value_at(s, places, 4, 6);
+    let join = lines::value_at(s, places, 5, 5);
+    let second = lines::value_at(s, places, 6, 7);
+    let unit = lines::value_at(s, places, 7, 5);
+    let flag = lines::value_at(s, places, 8, 5);
+    let status = lines::value_at(s, places, 9, 7);
     let mut digits = [0u8; 5];
     let n = writer::put_number(&mut digits, j + 1);
     put_result(
@@ -204,19 +225,27 @@ fn result<'a>(out: &mut [u8], obx: &'a [u8], s: &'a [u8], j: usize, d: Delims) -
 }
 
 // A group, where i specimens and j results of its order stand before it.
-fn put_group(out: &mut [u8], name: Name, s: &[u8], i: usize, j: usize, d: Delims) -> usize
-    requires { ⌜ (length (now s) ≤ 65536) × (i ≤ 65536) × (j ≤ 65536) ⌝ }
+fn put_group(
+    out: &mut [u8],
+    name: Name,
+    s: &[u8],
+    places: &[usize; 11],
+    i: usize,
+    j: usize,
+    d: Delims,
+) -> usize
+    requires { ⌜ (length (now s) ≤ 65536) × Cut 10 (now s) (now places) × (i ≤ 65536) × (j ≤ 65536) ⌝ }
     ensures { λ r. ⌜ Fit r (now (out .exit)) (groupText d i j name (linesOf (now (s .entry)))) (now (out .entry)) ⌝ }
     ensures within { λ r. ⌜ r ≤ 300000000 ⌝ }
 {
     match name {
-        Name::Msh => header(out, &rules::MSH, s, d),
-        Name::Pid => patient(out, &rules::PID, s, d),
-        Name::Pv1 => visit(out, &rules::PV1, s, d),
-        Name::Spm => specimen(out, &rules::SPM, s, i, d),
-        Name::Obr => order(out, &rules::OBR, &rules::ORC, s, d),
+        Name::Msh => header(out, &rules::MSH, s, places, d),
+        Name::Pid => patient(out, &rules::PID, s, places, d),
+        Name::Pv1 => visit(out, &rules::PV1, s, places, d),
+        Name::Spm => specimen(out, &rules::SPM, s, places, i, d),
+        Name::Obr => order(out, &rules::OBR, &rules::ORC, s, places, d),
         Name::Orc => 0,
-        Name::Obx => result(out, &rules::OBX, s, j, d),
+        Name::Obx => result(out, &rules::OBX, s, places, j, d),
         Name::Other => 0,
     }
 }
@@ -244,13 +273,22 @@ fn least(a: usize, b: usize) -> usize
 }
 
 // A group behind the bytes that stand already, in what remains of the buffer.
-fn put_next(out: &mut [u8], at: usize, name: Name, s: &[u8], i: usize, j: usize, d: Delims) -> usize
-    requires { ⌜ (length (now s) ≤ 65536) × (i ≤ 65536) × (j ≤ 65536) × (at ≤ 1000000000000000) ⌝ }
+fn put_next(
+    out: &mut [u8],
+    at: usize,
+    name: Name,
+    s: &[u8],
+    places: &[usize; 11],
+    i: usize,
+    j: usize,
+    d: Delims,
+) -> usize
+    requires { ⌜ (length (now s) ≤ 65536) × Cut 10 (now s) (now places) × (i ≤ 65536) × (j ≤ 65536) × (at ≤ 1000000000000000) ⌝ }
     ensures { λ r. ⌜ Added at (now (out .entry)) (groupText d i j name (linesOf (now (s .entry)))) r (now (out .exit)) ⌝ }
     ensures within { λ r. ⌜ r ≤ at + 300000000 ⌝ }
 {
     let from = least(at, out.len());
-    at + put_group(&mut out[from..], name, s, i, j, d)
+    at + put_group(&mut out[from..], name, s, places, i, j, d)
 }
 
 fn specimens_with(i: usize, name: Name) -> usize
@@ -373,17 +411,18 @@ pub fn pass(out: &mut [u8], sheet: &[u8], d: Delims) -> Passed
     while lines::has_line(sheet, at) {
         let rest = &sheet[at..];
         let next = lines::next_group(group, rest);
-        let v = lines::group(next, rest);
+        let places = lines::cut(rest);
+        let v = lines::group(next, rest, &places);
         if !lines::fine(v) {
             return unread(v, line);
         }
-        bytes = put_next(out, bytes, next, rest, specimens, results, d);
+        bytes = put_next(out, bytes, next, rest, &places, specimens, results, d);
         segments += segments_of(next);
         specimens = specimens_with(specimens, next);
         results = results_with(results, next);
         let n = lines::lines_in(next);
         line += n;
-        at += lines::skip_lines(rest, n);
+        at += places[n];
         group = next;
     }
     if !is_result(group) {

@@ -3,8 +3,7 @@ use native.Mathlib.Omega.{arith}
 use Prim.Native.Nat.{ℕ, _+_, _-_, _≤_, _<_}
 use mathlib.Core.Path.{_≡_}
 use lib.ListN.{length, take, drop}
-use Rattle.rules.proofs.Lists.{rest-shorter}
-use Rattle.compose.proofs.Passing.{Passing, begins, index-low, rest-size, unread-told, forward, goes, ends-refused, ends-all}
+use Rattle.compose.proofs.Passing.{Passing, begins, index-low, rest-low, ahead, unread-told, nearer, goes, ends-refused, ends-all}
 use Rattle.compose.proofs.pass.Statement.{statement}
 use Rattle.compose.proofs.pass.Tie as tie
 
@@ -16,8 +15,15 @@ abbrev μ-loop : tie.MeasureT-loop
 μ-loop out₀ sheet d group₀ at₀ line₀ bytes₀ segments₀ specimens₀ results₀ out group at line bytes segments specimens results =
     length sheet - at
 
+-- the turn in which a verdict is looked at, and the look behind which a group is counted
+abbrev turn : tie.After-fine Inv-loop μ-loop → tie.At-loop Inv-loop μ-loop
+turn c = c .before .before .before .before .before .before .before .before
+
+abbrev looked : tie.After-segments-of Inv-loop μ-loop → tie.After-fine Inv-loop μ-loop
+looked c = c .before .before .before .before .before .before .before
+
 loop-holds : tie.Need-loop-holds Inv-loop μ-loop
-loop-holds c = begins _ _ _
+loop-holds c = begins _ _ _ (c .before .before .pre)
 
 has-line-requires : tie.Need-has-line-requires Inv-loop μ-loop
 has-line-requires c κs = search needs
@@ -34,6 +40,9 @@ part-rest-end c = search needs
 next-group-requires : tie.Need-next-group-requires Inv-loop μ-loop
 next-group-requires c κs = search needs
 
+cut-requires : tie.Need-cut-requires Inv-loop μ-loop
+cut-requires c κs = search needs
+
 group-requires : tie.Need-group-requires Inv-loop μ-loop
 group-requires c κs = search needs
 
@@ -41,46 +50,73 @@ fine-requires : tie.Need-fine-requires Inv-loop μ-loop
 fine-requires c κs = search needs
 
 unread-requires : tie.Need-unread-requires Inv-loop μ-loop
-unread-requires c κs = (index-low _ _ _ (c .before .before .group .ensures), omega (arith, (c .before .before .before .before .before .before .before .loop .inv .lines-few), (c .before .before .before .before .before .before .before .loop .inv .within), (c .before .before .before .before .before .before .before .before .before .before .pre)))
+unread-requires c κs = (index-low _ _ _ (c .before .before .group .ensures), omega (arith, turn (c .before) .loop .inv))
 
 same-length : tie.Need-same-length Inv-loop μ-loop
 same-length c = search needs
 
 returns : tie.Need-returns Inv-loop μ-loop
-returns c = unread-told _ _ _ _ _ _ _ _ _ _ _ (c .before .before .before .before .before .before .before .before .loop .inv) _ (c .before .before .before .before .before .before .before .has-line .ensures) (c .before .before .before .before .before .before .if1 .taken) _ (c .before .before .before .before .next-group .ensures .0) _ (c .before .before .before .group .ensures) _ (c .before .before .fine .ensures) (c .before .if2 .taken) _ (c .unread .ensures) _
+returns c =
+    let fine = c .before .before in
+    let judged = fine .before in
+    let next = judged .before .before .before in
+    let more = next .before .before in
+    unread-told (turn fine .loop .inv) (more .before .has-line .ensures) (more .if1 .taken) (next .next-group .ensures) (judged .group .ensures) (fine .fine .ensures) (c .before .if2 .taken) (c .unread .ensures)
 
 put-next-requires : tie.Need-put-next-requires Inv-loop μ-loop
-put-next-requires c κs = (rest-shorter (c .before .before .before .before .before .before .before .before .before .before .before .args .sheet .now) (c .before .before .before .before .before .before .before .before .loop .at) _ (c .before .before .before .before .before .before .before .before .before .before .before .pre), omega (arith, (c .before .before .before .before .before .before .before .before .loop .inv .specimens-few), (c .before .before .before .before .before .before .before .before .loop .inv .within), (c .before .before .before .before .before .before .before .before .before .before .before .pre)), omega (arith, (c .before .before .before .before .before .before .before .before .loop .inv .results-few), (c .before .before .before .before .before .before .before .before .loop .inv .within), (c .before .before .before .before .before .before .before .before .before .before .before .pre)), omega (arith, (c .before .before .before .before .before .before .before .before .loop .inv .bytes-few), (c .before .before .before .before .before .before .before .before .loop .inv .within), (c .before .before .before .before .before .before .before .before .before .before .before .pre)))
+put-next-requires c κs =
+    let kept = turn (c .before .before .before) .loop .inv in
+    (rest-low kept, c .before .before .before .before .before .before .cut .ensures, omega (arith, kept), omega (arith, kept), omega (arith, kept))
 
 segments-of-requires : tie.Need-segments-of-requires Inv-loop μ-loop
 segments-of-requires c κs = search needs
 
 add-segments : tie.Need-add-segments Inv-loop μ-loop
-add-segments c = omega (arith, (c .before .before .before .before .before .before .before .before .before .before .before .before .loop .inv .segments-few), (c .before .before .before .before .before .before .before .before .before .before .before .before .loop .inv .within), (c .before .before .before .before .before .before .before .before .before .before .before .before .before .before .before .pre), (c .segments-of .ensures .1))
+add-segments c = omega (arith, turn (looked c) .loop .inv, c .segments-of .ensures)
 
 specimens-with-requires : tie.Need-specimens-with-requires Inv-loop μ-loop
-specimens-with-requires c κs = omega (arith, (c .before .before .before .before .before .before .before .before .before .before .before .before .loop .inv .specimens-few), (c .before .before .before .before .before .before .before .before .before .before .before .before .loop .inv .within), (c .before .before .before .before .before .before .before .before .before .before .before .before .before .before .before .pre))
+specimens-with-requires c κs = omega (arith, turn (looked c) .loop .inv)
 
 results-with-requires : tie.Need-results-with-requires Inv-loop μ-loop
-results-with-requires c κs = omega (arith, (c .before .before .before .before .before .before .before .before .before .before .before .before .before .loop .inv .results-few), (c .before .before .before .before .before .before .before .before .before .before .before .before .before .loop .inv .within), (c .before .before .before .before .before .before .before .before .before .before .before .before .before .before .before .before .pre))
+results-with-requires c κs = omega (arith, turn (looked (c .before)) .loop .inv)
 
 lines-in-requires : tie.Need-lines-in-requires Inv-loop μ-loop
 lines-in-requires c κs = search needs
 
 add-line : tie.Need-add-line Inv-loop μ-loop
-add-line c = omega (arith, (c .before .before .before .before .before .before .before .before .before .before .before .before .before .before .before .loop .inv .lines-few), (c .before .before .before .before .before .before .before .before .before .before .before .before .before .before .before .loop .inv .within), (c .before .before .before .before .before .before .before .before .before .before .before .before .before .before .before .before .before .before .pre), (c .lines-in .ensures .1))
+add-line c = omega (arith, turn (looked (c .before .before .before)) .loop .inv, c .lines-in .ensures)
 
-skip-lines-requires : tie.Need-skip-lines-requires Inv-loop μ-loop
-skip-lines-requires c κs = search needs
+mul-at : tie.Need-mul-at Inv-loop μ-loop
+mul-at c = search needs
+
+array-read-at : tie.Need-array-read-at Inv-loop μ-loop
+array-read-at c = search needs
 
 add-at : tie.Need-add-at Inv-loop μ-loop
-add-at c = omega (arith, (c .before .before .before .before .before .before .before .before .before .before .before .before .before .before .before .before .loop .inv .within), (c .before .before .before .before .before .before .before .before .before .before .before .before .before .before .before .before .before .before .before .pre), (c .skip-lines .ensures .1), rest-shorter (c .before .before .before .before .before .before .before .before .before .before .before .before .before .before .before .before .before .before .before .args .sheet .now) (c .before .before .before .before .before .before .before .before .before .before .before .before .before .before .before .before .loop .at) _ (c .before .before .before .before .before .before .before .before .before .before .before .before .before .before .before .before .before .before .before .pre))
+add-at c =
+    let fine = looked (c .before .before .before) in
+    let kept = turn fine .loop .inv in
+    omega (arith, kept .small, ahead kept (fine .before .before .before .cut .ensures) (c .lines-in .ensures .1))
 
 loop-less : tie.Need-loop-less Inv-loop μ-loop
-loop-less c = omega (arith, (c .before .before .before .before .before .before .before .before .before .before .before .before .before .before .before .before .loop .inv .within), (c .before .before .before .before .before .before .before .before .before .before .before .before .before .before .before .before .before .before .before .pre), forward _ _ _ _ _ _ _ _ _ _ _ (c .before .before .before .before .before .before .before .before .before .before .before .before .before .before .before .before .loop .inv) _ (c .before .before .before .before .before .before .before .before .before .before .before .before .before .before .before .has-line .ensures) (c .before .before .before .before .before .before .before .before .before .before .before .before .before .before .if1 .taken) _ (c .before .before .before .before .before .before .before .before .before .before .before .before .next-group .ensures .0) _ (c .before .before .before .before .before .before .before .before .before .before .before .group .ensures) _ _ (c .before .lines-in .ensures .0) (c .before .before .before .before .before .before .before .before .before .before .before .before .next-group .ensures .1) (c .skip-lines .ensures .0) (c .skip-lines .ensures .1), (c .skip-lines .ensures .1), rest-size (c .before .before .before .before .before .before .before .before .before .before .before .before .before .before .before .before .before .before .before .args .sheet .now) (c .before .before .before .before .before .before .before .before .before .before .before .before .before .before .before .before .loop .at))
+loop-less c =
+    let cut = looked (c .before .before .before) .before .before .before in
+    let next = cut .before in
+    let more = next .before .before in
+    nearer (more .before .before .loop .inv) (more .before .has-line .ensures) (more .if1 .taken) (next .next-group .ensures) (cut .cut .ensures) (c .lines-in .ensures)
 
 loop-again : tie.Need-loop-again Inv-loop μ-loop
-loop-again c = goes _ _ _ _ _ _ _ _ _ _ _ (c .before .before .before .before .before .before .before .before .before .before .before .before .before .before .before .before .loop .inv) _ (c .before .before .before .before .before .before .before .before .before .before .before .before .before .before .before .has-line .ensures) (c .before .before .before .before .before .before .before .before .before .before .before .before .before .before .if1 .taken) _ (c .before .before .before .before .before .before .before .before .before .before .before .before .next-group .ensures .0) _ (c .before .before .before .before .before .before .before .before .before .before .before .group .ensures) _ _ (c .before .lines-in .ensures .0) (c .before .before .before .before .before .before .before .before .before .before .before .before .next-group .ensures .1) (c .skip-lines .ensures .0) (c .skip-lines .ensures .1) _ (c .before .before .before .before .before .before .before .before .before .before .fine .ensures) (c .before .before .before .before .before .before .before .before .before .if2 .left) _ _ _ _ _ (c .before .before .before .before .before .before .before .put-next .ensures .0) (c .before .before .before .before .before .before .before .put-next .ensures .1) (c .before .before .before .before .segments-of .ensures .0) (c .before .before .before .before .segments-of .ensures .1) (c .before .before .before .specimens-with .ensures .0) (c .before .before .before .specimens-with .ensures .1) (c .before .before .results-with .ensures .0) (c .before .before .results-with .ensures .1) (c .before .lines-in .ensures .1)
+loop-again c =
+    let results = c .before in
+    let specimens = results .before in
+    let segments = specimens .before in
+    let put = segments .before .before .before in
+    let fine = looked segments in
+    let judged = fine .before in
+    let cut = judged .before .before in
+    let next = cut .before in
+    let more = next .before .before in
+    goes (turn fine .loop .inv) (more .before .has-line .ensures) (more .if1 .taken) (next .next-group .ensures) (judged .group .ensures) (cut .cut .ensures) (c .lines-in .ensures) (fine .fine .ensures) (put .before .before .before .if2 .left) (put .put-next .ensures) (segments .segments-of .ensures) (specimens .specimens-with .ensures) (results .results-with .ensures)
 
 is-result-requires : tie.Need-is-result-requires Inv-loop μ-loop
 is-result-requires c κs = search needs
@@ -92,13 +128,19 @@ same-length-2 : tie.Need-same-length-2 Inv-loop μ-loop
 same-length-2 c = search needs
 
 returns-2 : tie.Need-returns-2 Inv-loop μ-loop
-returns-2 c = ends-refused _ _ _ _ _ _ _ _ _ _ _ (c .before .before .before .before .before .loop .inv) _ (c .before .before .before .before .has-line .ensures) (c .before .before .before .if1 .left) _ (c .before .before .is-result .ensures) _ (c .before .if3 .taken) (c .refused .ensures)
+returns-2 c =
+    let ended = c .before .before in
+    let line = ended .before .before in
+    ends-refused (line .before .loop .inv) (line .has-line .ensures) (ended .before .if1 .left) (ended .is-result .ensures) (c .before .if3 .taken) (c .refused .ensures)
 
 same-length-3 : tie.Need-same-length-3 Inv-loop μ-loop
 same-length-3 c = search needs
 
 returns-3 : tie.Need-returns-3 Inv-loop μ-loop
-returns-3 c = ends-all _ _ _ _ _ _ _ _ _ _ _ (c .before .before .before .before .loop .inv) _ (c .before .before .before .has-line .ensures) (c .before .before .if1 .left) _ (c .before .is-result .ensures) (c .if3 .left)
+returns-3 c =
+    let ended = c .before in
+    let line = ended .before .before in
+    ends-all (line .before .loop .inv) (line .has-line .ensures) (ended .before .if1 .left) (ended .is-result .ensures) (c .if3 .left)
 
 pub pass-spec : {M : Type 1} → statement M
 pass-spec =
@@ -112,6 +154,7 @@ pass-spec =
     part-rest-start
     part-rest-end
     next-group-requires
+    cut-requires
     group-requires
     fine-requires
     unread-requires
@@ -124,7 +167,8 @@ pass-spec =
     results-with-requires
     lines-in-requires
     add-line
-    skip-lines-requires
+    mul-at
+    array-read-at
     add-at
     loop-less
     loop-again

@@ -37,7 +37,7 @@ slice-aggregate-fit-woven-2 c = search needs
 
 fit-woven-requires : tie.Need-fit-woven-requires
 unfolding holes taken sizes
-fit-woven-requires c κs = search needs
+fit-woven-requires c κs = search (c .before .before .before .before .before .before .before .before .before .before .before .before .before .before .pre, needs)
 
 same-length : tie.Need-same-length
 same-length c = search needs
@@ -54,7 +54,7 @@ returns c =
     let id = family .before in
     let asked = id .before .before .before .before .pre in
     let wrote = c .before .before .fit-woven .ensures in
-    (patient-plain _ _ _ _ _ _ _ _ _ (kanafamily .value-at4 .result) _ _ (asked .1) (id .value-at .ensures .0) (family .value-at2 .ensures .0) (given .value-at3 .ensures .0) (kanafamily .value-at4 .ensures .0) (birth .value-at6 .ensures .0) (sex .value-at7 .ensures .0) (test .if1 .taken) (wrote .0), wrote .1)
+    (patient-plain _ _ _ _ _ _ _ _ _ (kanafamily .value-at4 .result) _ _ (asked .2) (id .value-at .ensures .0) (family .value-at2 .ensures .0) (given .value-at3 .ensures .0) (kanafamily .value-at4 .ensures .0) (birth .value-at6 .ensures .0) (sex .value-at7 .ensures .0) (test .if1 .taken) (wrote .0), wrote .1)
 
 slice-aggregate-fit-woven-3 : tie.Need-slice-aggregate-fit-woven-3
 slice-aggregate-fit-woven-3 c = search needs
@@ -64,7 +64,7 @@ slice-aggregate-fit-woven-4 c = search needs
 
 fit-woven-requires-2 : tie.Need-fit-woven-requires-2
 unfolding holes taken sizes
-fit-woven-requires-2 c κs = search needs
+fit-woven-requires-2 c κs = search (c .before .before .before .before .before .before .before .before .before .before .before .before .before .before .pre, needs)
 
 same-length-2 : tie.Need-same-length-2
 same-length-2 c = search needs
@@ -81,7 +81,7 @@ returns-2 c =
     let id = family .before in
     let asked = id .before .before .before .before .pre in
     let wrote = c .before .before .fit-woven2 .ensures in
-    (patient-kana _ _ _ _ _ _ _ _ _ _ _ _ _ (asked .1) (id .value-at .ensures .0) (family .value-at2 .ensures .0) (given .value-at3 .ensures .0) (kanafamily .value-at4 .ensures .0) (kanagiven .value-at5 .ensures .0) (birth .value-at6 .ensures .0) (sex .value-at7 .ensures .0) (test .if1 .left) (wrote .0), wrote .1)
+    (patient-kana _ _ _ _ _ _ _ _ _ _ _ _ _ (asked .2) (id .value-at .ensures .0) (family .value-at2 .ensures .0) (given .value-at3 .ensures .0) (kanafamily .value-at4 .ensures .0) (kanagiven .value-at5 .ensures .0) (birth .value-at6 .ensures .0) (sex .value-at7 .ensures .0) (test .if1 .left) (wrote .0), wrote .1)
 
 pub patient-spec : {M : Type 1} → statement M
 patient-spec =

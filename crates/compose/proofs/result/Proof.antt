@@ -33,19 +33,19 @@ value-at-requires-8 : tie.Need-value-at-requires-8
 value-at-requires-8 c κs = search needs
 
 value-at-requires-9 : tie.Need-value-at-requires-9
-value-at-requires-9 c κs = search needs
+value-at-requires-9 c κs = (c .before .before .before .before .before .before .before .before .before .before .before .pre .1, omega arith)
 
 value-at-requires-10 : tie.Need-value-at-requires-10
-value-at-requires-10 c κs = search needs
+value-at-requires-10 c κs = (c .before .before .before .before .before .before .before .before .before .before .before .before .pre .1, omega arith)
 
 slice-aggregate-put-number : tie.Need-slice-aggregate-put-number
 slice-aggregate-put-number c = search needs
 
 add-put-number : tie.Need-add-put-number
-add-put-number c = omega (arith, c .before .before .before .before .before .before .before .before .before .before .before .before .before .before .pre .2)
+add-put-number c = omega (arith, c .before .before .before .before .before .before .before .before .before .before .before .before .before .before .pre .3)
 
 put-number-requires : tie.Need-put-number-requires
-put-number-requires c κs = number-short _ (c .before .before .before .before .before .before .before .before .before .before .before .before .before .before .pre .2)
+put-number-requires c κs = number-short _ (c .before .before .before .before .before .before .before .before .before .before .before .before .before .before .pre .3)
 
 array-share-prefix-digits : tie.Need-array-share-prefix-digits
 array-share-prefix-digits c = front-within _ _ _ _ (c .before .before .put-number .ensures)
@@ -66,8 +66,8 @@ put-result-requires c κs =
     let name = type .before in
     let item = name .before in
     let asked = item .before .before .before .before .pre in (
-      asked .1,
-      number-size _ _ _ _ (c .before .before .before .put-number .ensures) (asked .2),
+      asked .2,
+      number-size _ _ _ _ (c .before .before .before .put-number .ensures) (asked .3),
       omega (arith, item .value-at .ensures .1, asked .0),
       omega (arith, name .value-at2 .ensures .1, asked .0),
       omega (arith, type .value-at3 .ensures .1, asked .0),

@@ -21,7 +21,7 @@ add-put-number : tie.Need-add-put-number
 add-put-number c = search needs
 
 put-number-requires : tie.Need-put-number-requires
-put-number-requires c κs = number-short _ (c .before .before .before .before .before .before .pre .2)
+put-number-requires c κs = number-short _ (c .before .before .before .before .before .before .pre .3)
 
 array-share-prefix-digits : tie.Need-array-share-prefix-digits
 array-share-prefix-digits c = front-within _ _ _ _ (c .before .before .put-number .ensures)
@@ -34,7 +34,7 @@ put-specimen-requires c κs =
     let collected = c .before .before .before .before .before in
     let kind = collected .before in
     let asked = kind .before .before .before .before .pre in
-    (asked .1, number-size _ _ _ _ (c .before .before .before .put-number .ensures) (asked .2), omega (arith, kind .value-at .ensures .1, asked .0), omega (arith, collected .value-at2 .ensures .1, asked .0))
+    (asked .2, number-size _ _ _ _ (c .before .before .before .put-number .ensures) (asked .3), omega (arith, kind .value-at .ensures .1, asked .0), omega (arith, collected .value-at2 .ensures .1, asked .0))
 
 same-length : tie.Need-same-length
 same-length c = search needs
