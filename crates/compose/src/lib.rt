@@ -1,5 +1,5 @@
-// Sheet to message. One pass over the sheet's groups judges them and measures the message; a second writes it, each group into what
-// remains of the lent buffer.
+// Sheet to message. One pass over the sheet's groups judges them, measures the message and writes it, each group into what remains of
+// the lent buffer.
 use lines::Verdict;
 use rules::Delims;
 use rules::Kind;

@@ -1,131 +1,90 @@
 -- What the call tells and leaves, case by case. Assumes nothing.
 use mathlib.Core.Path.{_≡_, refl, sym, ap, _∙_}
-use mathlib.Core.Bool.{Bool, true, false, cond, not, _&&_, _||_}
+use mathlib.Core.Bool.{Bool, true, false, not, _||_}
 use mathlib.Core.List.{List, [], _∷_}
-use Prim.Native.Nat.{ℕ, zero, suc, _+_, _-_, _≤_, _<_}
+use Prim.Native.Nat.{ℕ, suc, _-_, _≤_, _<_}
 use native.Mathlib.Omega.{arith}
 use borrow.Author.Tests.{lt-ltb, le-ltb, ltb-false}
 use lib.Dec.{eqb, ltb}
-use lib.ListN.{length, getD}
+use lib.ListN.{length, take, getD}
+use lib.Seq.{length-take-le}
 use Rattle.rules.specs.declared.Delims.{Delims}
 use Rattle.rules.specs.declared.Kind.the-variants.{SheetTooLong, SheetBytes, Overflow, Room}
 use Rattle.rules.specs.declared.Refusal.{Refusal}
 use Rattle.rules.specs.declared.Written.{Written}
 use Rattle.rules.specs.declared.Written.the-variants.{Wrote, NotWritten}
-use Rattle.rules.specs.Told as T
-use Rattle.rules.specs.Told.{Told, gives, refused, refusal, toldLength, lengthOf, Call, _>>=_}
+use Rattle.rules.specs.Told.{Told, gives, refused, refusal, over, toldLength, lengthOf, Call, _>>=_}
 use Rattle.rules.specs.Lists.{empty, split, onto, last}
 use Rattle.rules.specs.Shift.{keeps}
 use Rattle.rules.specs.Row.{Row}
 use Rattle.rules.specs.Sheet.{readSheet}
 use Rattle.rules.specs.Message.{base, written, messageOf, messageTold, toMessage}
-use Rattle.rules.proofs.Logic.{cases, not-true, not-false, not-given, toldCases, guard}
+use Rattle.rules.proofs.Logic.{cases, not-true, not-false, not-given, neither, toldCases, guard}
 use Rattle.rules.proofs.Split.{split-here, split-there, split-cons, front, later, last-split}
 use Rattle.writer.specs.Over as Over
+use Rattle.writer.proofs.Laws.{front as begins}
 use Rattle.compose.specs.declared.Size.{Size}
 use Rattle.compose.specs.declared.Passed.{Passed}
 use Rattle.compose.specs.declared.Passed.the-variants.{All, Not}
-use Rattle.compose.specs.Compose.{refusalAt, toldSize, sizeOf, rowsIn, Pass}
+use Rattle.compose.specs.Compose.{refusalAt, sizeOf, rowsIn, Pass}
+use Rattle.to_message.specs.Call.{madeTold}
 
 composed-as : {t u : Told (List ℕ)} {x : List ℕ} {r : Written} {y : List ℕ} → t ≡ u → Call u x r y → Call t x r y
 composed-as e p = rw e p
 
-over-is : (w x : List ℕ) → Over.over w x ≡ T.over (gives w) x
-unfolding Over.over
-over-is w x = refl
+-- a refusal leaves the buffer as it was
+kept : (x : List ℕ) (k : Refusal) → Call (refusal k) x (NotWritten k) x
+kept x k = record { told = refl; buffer = refl }
 
--- a refusal of any answer
-abbrev cross : Told Size → Told (List ℕ)
-cross (gives n) = gives []
-cross (refused n a b) = refused n a b
+-- ---- 44, 45, and the message of this size that was made
+module _ (size : Size) (made : List ℕ) (h : (ltb 32768 (size .bytes) || ltb 512 (size .segments)) ≡ false) (m : length made ≡ 32768) where
+  pub made-length : size .bytes ≡ length (take (size .bytes) made)
+  made-length = sym (length-take-le (size .bytes) made (omega (arith, ltb-false 32768 (size .bytes) (neither _ _ h .0))))
 
-refuses : (t : Told (List ℕ)) (x : List ℕ) (k : Refusal) → t ≡ refusal k → Call t x (NotWritten k) x
-refuses t x k e = composed-as e (record { told = refl; buffer = refl })
+  pub lent-room : (x : List ℕ) → size .bytes ≤ length x → length (take (size .bytes) made) ≤ length x
+  lent-room x l = rw (← made-length) l
 
--- ---- 44, 45, and the message
-module _ (d : Delims) (rows : List Row) (room : ℕ) where
-  abbrev many : Bool
-  many = ltb 32768 (length (messageOf d rows)) || ltb 512 (length (written d rows))
+  pub write-all : (x : List ℕ) → size .bytes ≤ length x → (n : ℕ) (y : List ℕ) → Over.Wrote n y (take (size .bytes) made) x
+      → Call (madeTold size made (length x)) x (Wrote (size .bytes)) y
+  unfolding madeTold Over.over
+  write-all x l n y p =
+      composed-as {u = gives (take (size .bytes) made)} (rw (h, le-ltb (length x) (size .bytes) l)) (record { told = ap gives made-length; buffer = p .is })
 
-  told-44 : many ≡ true → messageTold d rows room ≡ refused 44 0 0
-  unfolding messageTold
-  told-44 h = rw h
+module _ (size : Size) (made x : List ℕ) (k : Refusal) where
+  pub write-44 : (ltb 32768 (size .bytes) || ltb 512 (size .segments)) ≡ true → k ≡ refusalAt Overflow 0 → Call (madeTold size made (length x)) x (NotWritten k) x
+  unfolding madeTold
+  write-44 h f = composed-as {u = refusal k} (rw h (ap refusal (sym f))) (kept x k)
 
-  told-45 : many ≡ false → room < length (messageOf d rows) → messageTold d rows room ≡ refused 45 0 0
-  unfolding messageTold
-  told-45 h l = rw (h, lt-ltb room (length (messageOf d rows)) l)
+  pub write-45 : (ltb 32768 (size .bytes) || ltb 512 (size .segments)) ≡ false → length x < size .bytes → k ≡ refusalAt Room 0 → Call (madeTold size made (length x)) x (NotWritten k) x
+  unfolding madeTold
+  write-45 h l f = composed-as {u = refusal k} (rw (h, lt-ltb (length x) (size .bytes) l) (ap refusal (sym f))) (kept x k)
 
-  told-all : many ≡ false → length (messageOf d rows) ≤ room → messageTold d rows room ≡ gives (messageOf d rows)
-  unfolding messageTold
-  told-all h l = rw (h, le-ltb room (length (messageOf d rows)) l)
+-- ---- the pass over the sheet's groups: p is what it tells, and made what it leaves of the room z
+made-is : (d : Delims) (rows : List Row) (z made : List ℕ) (room : ℕ) → length z ≡ 32768 → (length (messageOf d rows) ≤ length z → made ≡ Over.over (messageOf d rows) z)
+    → messageTold d rows room ≡ madeTold (sizeOf d rows) made room
+unfolding messageTold madeTold
+made-is d rows z made room m w =
+    cases (ltb 32768 (length (messageOf d rows)) || ltb 512 (length (written d rows)))
+    (λ e. rw e)
+    (λ e. let l : length (messageOf d rows) ≤ length z = omega (arith, ltb-false 32768 (length (messageOf d rows)) (neither _ _ e .0)) in
+    let p : Over.Wrote (length (messageOf d rows)) made (messageOf d rows) z = record { ends = refl; is = w l } in
+    rw (e, begins p))
 
-module _ (d : Delims) (s x : List ℕ) (size : Size) (g : gives size ≡ (rowsIn s >>= λ rows. gives (sizeOf d rows))) where
-  abbrev whole : Told (List ℕ)
-  whole = rowsIn s >>= λ rows. messageTold d rows (length x)
+module _ (d : Delims) (s z : List ℕ) (p : Passed) (made : List ℕ) (t : Pass d s z p made) (room : ℕ) where
+  pass-refused : (k : Refusal) → p ≡ Not k → (rowsIn s >>= λ rows. messageTold d rows room) ≡ refusal k
+  pass-refused k f = toldCases (rowsIn s) (λ rows e. not-given (rw (f, e) at (t .told))) (λ n a b e. rw e (same n a b (rw (f, e) at (t .told))))
+    where
+      same : (n a b : ℕ) → _≡_ {A = Told Size} (refusal k) (refused n a b) → _≡_ {A = Told (List ℕ)} (refused n a b) (refusal k)
+      same n a b h = cc
 
-  -- the rows that it is the size of
-  sized : {P : Type 0} → ((rows : List Row) → rowsIn s ≡ gives rows → size ≡ sizeOf d rows → P) → P
-  sized f = toldCases (rowsIn s) (λ rows e. f rows e (same rows (rw e at g))) (λ n a b e. other n a b (rw e at g))
+  pass-all : (size : Size) → p ≡ All size → length z ≡ 32768 → (rowsIn s >>= λ rows. messageTold d rows room) ≡ madeTold size made room
+  pass-all size f m =
+      toldCases (rowsIn s)
+      (λ rows e. rw (e, same rows (rw (f, e) at (t .told))) (made-is d rows z made room m (t .wrote rows e)))
+      (λ n a b e. not-given (sym (rw (f, e) at (t .told))))
     where
       same : (rows : List Row) → gives size ≡ gives (sizeOf d rows) → size ≡ sizeOf d rows
       same rows h = cc
-
-      other : {P : Type 0} (n a b : ℕ) → gives size ≡ refused n a b → P
-      other n a b h = absurd (let z : _≡_ {A = ℕ} 0 1 = cc in omega arith)
-
-  pub write-44 : (k : Refusal) → (ltb 32768 (size .bytes) || ltb 512 (size .segments)) ≡ true → k ≡ refusalAt Overflow 0 → Call whole x (NotWritten k) x
-  write-44 k h f =
-      sized (λ rows e q.
-      refuses whole x k (ap (λ (t : Told (List Row)). t >>= λ r. messageTold d r (length x)) e ∙ told-44 d rows (length x) (rw q at h) ∙ ap refusal (sym f)))
-
-  pub write-45 : (k : Refusal) → (ltb 32768 (size .bytes) || ltb 512 (size .segments)) ≡ false → length x < size .bytes → k ≡ refusalAt Room 0 → Call whole x (NotWritten k) x
-  write-45 k h l f =
-      sized (λ rows e q.
-      refuses whole x k (ap (λ (t : Told (List Row)). t >>= λ r. messageTold d r (length x)) e ∙ told-45 d rows (length x) (rw q at h) (rw q at l) ∙ ap refusal (sym f)))
-
-  pub write-all : (ltb 32768 (size .bytes) || ltb 512 (size .segments)) ≡ false → size .bytes ≤ length x → (r : Passed) (y : List ℕ) → Pass d s x r y → Call whole x (Wrote (size .bytes)) y
-  write-all h l r y p =
-      sized (λ rows e q.
-      let t : whole ≡ gives (messageOf d rows) = ap (λ (t : Told (List Row)). t >>= λ r. messageTold d r (length x)) e ∙ told-all d rows (length x) (rw q at h) (rw q at l) in
-      let w : y ≡ Over.over (messageOf d rows) x = p .wrote rows e (rw q at l) in
-      composed-as t (record { told = ap (λ (z : Size). gives (z .bytes)) q; buffer = w ∙ over-is (messageOf d rows) x }))
-
--- ---- 40, 41
-module _ (s x : List ℕ) where
-  abbrev asked : Told (List ℕ)
-  asked = toMessage s (length x)
-
-  pub call-40 : (k : Refusal) → 65536 < length s → k ≡ refusalAt SheetTooLong 0 → Call asked x (NotWritten k) x
-  unfolding toMessage readSheet
-  call-40 k l f = refuses asked x k (rw (lt-ltb 65536 (length s) l) (ap refusal (sym f)))
-
-  module _ (l : length s ≤ 65536) (q : Bool) (e : q ≡ keeps 0x0A s) where
-    pub call-41 : (k : Refusal) → not q ≡ true → k ≡ refusalAt SheetBytes 0 → Call asked x (NotWritten k) x
-    unfolding toMessage readSheet
-    call-41 k h f = refuses asked x k (rw (le-ltb 65536 (length s) l, ← e, not-true q h) (ap refusal (sym f)))
-
-    module _ (h : not q ≡ false) (u : Bool) (g : u ≡ empty (last (split 0x0A s))) where
-      pub call-41-end : (k : Refusal) → not u ≡ true → k ≡ refusalAt SheetBytes 0 → Call asked x (NotWritten k) x
-      unfolding toMessage readSheet
-      call-41-end k w f = refuses asked x k (rw (le-ltb 65536 (length s) l, ← e, not-false q h, ← g, not-true u w) (ap refusal (sym f)))
-
-      call-on : not u ≡ false → asked ≡ (rowsIn s >>= λ rows. messageTold base rows (length x))
-      unfolding toMessage readSheet
-      call-on w = rw (le-ltb 65536 (length s) l, ← e, not-false q h, ← g, not-false u w)
-
-      module _ (w : not u ≡ false) (d : Delims) (b : d ≡ base) where
-        pub call-all : (r : Written) (y : List ℕ) → Call (rowsIn s >>= λ rows. messageTold d rows (length x)) x r y → Call asked x r y
-        call-all r y c = composed-as (call-on w) (rw b at c)
-
-        module _ (p : Passed) (t : toldSize p ≡ (rowsIn s >>= λ rows. gives (sizeOf d rows))) where
-          pub call-size : (size : Size) → p ≡ All size → gives size ≡ (rowsIn s >>= λ rows. gives (sizeOf d rows))
-          call-size size f = rw f at t
-
-          pub call-refused : (k : Refusal) → p ≡ Not k → Call asked x (NotWritten k) x
-          call-refused k f = refuses asked x k (call-on w ∙ toldCases (rowsIn s) (λ rows e. both-ways rows e) (λ n a c e. rw e (sym (ap cross (rw (f, e) at t)))))
-            where
-              both-ways : (rows : List Row) → rowsIn s ≡ gives rows → (rowsIn s >>= λ rows. messageTold base rows (length x)) ≡ refusal k
-              both-ways rows e = let z : toldSize (Not k) ≡ gives (sizeOf d rows) = rw (f, e) at t in absurd (let o : _≡_ {A = ℕ} 0 1 = cc in omega arith)
 
 -- ---- what is written has room
 has-room : (d : Delims) (rows : List Row) (room : ℕ) (m : List ℕ) → messageTold d rows room ≡ gives m → length m ≤ room
@@ -136,7 +95,7 @@ has-room d rows room m h =
     let e : messageOf d rows ≡ m = cc (k .1) in
     rw (← e) (ltb-false room (length (messageOf d rows)) (k .0))
 
-pub within : (s : List ℕ) (room : ℕ) (r : Written) → toldLength r ≡ lengthOf (toMessage s room) → (n : ℕ) → r ≡ Wrote n → n ≤ room
+within : (s : List ℕ) (room : ℕ) (r : Written) → toldLength r ≡ lengthOf (toMessage s room) → (n : ℕ) → r ≡ Wrote n → n ≤ room
 unfolding toMessage
 within s room r t n f =
     toldCases (readSheet s)
@@ -144,6 +103,43 @@ within s room r t n f =
     (λ m g. let h : n ≡ length m = cc (t, f, e, g) in rw h (has-room base rows room m g))
     (λ k a b g. absurd (let o : _≡_ {A = ℕ} 0 1 = cc (t, f, e, g) in omega arith)))
     (λ k a b e. absurd (let o : _≡_ {A = ℕ} 0 1 = cc (t, f, e) in omega arith))
+
+-- ---- the call: what it promises of the sheet s and a buffer that held x, where it answers r and leaves y
+abbrev Promise : List ℕ → List ℕ → Written → List ℕ → Type 0
+Promise s x r y =
+    (toldLength r ≡ lengthOf (toMessage s (length x))) × ((y ≡ over (toMessage s (length x)) x) × ((n : ℕ) → r ≡ Wrote n → n ≤ length x))
+
+pub answers : (s : List ℕ) {x : List ℕ} {t : Told (List ℕ)} {r : Written} {y : List ℕ} → Call t x r y → toMessage s (length x) ≡ t → Promise s x r y
+answers s {x} {t} {r} c e = let q : Call (toMessage s (length x)) x r _ = composed-as e c in (q .told, (q .buffer, within s (length x) r (q .told)))
+
+pub refuses : (s : List ℕ) {x : List ℕ} {k : Refusal} → toMessage s (length x) ≡ refusal k → Promise s x (NotWritten k) x
+refuses s {x} {k} e = answers s (kept x k) e
+
+module _ (s : List ℕ) (room : ℕ) where
+  pub call-40 : (k : Refusal) → 65536 < length s → k ≡ refusalAt SheetTooLong 0 → toMessage s room ≡ refusal k
+  unfolding toMessage readSheet
+  call-40 k l f = rw (lt-ltb 65536 (length s) l) (ap refusal (sym f))
+
+  module _ (l : length s ≤ 65536) (q : Bool) (e : q ≡ keeps 0x0A s) where
+    pub call-41 : (k : Refusal) → not q ≡ true → k ≡ refusalAt SheetBytes 0 → toMessage s room ≡ refusal k
+    unfolding toMessage readSheet
+    call-41 k h f = rw (le-ltb 65536 (length s) l, ← e, not-true q h) (ap refusal (sym f))
+
+    module _ (h : not q ≡ false) (u : Bool) (g : u ≡ empty (last (split 0x0A s))) where
+      pub call-41-end : (k : Refusal) → not u ≡ true → k ≡ refusalAt SheetBytes 0 → toMessage s room ≡ refusal k
+      unfolding toMessage readSheet
+      call-41-end k w f = rw (le-ltb 65536 (length s) l, ← e, not-false q h, ← g, not-true u w) (ap refusal (sym f))
+
+      module _ (w : not u ≡ false) (d : Delims) (b : d ≡ base) (z : List ℕ) (p : Passed) (made : List ℕ) (t : Pass d s z p made) where
+        call-on : toMessage s room ≡ (rowsIn s >>= λ rows. messageTold d rows room)
+        unfolding toMessage readSheet
+        call-on = rw (le-ltb 65536 (length s) l, ← e, not-false q h, ← g, not-false u w, b)
+
+        pub call-refused : (k : Refusal) → p ≡ Not k → toMessage s room ≡ refusal k
+        call-refused k f = call-on ∙ pass-refused d s z p made t room k f
+
+        pub call-all : (size : Size) → p ≡ All size → length z ≡ 32768 → toMessage s room ≡ madeTold size made room
+        call-all size f m = call-on ∙ pass-all d s z p made t room size f m
 
 -- ---- the end of a sheet
 last-more : (x y : ℕ) (p q : List ℕ) (ps : List (List ℕ)) → empty (last ((x ∷ p) ∷ ps)) ≡ empty (last ((y ∷ q) ∷ ps))

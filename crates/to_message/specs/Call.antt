@@ -1,15 +1,15 @@
--- The message of a sheet's lines, and its size.
+-- What is told of a message that was made where there is room for any.
+use mathlib.Core.Bool.{_||_}
 use mathlib.Core.List.{List}
 use Prim.Native.Nat.{ℕ}
-use Rattle.rules.specs.declared.Delims.{Delims}
-use Rattle.rules.specs.Told.{Told, gives, _>>=_}
-use Rattle.rules.specs.Message.{messageTold}
+use lib.Dec.{ltb}
+use lib.ListN.{take}
+use Rattle.rules.specs.Told.{Told, gives, refuse_if_else_}
 use Rattle.compose.specs.declared.Size.{Size}
-use Rattle.compose.specs.Compose.{sizeOf, rowsIn}
 
--- the size of the message that the lines of the sheet s make, and the message for a buffer of this room; or the sheet's refusal
-abbrev pub sizeIn : Delims → List ℕ → Told Size
-sizeIn d s = rowsIn s >>= λ rows. gives (sizeOf d rows)
-
-abbrev pub messageIn : Delims → List ℕ → ℕ → Told (List ℕ)
-messageIn d s room = rowsIn s >>= λ rows. messageTold d rows room
+-- 44, or 45 for a buffer of this room, or the message of this size that x begins with
+unfoldable pub madeTold : Size → List ℕ → ℕ → Told (List ℕ)
+madeTold size x room =
+    refuse 44 if ltb 32768 (size .bytes) || ltb 512 (size .segments) else
+    refuse 45 if ltb room (size .bytes) else
+    gives (take (size .bytes) x)

@@ -1,4 +1,4 @@
-use Rattle.to_message.proofs.Calling.{call-40, call-41, call-41-end, call-refused, call-size, call-all, within}
+use Rattle.to_message.proofs.Calling.{call-40, call-41, call-41-end, call-refused, call-all, refuses, answers}
 use borrow.Author.Needs.{needs}
 use Rattle.to_message.proofs.to_message.Statement.{statement}
 use Rattle.to_message.proofs.to_message.Tie as tie
@@ -7,7 +7,7 @@ refused-requires : tie.Need-refused-requires
 refused-requires c κs = search needs
 
 returns : tie.Need-returns
-returns c = let q = call-40 (c .before .before .before .before .args .sheet .now) (c .before .before .before .before .args .out .now) _ (c .before .if1 .taken) (c .refused .ensures) in (q .told, (q .buffer, within _ _ _ (q .told)))
+returns c = refuses _ (search (call-40, needs))
 
 keeps-requires : tie.Need-keeps-requires
 keeps-requires c κs = search needs
@@ -16,7 +16,7 @@ refused-requires-2 : tie.Need-refused-requires-2
 refused-requires-2 c κs = search needs
 
 returns-2 : tie.Need-returns-2
-returns-2 c = let q = call-41 (c .before .before .before .before .before .before .args .sheet .now) (c .before .before .before .before .before .before .args .out .now) (c .before .before .before .if1 .left) _ (c .before .before .keeps .ensures) _ (c .before .if2 .taken) (c .refused2 .ensures) in (q .told, (q .buffer, within _ _ _ (q .told)))
+returns-2 c = refuses _ (search (call-41, needs))
 
 ends-requires : tie.Need-ends-requires
 ends-requires c κs = search needs
@@ -25,10 +25,13 @@ refused-requires-3 : tie.Need-refused-requires-3
 refused-requires-3 c κs = search needs
 
 returns-3 : tie.Need-returns-3
-returns-3 c = let q = call-41-end (c .before .before .before .before .before .before .before .before .args .sheet .now) (c .before .before .before .before .before .before .before .before .args .out .now) (c .before .before .before .before .before .if1 .left) _ (c .before .before .before .before .keeps .ensures) (c .before .before .before .if2 .left) _ (c .before .before .ends .ensures) _ (c .before .if3 .taken) (c .refused3 .ensures) in (q .told, (q .buffer, within _ _ _ (q .told)))
+returns-3 c = refuses _ (search (call-41-end, needs))
 
 delimiters-requires : tie.Need-delimiters-requires
 delimiters-requires c κs = search needs
+
+room-requires : tie.Need-room-requires
+room-requires c κs = search needs
 
 slice-aggregate-pass : tie.Need-slice-aggregate-pass
 slice-aggregate-pass c = search needs
@@ -42,17 +45,20 @@ enum-known-r c = search needs
 enum-known-size : tie.Need-enum-known-size
 enum-known-size c = search needs
 
+slice-aggregate-write : tie.Need-slice-aggregate-write
+slice-aggregate-write c = search needs
+
 write-requires : tie.Need-write-requires
-write-requires c κs = (c .before .before .before .before .before .before .before .before .before .before .before .before .if1 .left, call-size (c .before .before .before .before .before .before .before .before .before .before .before .before .before .before .before .args .sheet .now) (c .before .before .before .before .before .before .before .before .before .before .before .before .before .before .before .args .out .now) (c .before .before .before .before .before .before .before .before .before .before .before .before .if1 .left) _ (c .before .before .before .before .before .before .before .before .before .before .before .keeps .ensures) (c .before .before .before .before .before .before .before .before .before .before .if2 .left) _ (c .before .before .before .before .before .before .before .before .before .ends .ensures) (c .before .before .before .before .before .before .before .before .if3 .left) _ (c .before .before .before .before .before .before .before .delimiters .ensures) _ (c .before .before .before .before .before .pass .ensures .told) _ (c .before .before .size .given .1))
+write-requires c κs = search needs
 
 returns-4 : tie.Need-returns-4
-returns-4 c = let q = call-refused (c .before .before .before .before .before .before .before .before .before .before .before .before .before .before .args .sheet .now) (c .before .before .before .before .before .before .before .before .before .before .before .before .before .before .args .out .now) (c .before .before .before .before .before .before .before .before .before .before .before .if1 .left) _ (c .before .before .before .before .before .before .before .before .before .before .keeps .ensures) (c .before .before .before .before .before .before .before .before .before .if2 .left) _ (c .before .before .before .before .before .before .before .before .ends .ensures) (c .before .before .before .before .before .before .before .if3 .left) _ (c .before .before .before .before .before .before .delimiters .ensures) _ (c .before .before .before .before .pass .ensures .told) _ (c .before .r .given .1) in (q .told, (q .buffer, within _ _ _ (q .told)))
+returns-4 c = refuses _ (search (call-refused, needs))
 
 same-length : tie.Need-same-length
 same-length c = search needs
 
 returns-5 : tie.Need-returns-5
-returns-5 c = let q = call-all (c .before .before .before .before .before .before .before .before .before .before .before .before .before .before .before .before .before .before .args .sheet .now) (c .before .before .before .before .before .before .before .before .before .before .before .before .before .before .before .before .before .before .args .out .now) (c .before .before .before .before .before .before .before .before .before .before .before .before .before .before .before .if1 .left) _ (c .before .before .before .before .before .before .before .before .before .before .before .before .before .before .keeps .ensures) (c .before .before .before .before .before .before .before .before .before .before .before .before .before .if2 .left) _ (c .before .before .before .before .before .before .before .before .before .before .before .before .ends .ensures) (c .before .before .before .before .before .before .before .before .before .before .before .if3 .left) _ (c .before .before .before .before .before .before .before .before .before .before .delimiters .ensures) _ _ (c .before .before .write .ensures) in (q .told, (q .buffer, within _ _ _ (q .told)))
+returns-5 c = answers _ (c .before .before .write .ensures) (search (call-all, needs))
 
 pub to-message-spec : {M : Type 1} → statement M
 to-message-spec =
@@ -67,10 +73,12 @@ to-message-spec =
     refused-requires-3
     returns-3
     delimiters-requires
+    room-requires
     slice-aggregate-pass
     pass-requires
     enum-known-r
     enum-known-size
+    slice-aggregate-write
     write-requires
     returns-4
     same-length

@@ -1,4 +1,4 @@
-use Rattle.to_message.proofs.Calling.{write-44, write-45, write-all}
+use Rattle.to_message.proofs.Calling.{write-44, write-45, made-length, lent-room, write-all}
 use borrow.Author.Needs.{needs}
 use Rattle.to_message.proofs.write.Statement.{statement}
 use Rattle.to_message.proofs.write.Tie as tie
@@ -7,22 +7,25 @@ refused-requires : tie.Need-refused-requires
 refused-requires c κs = search needs
 
 returns : tie.Need-returns
-returns c = let start = c .before .before .before .before in search (write-44 (start .args .d) (start .args .sheet .now) (start .args .out .now) (start .args .size) (start .pre .1), needs)
+returns c = search (write-44, needs)
 
 refused-requires-2 : tie.Need-refused-requires-2
 refused-requires-2 c κs = search needs
 
 returns-2 : tie.Need-returns-2
-returns-2 c = let start = c .before .before .before .before .before in search (write-45 (start .args .d) (start .args .sheet .now) (start .args .out .now) (start .args .size) (start .pre .1), needs)
+returns-2 c = search (write-45, needs)
 
-pass-requires : tie.Need-pass-requires
-pass-requires c κs = search needs
+slice-aggregate-put : tie.Need-slice-aggregate-put
+slice-aggregate-put c = search (made-length, needs)
+
+put-requires : tie.Need-put-requires
+put-requires c κs = search (lent-room, needs)
 
 same-length : tie.Need-same-length
 same-length c = search needs
 
 returns-3 : tie.Need-returns-3
-returns-3 c = let start = c .before .before .before .before .before .before .before .before in search (write-all (start .args .d) (start .args .sheet .now) (start .args .out .now) (start .args .size) (start .pre .1), needs)
+returns-3 c = search (write-all, needs)
 
 pub write-spec : {M : Type 1} → statement M
 write-spec =
@@ -32,6 +35,7 @@ write-spec =
     returns
     refused-requires-2
     returns-2
-    pass-requires
+    slice-aggregate-put
+    put-requires
     same-length
     returns-3)
