@@ -140,7 +140,7 @@ pub fn escaped_len(text: &[u8], d: Delims) -> usize
     n
 }
 
-// A text, with the delimiters of its one-byte stretches escaped.
+// A text, with the delimiters of its one-byte stretches escaped; a run of two-byte units is copied as it stands.
 pub fn put_escaped(out: &mut [u8], text: &[u8], d: Delims) -> usize
     requires { ⌜ length (escape d (now text)) ≤ length (now out) ⌝ }
     ensures { λ r. ⌜ Wrote r (now (out .exit)) (escape d (now (text .entry))) (now (out .entry)) ⌝ }
@@ -153,6 +153,9 @@ pub fn put_escaped(out: &mut [u8], text: &[u8], d: Delims) -> usize
         at = put_unit(out, at, mode, b, d);
         mode = scan::step(mode, b, 0x0D);
         i += 1;
+        let to = scan::units(text, i, mode);
+        at = put_at(out, at, &text[i..to]);
+        i = to;
     }
     at
 }
