@@ -64,7 +64,7 @@ module _ (d : Delims) (ok : delimsOk d ≡ true) (rows : List Row) (v : valid Ot
       omega arith
 
   shorts : Short d (pieces d 0 0 rows)
-  shorts = short d (proper d ok) Other 0 0 rows v t (omega (arith, few)) (omega (arith, few))
+  shorts = short d (proper d ok) Other 0 0 rows v (omega (arith, few)) (omega (arith, few))
 
   segments-is : segments (messageOf d rows) ≡ written d rows
   unfolding messageOf written

@@ -23,13 +23,12 @@ use Rattle.rules.specs.Message.{composed, blanks, encoding, decimal, nameText, 
 use Rattle.rules.proofs.Logic.{cases, both}
 use Rattle.rules.proofs.Lists.{empty-is, one-of}
 use Rattle.rules.proofs.Header.{Proper}
-use Rattle.rules.proofs.Clean.{Clean, Cleans}
 use Rattle.rules.proofs.Measures.{total, join-total, tens, decimal-few}
 use Rattle.rules.proofs.Escaped.{plainByte, word, escaped-length}
 use Rattle.rules.proofs.Plain.{bytewise, number-plain, digits-plain, capitals-plain}
 use Rattle.returns.proofs.Groups.{Facts, facts, meets-rule}
 use Rattle.returns.proofs.Segments.{pieceAt}
-use Rattle.returns.proofs.Messages.{first, Tidy}
+use Rattle.returns.proofs.Messages.{first}
 
 -- ---- a value of the rule is written with at most n bytes
 unfoldable atMost : ℕ → Rule → Bool
@@ -53,25 +52,25 @@ module _ (d : Delims) (p : Proper d) where
   digitly : (n k : ℕ) (v : List ℕ) → leb k n ≡ true → digitsOk k v ≡ true → length (escape d v) ≤ n
   digitly n k v a h = plainly n k v a (omega (arith, eqb-true (length v) k (both (eqb (length v) k) _ h .0))) (digits-plain k v h)
 
-  filled-sized : (n : ℕ) (r : Rule) (v : List ℕ) → atMost n r ≡ true → Clean v → tooLong r v ≡ false → holds r v ≡ true → length (escape d v) ≤ n
+  filled-sized : (n : ℕ) (r : Rule) (v : List ℕ) → atMost n r ≡ true → tooLong r v ≡ false → holds r v ≡ true → length (escape d v) ≤ n
   unfolding atMost tooLong holds
-  filled-sized n time v a c t h = digitly n 14 v a (both (digitsOk 14 v) (dayOk v) (both (digitsOk 14 v && dayOk v) (clockOk v) h .0) .0)
-  filled-sized n date v a c t h = digitly n 8 v a (both (digitsOk 8 v) (dayOk v) h .0)
-  filled-sized n number v a c t h = plainly n 16 v a (ltb-false 16 (length v) t) (number-plain v h)
-  filled-sized n (text k) v a c t h = omega (arith, leb-true (3 * k) n a, escaped-length d p v c, ltb-false k (length v) t)
-  filled-sized n (digits k) v a c t h = digitly n k v a h
-  filled-sized n (capitals k) v a c t h =
+  filled-sized n time v a t h = digitly n 14 v a (both (digitsOk 14 v) (dayOk v) (both (digitsOk 14 v && dayOk v) (clockOk v) h .0) .0)
+  filled-sized n date v a t h = digitly n 8 v a (both (digitsOk 8 v) (dayOk v) h .0)
+  filled-sized n number v a t h = plainly n 16 v a (ltb-false 16 (length v) t) (number-plain v h)
+  filled-sized n (text k) v a t h = omega (arith, leb-true (3 * k) n a, escaped-length d v, ltb-false k (length v) t)
+  filled-sized n (digits k) v a t h = digitly n k v a h
+  filled-sized n (capitals k) v a t h =
       let q = both (leb (length v) k) (all capitalOrDigit v) h in
       plainly n k v a (leb-true (length v) k (q .0)) (capitals-plain v (q .1))
-  filled-sized n (words ws) v a c t h =
+  filled-sized n (words ws) v a t h =
       let q = both (leb (length v) n) (all plainByte v) (one-of (λ (w : List ℕ). leb (length w) n && all plainByte w) v (split 0x20 (bytes ws)) (unfold isOneOf in h) a) in
       rw (word d p v (q .1) .0) (leb-true (length v) n (q .0))
 
-  sized : (n : ℕ) (q : Bool) (r : Rule) (v : List ℕ) → atMost n r ≡ true → Clean v → fits q r v ≡ true → length (escape d v) ≤ n
-  sized n q r v a c h =
+  sized : (n : ℕ) (q : Bool) (r : Rule) (v : List ℕ) → atMost n r ≡ true → fits q r v ≡ true → length (escape d v) ≤ n
+  sized n q r v a h =
       cases (empty v)
       (λ e. rw (empty-is v e) (unfold escape escapeMet met marks in omega arith))
-      (λ e. let m = meets-rule q r v e h in filled-sized n r v a c (m .0) (m .1))
+      (λ e. let m = meets-rule q r v e h in filled-sized n r v a (m .0) (m .1))
 
 -- ---- joined fields
 segment-total : (d : Delims) (q : Piece) → length (segmentText d q) ≡ length (spelling (q .name)) + total (q .fields)
@@ -112,10 +111,10 @@ module _ (d : Delims) (p : Proper d) where
         cond-length (empty kf) [] (d .repetition ∷ nameText d kf kg (bytes "P")),
       ))
 
-  value-short : (type c v j s : List ℕ) → Clean c → Clean v → Clean j → Clean s → fits false (valueRules type .compare) c ≡ true → fits false (valueRules type .value) v ≡ true
+  value-short : (type c v j s : List ℕ) → fits false (valueRules type .compare) c ≡ true → fits false (valueRules type .value) v ≡ true
       → fits false (valueRules type .join) j ≡ true → fits false (valueRules type .second) s ≡ true → length (valueText d type c v j s) ≤ 600
   unfolding valueText valueRules total
-  value-short type c v j s hc hv hj hs fc fv fj fs =
+  value-short type c v j s fc fv fj fs =
       cases (isSN type)
       (λ e.
       rw e
@@ -123,91 +122,88 @@ module _ (d : Delims) (p : Proper d) where
         arith,
         cond-length (not (empty v)) (composed d (escape d c ∷ escape d v ∷ escape d j ∷ escape d s ∷ [])) (escape d v),
         composed-total d (escape d c) (escape d v ∷ escape d j ∷ escape d s ∷ []),
-        sized d p 2 false (words "> < >= <= = <>") c (unfold bounded in refl) hc (rw e at fc),
-        sized d p 16 false number v (unfold bounded in refl) hv (rw e at fv),
-        sized d p 1 false (words "- + / . :") j (unfold bounded in refl) hj (rw e at fj),
-        sized d p 16 false number s (unfold bounded in refl) hs (rw e at fs),
+        sized d p 2 false (words "> < >= <= = <>") c (unfold bounded in refl) (rw e at fc),
+        sized d p 16 false number v (unfold bounded in refl) (rw e at fv),
+        sized d p 1 false (words "- + / . :") j (unfold bounded in refl) (rw e at fj),
+        sized d p 16 false number s (unfold bounded in refl) (rw e at fs),
       )))
       (λ e.
       rw e
       (cases (same type (bytes "NM"))
-      (λ f. sized d p 600 false number v (unfold bounded in refl) hv (rw (e, f) at fv))
-      (λ f. sized d p 600 false (text 200) v (unfold bounded in refl) hv (rw (e, f) at fv))))
+      (λ f. sized d p 600 false number v (unfold bounded in refl) (rw (e, f) at fv))
+      (λ f. sized d p 600 false (text 200) v (unfold bounded in refl) (rw (e, f) at fv))))
 
-  row-short : (r : Row) (i j : ℕ) (qs : List Piece) → i < 1000 → j < 1000 → Facts (lines (groupOf r)) [] (values r) → Cleans (values r) → Short d qs → Short d (piecesOf d i j r ++ qs)
+  row-short : (r : Row) (i j : ℕ) (qs : List Piece) → i < 1000 → j < 1000 → Facts (lines (groupOf r)) [] (values r) → Short d qs → Short d (piecesOf d i j r ++ qs)
   unfolding piecesOf values blanks encoding lines line fourAt entryIn entryOf places total spelling bytes
-  row-short (header mode sent control) i j qs hi hj F C S =
+  row-short (header mode sent control) i j qs hi hj F S =
       let q = piecesOf d i j (header mode sent control) in (
         omega (
           arith,
           segment-total d (pieceAt q 0),
           composed-total d (bytes "OUL") (bytes "R22" ∷ bytes "OUL_R22" ∷ []),
-          sized d p 1 true (words "P T D") mode (unfold bounded in refl) (C .1 .0) (F .1 .0 .1),
-          sized d p 14 true time sent (unfold bounded in refl) (C .1 .1 .0) (F .1 .1 .0 .1),
-          sized d p 60 true (text 20) control (unfold bounded in refl) (C .1 .1 .1 .0) (F .1 .1 .1 .0 .1),
+          sized d p 1 true (words "P T D") mode (unfold bounded in refl) (F .1 .0 .1),
+          sized d p 14 true time sent (unfold bounded in refl) (F .1 .1 .0 .1),
+          sized d p 60 true (text 20) control (unfold bounded in refl) (F .1 .1 .1 .0 .1),
         ),
         S,
       )
-  row-short (patient id f g kf kg birth sex) i j qs hi hj F C S =
+  row-short (patient id f g kf kg birth sex) i j qs hi hj F S =
       let Fk = F .1 .1 .1 in
-      let Ck = C .1 .1 .1 in
       let kgk = both (fits false (text 48) kg) (filled kf || empty kg) (Fk .1 .0 .1) in
-      let t : (q : Bool) (v : List ℕ) → Clean v → fits q (text 48) v ≡ true → length (escape d v) ≤ 144 = λ q v. sized d p 144 q (text 48) v (unfold bounded in refl) in (
+      let t : (q : Bool) (v : List ℕ) → fits q (text 48) v ≡ true → length (escape d v) ≤ 144 = λ q v. sized d p 144 q (text 48) v (unfold bounded in refl) in (
         omega (
           arith,
           segment-total d (pieceAt (piecesOf d i j (patient id f g kf kg birth sex)) 0),
-          names-short f g kf kg (t true f (C .1 .0) (F .1 .0 .1)) (t false g (C .1 .1 .0) (F .1 .1 .0 .1)) (t false kf (Ck .0) (Fk .0 .1)) (t false kg (Ck .1 .0) (kgk .0)),
-          sized d p 60 true (text 20) id (unfold bounded in refl) (C .0) (F .0 .1),
-          sized d p 8 false date birth (unfold bounded in refl) (Ck .1 .1 .0) (Fk .1 .1 .0 .1),
-          sized d p 1 true (words "M F O U") sex (unfold bounded in refl) (Ck .1 .1 .1 .0) (Fk .1 .1 .1 .0 .1),
+          names-short f g kf kg (t true f (F .1 .0 .1)) (t false g (F .1 .1 .0 .1)) (t false kf (Fk .0 .1)) (t false kg (kgk .0)),
+          sized d p 60 true (text 20) id (unfold bounded in refl) (F .0 .1),
+          sized d p 8 false date birth (unfold bounded in refl) (Fk .1 .1 .0 .1),
+          sized d p 1 true (words "M F O U") sex (unfold bounded in refl) (Fk .1 .1 .1 .0 .1),
         ),
         S,
       )
-  row-short (visit class) i j qs hi hj F C S =
-      (omega (arith, segment-total d (pieceAt (piecesOf d i j (visit class)) 0), sized d p 1 true (words "I O") class (unfold bounded in refl) (C .0) (F .0 .1)), S)
-  row-short (specimen kind collected) i j qs hi hj F C S = (
+  row-short (visit class) i j qs hi hj F S =
+      (omega (arith, segment-total d (pieceAt (piecesOf d i j (visit class)) 0), sized d p 1 true (words "I O") class (unfold bounded in refl) (F .0 .1)), S)
+  row-short (specimen kind collected) i j qs hi hj F S = (
     omega (
       arith,
       segment-total d (pieceAt (piecesOf d i j (specimen kind collected)) 0),
       composed-total d (escape d kind) ([] ∷ bytes "JC10" ∷ []),
       decimal-short i hi,
-      sized d p 3 true (digits 3) kind (unfold bounded in refl) (C .0) (F .0 .1),
-      sized d p 14 true time collected (unfold bounded in refl) (C .1 .0) (F .1 .0 .1),
+      sized d p 3 true (digits 3) kind (unfold bounded in refl) (F .0 .1),
+      sized d p 14 true time collected (unfold bounded in refl) (F .1 .0 .1),
     ),
     S,
   )
-  row-short (order id group) i j qs hi hj F C S =
-      let l = sized d p 15 true (digits 15) id (unfold bounded in refl) (C .0) (F .0 .1) in (
+  row-short (order id group) i j qs hi hj F S =
+      let l = sized d p 15 true (digits 15) id (unfold bounded in refl) (F .0 .1) in (
         omega (
           arith,
           segment-total d (pieceAt (piecesOf d i j (order id group)) 0),
           composed-total d (escape d group) ([] ∷ bytes "99003" ∷ []),
-          sized d p 8 true (capitals 8) group (unfold bounded in refl) (C .1 .0) (F .1 .0 .1),
+          sized d p 8 true (capitals 8) group (unfold bounded in refl) (F .1 .0 .1),
         ),
         (omega (arith, segment-total d (pieceAt (piecesOf d i j (order id group)) 1)), S),
       )
-  row-short (result item name type c v k s unit flag status) i j qs hi hj F C S =
+  row-short (result item name type c v k s unit flag status) i j qs hi hj F S =
       let Fc = F .1 .1 .1 in
-      let Cc = C .1 .1 .1 in
       let Fu = Fc .1 .1 .1 .1 in
-      let Cu = Cc .1 .1 .1 .1 in
       let r = valueRules type in (
         omega (
           arith,
           segment-total d (pieceAt (piecesOf d i j (result item name type c v k s unit flag status)) 0),
           composed-total d (escape d item) (escape d name ∷ bytes "JC10" ∷ []),
-          value-short type c v k s (Cc .0) (Cc .1 .0) (Cc .1 .1 .0) (Cc .1 .1 .1 .0)
+          value-short type c v k s
               (both (fits false (r .compare) c) true (Fc .0 .1) .0)
               (both (fits false (r .value) v) true (Fc .1 .0 .1) .0)
               (both (fits false (r .join) k) true (Fc .1 .1 .0 .1) .0)
               (both (fits false (r .second) s) _ (Fc .1 .1 .1 .0 .1) .0),
           decimal-short j hj,
-          sized d p 17 true (capitals 17) item (unfold bounded in refl) (C .0) (F .0 .1),
-          sized d p 144 false (text 48) name (unfold bounded in refl) (C .1 .0) (F .1 .0 .1),
-          sized d p 2 true (words "NM SN ST") type (unfold bounded in refl) (C .1 .1 .0) (F .1 .1 .0 .1),
-          sized d p 60 false (text 20) unit (unfold bounded in refl) (Cu .0) (Fu .0 .1),
-          sized d p 2 false (words "L H LL HH N A") flag (unfold bounded in refl) (Cu .1 .0) (Fu .1 .0 .1),
-          sized d p 1 true (words "F P C I X") status (unfold bounded in refl) (Cu .1 .1 .0) (both (fits true (words "F P C I X") status) _ (Fu .1 .1 .0 .1) .0),
+          sized d p 17 true (capitals 17) item (unfold bounded in refl) (F .0 .1),
+          sized d p 144 false (text 48) name (unfold bounded in refl) (F .1 .0 .1),
+          sized d p 2 true (words "NM SN ST") type (unfold bounded in refl) (F .1 .1 .0 .1),
+          sized d p 60 false (text 20) unit (unfold bounded in refl) (Fu .0 .1),
+          sized d p 2 false (words "L H LL HH N A") flag (unfold bounded in refl) (Fu .1 .0 .1),
+          sized d p 1 true (words "F P C I X") status (unfold bounded in refl) (both (fits true (words "F P C I X") status) _ (Fu .1 .1 .0 .1) .0),
         ),
         S,
       )
@@ -229,16 +225,16 @@ module _ (d : Delims) (p : Proper d) where
     cases (is (groupOf r) Obx) (λ e. rw e (omega arith)) (λ e. cases (is (groupOf r) Obr) (λ f. rw (e, f) (omega arith)) (λ f. rw (e, f) (omega arith))),
   )
 
-  pub short : (a : Name) (i j : ℕ) (rows : List Row) → valid a rows ≡ true → Tidy rows → i + length (pieces d i j rows) ≤ 512 → j + length (pieces d i j rows) ≤ 512
+  pub short : (a : Name) (i j : ℕ) (rows : List Row) → valid a rows ≡ true → i + length (pieces d i j rows) ≤ 512 → j + length (pieces d i j rows) ≤ 512
       → Short d (pieces d i j rows)
   unfolding pieces
-  short a i j [] v t hi hj = tt
-  short a i j (r ∷ rs) v t hi hj =
+  short a i j [] v hi hj = tt
+  short a i j (r ∷ rs) v hi hj =
       let f = first a r rs v in
       let i′ = specimens i r in
       let j′ = results j r in
       let n = length-append (piecesOf d i′ j′ r) (pieces d i′ j′ rs) in
       let o = one-more r i j in
       let s = some-piece r i′ j′ in
-      row-short r i′ j′ (pieces d i′ j′ rs) (omega arith) (omega arith) (facts (lines (groupOf r)) [] (values r) (f .holds)) (t .0)
-      (short (groupOf r) i′ j′ rs (f .rest) (t .1) (omega arith) (omega arith))
+      row-short r i′ j′ (pieces d i′ j′ rs) (omega arith) (omega arith) (facts (lines (groupOf r)) [] (values r) (f .holds))
+      (short (groupOf r) i′ j′ rs (f .rest) (omega arith) (omega arith))

@@ -17,7 +17,7 @@ use Rattle.rules.specs.Shift.{step, isOne, walk, mark, marks, met, byteO
 use Rattle.rules.specs.Escape.{Letter, letters, meaning, letterFor, plain, push, unescapeAt, unescape, escapeMet, escape}
 use Rattle.rules.proofs.Logic.{cases, optionCases, both, not-true, eqb-self}
 use Rattle.rules.proofs.Lists.{same-eq, same-self, all-first}
-use Rattle.rules.proofs.Modes.{one-is, walk-step, length-marks}
+use Rattle.rules.proofs.Modes.{one-is, walk-step, length-met}
 use Rattle.rules.proofs.Clean.{Clean, not-bad, agree, stays, met-cons, clean-cons}
 use Rattle.rules.proofs.Header.{twelve, Delim, delim-one, delim-ne, delim-far, Proper}
 
@@ -30,6 +30,19 @@ unfolding plainByte
 plain-one b h =
     let p = both (isOne (step 0x20 One b)) (not (has b twelve)) h in
     (one-is (step 0x20 One b) (p .0), not-true (has b twelve) (p .1))
+
+-- ---- no byte takes more than three, in any text and under any delimiters
+units-length : (d : Delims) (s : List ℕ) → length (escapeMet d s) ≤ 3 * length s
+unfolding escapeMet
+units-length d [] = omega arith
+units-length d (x ∷ s) =
+    optionCases (letterFor (letters d) x)
+    (λ l q. rw (q, escapeMet) (omega (arith, units-length d s)))
+    (λ q. rw (q, escapeMet) (omega (arith, units-length d s)))
+
+pub escaped-length : (d : Delims) (v : List ℕ) → length (escape d v) ≤ 3 * length v
+unfolding escape
+escaped-length d v = omega (arith, units-length d (met v), length-met v)
 
 -- ---- the table of letters
 none-first : (r : Letter) (rs : List Letter) (b : ℕ) → letterFor (r ∷ rs) b ≡ none → (eqb b (r .stands) ≡ false) × (letterFor rs b ≡ none)
@@ -207,12 +220,6 @@ module _ (d : Delims) (p : Proper d) where
   esc-free x s (near {b} h l y) = cc (s .apart b (apart d b h), esc-free x s y)
   esc-free x s (coded {b} {l} c y) = cc (s .escape, delim-ne x (s .is) l (plain-one l (c .fine) .1), esc-free x s y)
 
-  esc-length : {r v : List ℕ} → Esc d r v → length r ≤ 3 * length v
-  esc-length done = omega arith
-  esc-length (far y) = omega (arith, esc-length y)
-  esc-length (near h l y) = omega (arith, esc-length y)
-  esc-length (coded c y) = omega (arith, esc-length y)
-
   esc-empty : {r v : List ℕ} → Esc d r v → empty r ≡ empty v
   unfolding empty
   esc-empty done = refl
@@ -239,11 +246,6 @@ module _ (d : Delims) (p : Proper d) where
 
     pub escaped-empty : empty (met (escape d v)) ≡ empty v
     escaped-empty = esc-empty sh
-
-    pub escaped-length : length (escape d v) ≤ 3 * length v
-    escaped-length =
-        let e : length (met (escape d v)) ≡ length (escape d v) = unfold met in length-marks 0x0D One (escape d v) in
-        omega (arith, esc-length sh)
 
     -- 21: a text other than "" is not written so
     pub escaped-null : same v (bytes "\"\"") ≡ false → same (met (escape d v)) (bytes "\"\"") ≡ false

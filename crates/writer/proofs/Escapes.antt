@@ -15,6 +15,8 @@ use Rattle.rules.specs.Shift.{step, isOne, mark, marks, met, byteOf}
 use Rattle.rules.specs.Escape.{Letter, letters, letterFor, escapeMet, escape}
 use Rattle.rules.proofs.Logic.{cases, optionCases}
 use Rattle.rules.proofs.Modes.{one-is, byte-met, marks-here, marks-over}
+use Rattle.rules.proofs.Escaped.{byte-far}
+use Rattle.scan.specs.Scan.{between, hidden, Units}
 use Rattle.writer.specs.Over.{Wrote, Put}
 use Rattle.writer.specs.Escaping.{unitAs, unitOf, letterOrZero, letterOf}
 use Rattle.writer.proofs.Laws.{Splits, Running, run-start, run-room, run-next, run-end}
@@ -125,6 +127,27 @@ pub escape-end : (d : Delims) (m : Mode) (t : List ℕ) (i : ℕ) → length t �
 unfolding escapeMet
 escape-end d m t i h = rw (marks-over 0x0D t i m h)
 
+-- ---- a run of two-byte units
+module _ (d : Delims) (f : d .field < 256) (c : d .component < 256) (s : d .sub < 256) (r : d .repetition < 256) (x : d .escape < 256) where
+  escape-far : (b : ℕ) (t : List ℕ) → escapeMet d ((256 + b) ∷ t) ≡ b ∷ escapeMet d t
+  unfolding escapeMet letterFor letters
+  escape-far b t = cc (
+    ne-eqb (256 + b) (d .field) (λ q. omega arith),
+    ne-eqb (256 + b) (d .component) (λ q. omega arith),
+    ne-eqb (256 + b) (d .sub) (λ q. omega arith),
+    ne-eqb (256 + b) (d .repetition) (λ q. omega arith),
+    ne-eqb (256 + b) (d .escape) (λ q. omega arith),
+    byte-far b,
+  )
+
+  escape-hidden : (w t : List ℕ) → escapeMet d (hidden w ++ t) ≡ w ++ escapeMet d t
+  unfolding hidden
+  escape-hidden [] t = refl
+  escape-hidden (b ∷ w) t = escape-far b (hidden w ++ t) ∙ ap (λ (l : List ℕ). b ∷ l) (escape-hidden w t)
+
+  escape-units : (m : Mode) (t : List ℕ) (i j : ℕ) → Units t m i j → Splits (escapeMet d (marks 0x0D m (drop i t))) (between i j t) (escapeMet d (marks 0x0D m (drop j t)))
+  escape-units m t i j u = record { eq = ap (escapeMet d) (u .hides 0x0D .met) ∙ escape-hidden (between i j t) (marks 0x0D m (drop j t)) }
+
 -- ---- the loop that writes
 pub escape-begins : (d : Delims) (t out : List ℕ) → length (escape d t) ≤ length out → Running (escape d t) (escapeMet d (marks 0x0D One (drop 0 t))) out out 0
 unfolding escape met
@@ -134,9 +157,16 @@ module _ (d : Delims) (t whole out₀ out : List ℕ) (i at : ℕ) (m : Mode) (p
   pub escape-room : i < length t → at + length (unitOf d (mark m (getD t i 0))) ≤ length out
   escape-room h = run-room p (escape-next d m t i h)
 
-  pub escape-goes : (r : ℕ) (y : List ℕ) (k : Mode) → i < length t → Put at out (unitOf d (mark m (getD t i 0))) r y → k ≡ step 0x0D m (getD t i 0)
-      → Running whole (escapeMet d (marks 0x0D k (drop (i + 1) t))) out₀ y r
-  escape-goes r y k h q e = rw e (run-next p (escape-next d m t i h) q)
+  module _ (r : ℕ) (y : List ℕ) (k : Mode) (h : i < length t) (q : Put at out (unitOf d (mark m (getD t i 0))) r y) (e : k ≡ step 0x0D m (getD t i 0)) where
+    byte-goes : Running whole (escapeMet d (marks 0x0D k (drop (i + 1) t))) out₀ y r
+    byte-goes = rw e (run-next p (escape-next d m t i h) q)
+
+    module _ (j : ℕ) (u : Units t k (i + 1) j) (f : d .field < 256) (c : d .component < 256) (s : d .sub < 256) (l : d .repetition < 256) (x : d .escape < 256) where
+      pub units-room : r + length (between (i + 1) j t) ≤ length y
+      units-room = run-room byte-goes (escape-units d f c s l x k t (i + 1) j u)
+
+      pub escape-goes : (n : ℕ) (z : List ℕ) → Put r y (between (i + 1) j t) n z → Running whole (escapeMet d (marks 0x0D k (drop j t))) out₀ z n
+      escape-goes n z w = run-next byte-goes (escape-units d f c s l x k t (i + 1) j u) w
 
   pub escape-ends : length t ≤ i → Wrote at out whole out₀
   escape-ends h = run-end p (escape-end d m t i h)

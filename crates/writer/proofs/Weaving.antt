@@ -12,7 +12,9 @@ use lib.Seq.{drop-drop}
 use denote.Ref.{RefT}
 use Rattle.rules.specs.declared.Delims.{Delims}
 use Rattle.rules.specs.Escape.{escape}
+use Rattle.rules.proofs.Logic.{cases}
 use Rattle.rules.proofs.Lists.{here, over}
+use Rattle.rules.proofs.Escaped.{escaped-length}
 use Rattle.writer.specs.Over.{Wrote, Put, fitted, Fit}
 use Rattle.writer.specs.Woven.{delimiterOf, taken, slotText, firstText, woven, holes, sizes}
 use Rattle.writer.proofs.Laws.{Splits, Running, run-start, run-room, run-next, run-end}
@@ -107,19 +109,8 @@ module _ (d : Delims) (b : ℕ) (ts : List (RefT (List ℕ))) (q : ℕ) where
     pub put-itself : (k : ℕ) → (b ≡ code "$" → ⊥) → (b ≡ code "#" → ⊥) → k ≡ delimiterOf d b → Put at x (k ∷ []) r y → Put at x (slotText d b (firstText (drop q ts))) r y
     put-itself k n m e p = rw (slot-itself b d (firstText (drop q ts)) n m, ← e) p
 
-  module _ (fits : sizes ts ≤ 1000000) where
-    pub small-text : (z : RefT (List ℕ)) → b ≡ code "$" → q + taken b ≤ length ts → length (getD ts q z .now) ≤ 1000000
-    small-text z e h = rw (next-is ts q z (there-text e h)) at (small)
-      where
-        small : length (firstText (drop q ts)) ≤ 1000000
-        small = omega (arith, next-size ts q)
-
-    module _ (r : ℕ) where
-      pub short-text : (z : RefT (List ℕ)) → b ≡ code "$" → q + taken b ≤ length ts → r ≤ 3 * length (getD ts q z .now) → r ≤ 3000000
-      short-text z e h w = omega (arith, small-text z e h)
-
-      pub short-plain : (z : RefT (List ℕ)) → (b ≡ code "$" → ⊥) → b ≡ code "#" → q + taken b ≤ length ts → r ≡ length (getD ts q z .now) → r ≤ 3000000
-      short-plain z n e h g = omega (arith, next-size ts q, ap length (next-is ts q z (there-plain n e h)))
+  pub small-text : sizes ts ≤ 1000000 → (z : RefT (List ℕ)) → b ≡ code "$" → q + taken b ≤ length ts → length (getD ts q z .now) ≤ 1000000
+  small-text fits z e h = omega (arith, next-size ts q, ap length (next-is ts q z (there-text e h)))
 
   module _ (r : ℕ) where
     pub len-text : (z : RefT (List ℕ)) → b ≡ code "$" → q + taken b ≤ length ts → r ≡ length (escape d (getD ts q z .now)) → r ≡ length (slotText d b (firstText (drop q ts)))
@@ -131,6 +122,24 @@ module _ (d : Delims) (b : ℕ) (ts : List (RefT (List ℕ))) (q : ℕ) where
 
   pub len-itself : (b ≡ code "$" → ⊥) → (b ≡ code "#" → ⊥) → 1 ≡ length (slotText d b (firstText (drop q ts)))
   len-itself n m = rw (slot-itself b d (firstText (drop q ts)) n m)
+
+-- ---- no byte takes more than three
+sizes-first : (ts : List (RefT (List ℕ))) → sizes ts ≡ length (firstText ts) + sizes (drop 1 ts)
+unfolding sizes firstText
+sizes-first [] = refl
+sizes-first (t ∷ ts) = refl
+
+slot-length : (d : Delims) (b : ℕ) (ts : List (RefT (List ℕ))) → length (slotText d b (firstText ts)) + 3 * sizes (drop (taken b) ts) ≤ 3 * sizes ts + 1
+unfolding slotText taken
+slot-length d b ts =
+    cases (eqb b 36)
+    (λ e. rw e (omega (arith, sizes-first ts, escaped-length d (firstText ts))))
+    (λ e. cases (eqb b 35) (λ f. rw (e, f) (omega (arith, sizes-first ts))) (λ f. rw (e, f) (omega arith)))
+
+pub woven-length : (d : Delims) (p : List ℕ) (ts : List (RefT (List ℕ))) → length (woven d p ts) ≤ 3 * sizes ts + length p
+unfolding woven
+woven-length d [] ts = omega arith
+woven-length d (b ∷ p) ts = simp length-append (omega (arith, slot-length d b ts, woven-length d p (drop (taken b) ts)))
 
 -- ---- the loops
 next-slot : (d : Delims) (p : List ℕ) (ts : List (RefT (List ℕ))) (i q k : ℕ) → i < length p → k ≡ taken (getD p i 0)
@@ -173,19 +182,46 @@ module _ (d : Delims) (p : List ℕ) (ts : List (RefT (List ℕ))) (whole : List
       → (n + u) + length (woven d (drop (i + 1) p) (drop (q + k) ts)) ≡ length whole
   sum-goes u k h e f = omega (arith, simp length-append at (ap length (next-slot d p ts i q k h f .eq)))
 
+  pub sum-few : (u : ℕ) → i < length p → u ≡ length (slotText d (getD p i 0) (firstText (drop q ts))) → whole ≡ woven d p ts → sizes ts ≤ 1000000 → length p ≤ 100
+      → n + u < 18446744073709551616
+  sum-few u h e w s l = omega (arith, sum-goes u (taken (getD p i 0)) h e refl, ap length w, woven-length d p ts)
+
   pub sum-ends : length p ≤ i → n ≡ length whole
   unfolding woven
   sum-ends h = let e : length (woven d (drop i p) (drop q ts)) ≡ 0 = rw (over p i h) in omega arith
 
+-- ---- the texts added up
+pub sizes-begin : (ts : List (RefT (List ℕ))) → 0 + sizes (drop 0 ts) ≡ sizes ts
+sizes-begin ts = omega arith
+
+module _ (ts : List (RefT (List ℕ))) (i n w : ℕ) (sum : n + sizes (drop i ts) ≡ w) where
+  pub sizes-go : (z : RefT (List ℕ)) (k : ℕ) → i < length ts → k ≡ length (getD ts i z .now) → (n + k) + sizes (drop (i + 1) ts) ≡ w
+  unfolding sizes
+  sizes-go z k h e = let q : sizes (drop i ts) ≡ length (getD ts i z .now) + sizes (drop (i + 1) ts) = rw (here z ts i h) in omega arith
+
+  pub sizes-few : (z : RefT (List ℕ)) (k : ℕ) → i < length ts → k ≡ length (getD ts i z .now) → w ≤ 1000000 → n + k < 18446744073709551616
+  sizes-few z k h e f = omega (arith, sizes-go z k h e)
+
+  pub sizes-end : length ts ≤ i → n ≡ w
+  unfolding sizes
+  sizes-end h = let q : sizes (drop i ts) ≡ 0 = rw (over ts i h) in omega arith
+
 -- ---- where there is room
+module _ (d : Delims) (p : List ℕ) (ts : List (RefT (List ℕ))) where
+  pub ample-room : (n : ℕ) (old : List ℕ) → n ≡ sizes ts → 3 * n + length p ≤ length old → length (woven d p ts) ≤ length old
+  ample-room n old e h = omega (arith, woven-length d p ts)
+
+  pub length-within : (r : ℕ) → r ≡ length (woven d p ts) → sizes ts ≤ 1000000 → length p ≤ 100 → r ≤ 300000000
+  length-within r e s l = omega (arith, woven-length d p ts)
+
+pub measured-room : (n : ℕ) (w old : List ℕ) → n ≡ length w → n ≤ length old → length w ≤ length old
+measured-room n w old e h = omega arith
+
 module _ (r : ℕ) (x w old : List ℕ) where
   pub fits-not : r ≡ length w → length old < r → Fit r old w old
   unfolding fitted
   fits-not e h = record { ends = e; is = rw (lt-leb (length w) (length old) (omega arith)) }
 
-  pub fits : (n : ℕ) → n ≡ length w → n ≤ length old → Wrote r x w old → Fit r x w old
+  pub fits : length w ≤ length old → Wrote r x w old → Fit r x w old
   unfolding fitted
-  fits n e h p = record { ends = p .ends; is = p .is ∙ rw (le-leb (length w) (length old) (omega arith)) }
-
-  pub fits-within : (n : ℕ) → n ≡ length w → n ≤ 300000000 → Wrote r x w old → r ≤ 300000000
-  fits-within n e h p = omega (arith, p .ends)
+  fits h p = record { ends = p .ends; is = p .is ∙ rw (le-leb (length w) (length old) h) }

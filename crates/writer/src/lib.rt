@@ -140,7 +140,7 @@ pub fn escaped_len(text: &[u8], d: Delims) -> usize
     n
 }
 
-// A text, with the delimiters of its one-byte stretches escaped.
+// A text, with the delimiters of its one-byte stretches escaped; a run of two-byte units is copied as it stands.
 pub fn put_escaped(out: &mut [u8], text: &[u8], d: Delims) -> usize
     requires { ⌜ length (escape d (now text)) ≤ length (now out) ⌝ }
     ensures { λ r. ⌜ Wrote r (now (out .exit)) (escape d (now (text .entry))) (now (out .entry)) ⌝ }
@@ -153,6 +153,9 @@ pub fn put_escaped(out: &mut [u8], text: &[u8], d: Delims) -> usize
         at = put_unit(out, at, mode, b, d);
         mode = scan::step(mode, b, 0x0D);
         i += 1;
+        let to = scan::units(text, i, mode);
+        at = put_at(out, at, &text[i..to]);
+        i = to;
     }
     at
 }
@@ -217,7 +220,7 @@ fn put_slot(out: &mut [u8], at: usize, slot: u8, texts: &[&[u8]], next: usize, d
 
 fn slot_len(slot: u8, texts: &[&[u8]], next: usize, d: Delims) -> usize
     requires { ⌜ (next + taken slot ≤ length (now texts)) × (sizes (now texts) ≤ 1000000) ⌝ }
-    ensures { λ r. ⌜ (r ≡ length (slotText d slot (firstText (drop next (now (texts .entry)))))) × (r ≤ 3000000) ⌝ }
+    ensures { λ r. ⌜ r ≡ length (slotText d slot (firstText (drop next (now (texts .entry))))) ⌝ }
 {
     if slot == b'$' {
         return escaped_len(texts[next], d);
@@ -253,7 +256,7 @@ fn put_woven(out: &mut [u8], pattern: &[u8], texts: &[&[u8]], d: Delims) -> usiz
 
 fn woven_len(pattern: &[u8], texts: &[&[u8]], d: Delims) -> usize
     requires { ⌜ (holes (now pattern) ≤ length (now texts)) × (sizes (now texts) ≤ 1000000) × (length (now pattern) ≤ 100) ⌝ }
-    ensures { λ r. ⌜ (r ≡ length (woven d (now (pattern .entry)) (now (texts .entry)))) × (r ≤ 300000000) ⌝ }
+    ensures { λ r. ⌜ r ≡ length (woven d (now (pattern .entry)) (now (texts .entry))) ⌝ }
 {
     let mut n: usize = 0;
     let mut next = 0;
@@ -267,12 +270,30 @@ fn woven_len(pattern: &[u8], texts: &[&[u8]], d: Delims) -> usize
     n
 }
 
-// Writes it where the lent tail has room, and answers its length in either case.
+// How long some texts are together.
+fn sizes_of(texts: &[&[u8]]) -> usize
+    requires { ⌜ sizes (now texts) ≤ 1000000 ⌝ }
+    ensures { λ r. ⌜ r ≡ sizes (now (texts .entry)) ⌝ }
+{
+    let mut n: usize = 0;
+    let mut i = 0;
+    while i < texts.len() {
+        n += length_of(texts[i]);
+        i += 1;
+    }
+    n
+}
+
+// Writes it where the lent tail has room, and answers its length in either case. No byte takes more than three, so it is measured only where
+// the tail could be too short.
 pub fn fit_woven(out: &mut [u8], pattern: &[u8], texts: &[&[u8]], d: Delims) -> usize
     requires { ⌜ (holes (now pattern) ≤ length (now texts)) × (sizes (now texts) ≤ 1000000) × (length (now pattern) ≤ 100) ⌝ }
     ensures { λ r. ⌜ Fit r (now (out .exit)) (woven d (now (pattern .entry)) (now (texts .entry))) (now (out .entry)) ⌝ }
     ensures within { λ r. ⌜ r ≤ 300000000 ⌝ }
 {
+    if 3 * sizes_of(texts) + pattern.len() <= out.len() {
+        return put_woven(out, pattern, texts, d);
+    }
     let n = woven_len(pattern, texts, d);
     if out.len() < n {
         return n;

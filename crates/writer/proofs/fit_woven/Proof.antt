@@ -1,27 +1,53 @@
-use native.Mathlib.Omega.{arith}
-use Prim.Native.Nat.{ℕ, _+_, _-_, _≤_, _<_}
-use mathlib.Core.Path.{_≡_}
-use lib.ListN.{length, take, drop}
-use Rattle.writer.proofs.Weaving.{fits, fits-not, fits-within}
+use Rattle.writer.proofs.Weaving.{ample-room, fits, fits-not, length-within, measured-room}
 use borrow.Author.Needs.{needs}
 use Rattle.writer.proofs.fit_woven.Statement.{statement}
 use Rattle.writer.proofs.fit_woven.Tie as tie
 
-woven-len-requires : tie.Need-woven-len-requires
-woven-len-requires c κs = search needs
+sizes-of-requires : tie.Need-sizes-of-requires
+sizes-of-requires c κs = search needs
 
-returns : tie.Need-returns
-returns c = search (fits-not, fits, fits-within, needs)
+mul-if1 : tie.Need-mul-if1
+mul-if1 c = search needs
+
+add-if1 : tie.Need-add-if1
+add-if1 c = search needs
 
 put-woven-requires : tie.Need-put-woven-requires
-put-woven-requires c κs = search needs
+put-woven-requires c κs = search (ample-room, needs)
 
 same-length : tie.Need-same-length
 same-length c = search needs
 
+returns : tie.Need-returns
+returns c = search (fits, ample-room, length-within, needs)
+
+woven-len-requires : tie.Need-woven-len-requires
+woven-len-requires c κs = search needs
+
 returns-2 : tie.Need-returns-2
-returns-2 c = search (fits-not, fits, fits-within, needs)
+returns-2 c = search (fits-not, length-within, needs)
+
+put-woven-requires-2 : tie.Need-put-woven-requires-2
+put-woven-requires-2 c κs = search needs
+
+same-length-2 : tie.Need-same-length-2
+same-length-2 c = search needs
+
+returns-3 : tie.Need-returns-3
+returns-3 c = search (fits, measured-room, length-within, needs)
 
 pub fit-woven-spec : {M : Type 1} → statement M
 fit-woven-spec =
-    tie.close (tie.spec woven-len-requires returns put-woven-requires same-length returns-2)
+    tie.close
+    (tie.spec
+    sizes-of-requires
+    mul-if1
+    add-if1
+    put-woven-requires
+    same-length
+    returns
+    woven-len-requires
+    returns-2
+    put-woven-requires-2
+    same-length-2
+    returns-3)

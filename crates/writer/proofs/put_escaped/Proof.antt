@@ -1,12 +1,10 @@
-use borrow.Author.Needs.{needs}
-use native.Mathlib.Omega.{arith}
-use Prim.Native.Nat.{ℕ, _+_, _-_, _≤_, _<_}
-use mathlib.Core.Path.{_≡_}
-use lib.ListN.{length, take, drop}
+use Prim.Native.Nat.{ℕ, _-_, _≤_}
+use lib.ListN.{length, drop}
 use Rattle.rules.specs.Shift.{marks}
 use Rattle.rules.specs.Escape.{escape, escapeMet}
 use Rattle.writer.proofs.Laws.{Running}
-use Rattle.writer.proofs.Escapes.{escape-begins, escape-ends, escape-goes, escape-room}
+use Rattle.writer.proofs.Escapes.{escape-begins, escape-ends, escape-goes, escape-room, units-room}
+use borrow.Author.Needs.{needs}
 use Rattle.writer.proofs.put_escaped.Statement.{statement}
 use Rattle.writer.proofs.put_escaped.Tie as tie
 
@@ -17,13 +15,13 @@ abbrev μ-loop : tie.MeasureT-loop
 μ-loop out₀ text d at₀ i₀ mode₀ out at i mode = length text - i
 
 loop-holds : tie.Need-loop-holds Inv-loop μ-loop
-loop-holds c = search (escape-begins, escape-room, escape-goes, escape-ends, needs)
+loop-holds c = search (escape-begins, needs)
 
 shared-slice-read-b : tie.Need-shared-slice-read-b Inv-loop μ-loop
 shared-slice-read-b c = search needs
 
 put-unit-requires : tie.Need-put-unit-requires Inv-loop μ-loop
-put-unit-requires c κs = search (escape-begins, escape-room, escape-goes, escape-ends, needs)
+put-unit-requires c κs = search (escape-room, needs)
 
 step-requires : tie.Need-step-requires Inv-loop μ-loop
 step-requires c κs = search needs
@@ -31,17 +29,32 @@ step-requires c κs = search needs
 add-i : tie.Need-add-i Inv-loop μ-loop
 add-i c = search needs
 
+units-requires : tie.Need-units-requires Inv-loop μ-loop
+units-requires c κs = search needs
+
+sub-put-at : tie.Need-sub-put-at Inv-loop μ-loop
+sub-put-at c = search needs
+
+part-put-at-start : tie.Need-part-put-at-start Inv-loop μ-loop
+part-put-at-start c = search needs
+
+part-put-at-end : tie.Need-part-put-at-end Inv-loop μ-loop
+part-put-at-end c = search needs
+
+put-at-requires : tie.Need-put-at-requires Inv-loop μ-loop
+put-at-requires c κs = search (units-room, needs)
+
 loop-less : tie.Need-loop-less Inv-loop μ-loop
 loop-less c = search needs
 
 loop-again : tie.Need-loop-again Inv-loop μ-loop
-loop-again c = search (escape-begins, escape-room, escape-goes, escape-ends, needs)
+loop-again c = search (escape-goes, needs)
 
 same-length : tie.Need-same-length Inv-loop μ-loop
 same-length c = search needs
 
 returns : tie.Need-returns Inv-loop μ-loop
-returns c = search (escape-begins, escape-room, escape-goes, escape-ends, needs)
+returns c = search (escape-ends, needs)
 
 pub put-escaped-spec : {M : Type 1} → statement M
 put-escaped-spec =
@@ -54,6 +67,11 @@ put-escaped-spec =
     put-unit-requires
     step-requires
     add-i
+    units-requires
+    sub-put-at
+    part-put-at-start
+    part-put-at-end
+    put-at-requires
     loop-less
     loop-again
     same-length

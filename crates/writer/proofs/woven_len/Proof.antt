@@ -3,14 +3,13 @@ use native.Mathlib.Omega.{arith}
 use Prim.Native.Nat.{ℕ, _+_, _-_, _≤_, _<_}
 use mathlib.Core.Path.{_≡_}
 use lib.ListN.{length, take, drop}
-use Prim.Native.Nat.{_*_}
 use Rattle.writer.specs.Woven.{woven, holes}
-use Rattle.writer.proofs.Weaving.{holes-go, one-hole, sum-begins, sum-ends, sum-goes}
+use Rattle.writer.proofs.Weaving.{holes-go, one-hole, sum-begins, sum-ends, sum-few, sum-goes}
 use Rattle.writer.proofs.woven_len.Statement.{statement}
 use Rattle.writer.proofs.woven_len.Tie as tie
 
 abbrev Inv-loop : tie.InvT-loop
-Inv-loop pattern texts d n₀ next₀ i₀ n next i = (i ≤ length pattern) × (n ≤ 3000000 * i) × (next + holes (drop i pattern) ≤ length texts) × (n + length (woven d (drop i pattern) (drop next texts)) ≡ length (woven d pattern texts))
+Inv-loop pattern texts d n₀ next₀ i₀ n next i = (i ≤ length pattern) × (next + holes (drop i pattern) ≤ length texts) × (n + length (woven d (drop i pattern) (drop next texts)) ≡ length (woven d pattern texts))
 
 abbrev μ-loop : tie.MeasureT-loop
 μ-loop pattern texts d n₀ next₀ i₀ n next i = length pattern - i
@@ -25,7 +24,7 @@ slot-len-requires : tie.Need-slot-len-requires Inv-loop μ-loop
 slot-len-requires c κs = search (sum-begins, sum-goes, sum-ends, one-hole, holes-go, needs)
 
 add-n : tie.Need-add-n Inv-loop μ-loop
-add-n c = search needs
+add-n c = search (sum-few, needs)
 
 texts-for-requires : tie.Need-texts-for-requires Inv-loop μ-loop
 texts-for-requires c κs = search needs
