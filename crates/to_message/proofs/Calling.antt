@@ -55,7 +55,8 @@ module _ (size : Size) (made x : List ℕ) (k : Refusal) where
   unfolding madeTold
   write-44 h f = composed-as {u = refusal k} (rw h (ap refusal (sym f))) (kept x k)
 
-  pub write-45 : (ltb 32768 (size .bytes) || ltb 512 (size .segments)) ≡ false → length x < size .bytes → k ≡ refusalAt Room 0 → Call (madeTold size made (length x)) x (NotWritten k) x
+  pub write-45 : (ltb 32768 (size .bytes) || ltb 512 (size .segments)) ≡ false → length x < size .bytes → k ≡ refusalAt Room 0
+      → Call (madeTold size made (length x)) x (NotWritten k) x
   unfolding madeTold
   write-45 h l f = composed-as {u = refusal k} (rw (h, lt-ltb (length x) (size .bytes) l) (ap refusal (sym f))) (kept x k)
 
