@@ -1,24 +1,24 @@
 -- The laws of a sheet's lines and groups. Assumes nothing.
 use mathlib.Core.Path.{_≡_, refl, sym, subst, ap, _∙_}
 use mathlib.Core.Bool.{Bool, true, false, cond, not, _&&_, _||_}
-use mathlib.Core.List.{List, [], _∷_}
+use mathlib.Core.List.{List, [], _∷_, _++_, append-assoc}
 use Prim.Native.Nat.{ℕ, suc, _+_, _-_, _≤_, _<_}
 use native.Mathlib.Omega.{arith}
 use borrow.Author.Tests.{eq-eqb, ne-eqb, eqb-true}
 use lib.Dec.{eqb}
-use lib.ListN.{length, take, drop, getD, set, length-set, length-take, length-drop, drop-of-length-le}
+use lib.ListN.{length, take, drop, getD, set, length-set, length-take, length-drop}
 use lib.Seq.{drop-drop, getD-drop, getD-set-same, getD-set-other}
 use Rattle.rules.specs.declared.Name.{Name}
 use Rattle.rules.specs.declared.Name.the-variants.{Msh, Pid, Pv1, Spm, Obr, Obx}
-use Rattle.rules.specs.Lists.{bytes, empty, filled, nth, same, starts, split, allButLast, isOneOf, any, onto}
+use Rattle.rules.specs.Lists.{bytes, empty, filled, nth, same, starts, split, allButLast, last, ended, isOneOf, any, onto}
 use Rattle.rules.specs.Value.{Rule, fault, fits, holds, tooLong, words, text, number}
 use Rattle.rules.specs.Places.{Four, valueRules, entryOf, entryIn, places}
 use Rattle.rules.specs.Judge.{beside, unjoined, agrees}
 use Rattle.rules.specs.Row.{line, lines, fourAt}
 use Rattle.rules.specs.Sheet.{keyOf, linesOf}
 use Rattle.rules.proofs.Logic.{cases, never, and-false, not-true, not-false}
-use Rattle.rules.proofs.Lists.{over, rest-is, same-eq, empty-zero, filled-some}
-use Rattle.rules.proofs.Split.{butLast-split}
+use Rattle.rules.proofs.Lists.{over, rest-is, take-own, same-eq, empty-zero, filled-some}
+use Rattle.rules.proofs.Split.{butLast-split, ended-split}
 use Rattle.scan.specs.Scan.{until, is}
 use Rattle.value.specs.declared.Fault.{Fault}
 use Rattle.value.specs.declared.Words.the-variants.{Modes, Sexes, Classes, Types, Flags, Statuses, Blank, Comparators, Joiners}
@@ -42,9 +42,13 @@ some : (s : List ℕ) → length (until (is 0x0A) s) < length s
 unfolding linesOf
 some s h = rw (split-more 0x0A s h) (butLast-split 0x0A (take (length (until (is 0x0A) s)) s) (drop (suc (length (until (is 0x0A) s))) s))
 
-no-lines : (s : List ℕ) (k : ℕ) → length s ≤ k → linesOf (drop k s) ≡ []
-unfolding linesOf allButLast split
-no-lines s k h = rw (over s k h)
+-- the first line stands at the front
+line-front : (t l : List ℕ) (ls : List (List ℕ)) → linesOf t ≡ l ∷ ls → take (length l) t ≡ l
+unfolding linesOf ended
+line-front t l ls e =
+    let z : t ≡ l ++ ((0x0A ∷ ended 0x0A ls) ++ last (split 0x0A t))
+    = sym (ended-split 0x0A t) ∙ ap (λ (ps : List (List ℕ)). ended 0x0A ps ++ last (split 0x0A t)) e ∙ append-assoc l (0x0A ∷ ended 0x0A ls) (last (split 0x0A t)) in
+    ap (take (length l)) z ∙ take-own l ((0x0A ∷ ended 0x0A ls) ++ last (split 0x0A t))
 
 -- as the code finds them: the part from a place on, and how many bytes stand in it before a 0A
 module _ (s : List ℕ) (at n : ℕ) (e : n ≡ length (until (is 0x0A) (take (length s - at) (drop at s)))) (w : n ≤ length (take (length s - at) (drop at s))) where
@@ -67,14 +71,6 @@ module _ (s : List ℕ) (at n : ℕ) (e : n ≡ length (until (is 0x0A) (take (l
   pub past-none : n ≡ length (take (length s - at) (drop at s)) → linesOf (drop at s) ≡ drop 1 (linesOf (drop at s))
   past-none h = rw (found-none h)
 
-  pub behind-none : n ≡ length (take (length s - at) (drop at s)) → at ≡ behind (linesOf (drop at s)) at
-  unfolding behind
-  behind-none h = rw (found-none h)
-
-  pub behind-some : (n ≡ length (take (length s - at) (drop at s)) → ⊥) → at + n + 1 ≡ behind (linesOf (drop at s)) at
-  unfolding behind
-  behind-some h = rw (found-some h) (let z : length (take n (drop at s)) ≡ n = simp (length-take) (omega (arith, size)) in omega (arith, z))
-
   pub past-some : at ≤ length s → (n ≡ length (take (length s - at) (drop at s)) → ⊥) → linesOf (drop (at + n + 1) s) ≡ drop 1 (linesOf (drop at s))
   past-some g h =
       let q : linesOf (drop (suc n) (drop at s)) ≡ linesOf (drop (at + n + 1) s) = let z : at + suc n ≡ at + n + 1 = omega arith in ap linesOf (drop-drop (suc n) at s ∙ ap (λ (k : ℕ). drop k s) z) in
@@ -82,6 +78,14 @@ module _ (s : List ℕ) (at n : ℕ) (e : n ≡ length (until (is 0x0A) (take (l
 
   pub past-within : at ≤ length s → (n ≡ length (take (length s - at) (drop at s)) → ⊥) → at + n + 1 ≤ length s
   past-within g h = omega (arith, size, length-drop at s)
+
+  pub behind-none : n ≡ length (take (length s - at) (drop at s)) → at ≡ behind (linesOf (drop at s)) at
+  unfolding behind
+  behind-none h = rw (found-none h)
+
+  pub behind-some : (n ≡ length (take (length s - at) (drop at s)) → ⊥) → at + n + 1 ≡ behind (linesOf (drop at s)) at
+  unfolding behind
+  behind-some h = rw (found-some h) (let z : length (take n (drop at s)) ≡ n = simp (length-take) (omega (arith, size)) in omega (arith, z))
 
   pub none-there : n ≡ length (take (length s - at) (drop at s)) → not (eqb n (length (take (length s - at) (drop at s)))) ≡ filled (linesOf (drop at s))
   unfolding empty
@@ -95,66 +99,121 @@ module _ (s : List ℕ) (at n : ℕ) (e : n ≡ length (until (is 0x0A) (take (l
   pub line-there : not (eqb n (length (take (length s - at) (drop at s)))) ≡ filled (linesOf (drop at s))
   line-there = cases (eqb n (length (take (length s - at) (drop at s)))) (λ q. none-there (eqb-true n _ q)) (λ q. some-there (λ h. never (sym (eq-eqb n _ h) ∙ q)))
 
-  module _ (k : ℕ) (f : linesOf (drop at s) ≡ drop k (linesOf s)) where
-    first-of : nth (linesOf s) k ≡ nth (linesOf (drop at s)) 0
-    first-of = sym (ap (λ (l : List (List ℕ)). nth l 0) f ∙ getD-drop k (linesOf s) 0 [] ∙ ap (λ (m : ℕ). nth (linesOf s) m) z)
-      where
-        z : k + 0 ≡ k
-        z = omega arith
+-- the first line
+module _ (s : List ℕ) (n : ℕ) (e : n ≡ length (until (is 0x0A) s)) where
+  pub first-none : n ≡ length s → take (length s - n) (drop n s) ≡ nth (linesOf s) 0
+  first-none h = rw (none s (sym e ∙ h)) (rest-is s n ∙ over s n (omega arith))
 
-    pub line-none : n ≡ length (take (length s - at) (drop at s))
-        → take (length (take (length s - at) (drop at s)) - n) (drop n (take (length s - at) (drop at s))) ≡ nth (linesOf s) k
-    line-none h =
-        rest-is (take (length s - at) (drop at s)) n
-        ∙ drop-of-length-le (take (length s - at) (drop at s)) {i = n} (omega arith) ∙ sym (first-of ∙ ap (λ (l : List (List ℕ)). nth l 0) (found-none h))
-
-    pub line-some : (n ≡ length (take (length s - at) (drop at s)) → ⊥) → take n (take (length s - at) (drop at s)) ≡ nth (linesOf s) k
-    line-some h = ap (take n) (rest-is s at) ∙ sym (first-of ∙ ap (λ (l : List (List ℕ)). nth l 0) (found-some h))
-
--- a part of a part is no longer than the whole
-pub tail-short : (s : List ℕ) (at n : ℕ) → length (take (length (take (length s - at) (drop at s)) - n) (drop n (take (length s - at) (drop at s)))) ≤ length s
-tail-short s at n = simp (length-take, length-drop) (omega arith)
-
-pub front-short : (s : List ℕ) (at n : ℕ) → length (take n (take (length s - at) (drop at s))) ≤ length s
-front-short s at n = simp (length-take, length-drop) (omega arith)
-
-pub past-short : (s t : List ℕ) (n : ℕ) → length t ≤ length s → length (take (length t - n) (drop n t)) ≤ length s
-past-short s t n h = simp (length-take, length-drop) (omega arith)
-
-pub skip-goes : (s : List ℕ) (at r i : ℕ) → linesOf (drop at s) ≡ drop i (linesOf s) → linesOf (drop r s) ≡ drop 1 (linesOf (drop at s)) → linesOf (drop r s) ≡ drop (i + 1) (linesOf s)
-skip-goes s at r i e f = f ∙ ap (drop 1) e ∙ drop-drop 1 i (linesOf s)
-
-pub skip-ends : (s : List ℕ) (at i n : ℕ) → linesOf (drop at s) ≡ drop i (linesOf s) → i ≤ n → n ≤ i → linesOf (drop at s) ≡ drop n (linesOf s)
-skip-ends s at i n e h g = let z : i ≡ n = omega arith in e ∙ ap (λ (k : ℕ). drop k (linesOf s)) z
+  pub first-some : n ≤ length s → (n ≡ length s → ⊥) → take n s ≡ nth (linesOf s) 0
+  first-some w h = rw (some s (omega (arith, e)), ← e)
 
 -- ---- the places of a group's lines
+-- none found yet
 pub cut-start : (s at : List ℕ) → length at ≡ 11 → getD at 0 0 ≡ 0 → Cut 0 s at
-cut-start s at n e = record { size = n; within = λ k w. only k w (λ (m : ℕ). getD at m 0 ≤ length s) (omega (arith, e)); from = λ k w. only k w (λ (m : ℕ). linesOf (drop (getD at m 0) s) ≡ drop m (linesOf s)) (rw e); next = λ k w. absurd (omega arith) }
+cut-start s at n e =
+    record {
+      size = n;
+      start = e;
+      within = λ k w. only k w (λ (m : ℕ). getD at m 0 ≤ length s) (omega (arith, e));
+      from = λ k w. only k w (λ (m : ℕ). linesOf (drop (getD at m 0) s) ≡ drop m (linesOf s)) (rw e);
+      next = λ k w. absurd (omega arith);
+    }
   where
     only : (k : ℕ) → k ≤ 0 → (P : ℕ → Type 0) → P 0 → P k
     only k w P p = let z : 0 ≡ k = omega arith in subst P z p
 
-module _ (s at : List ℕ) (i r : ℕ) (c : Cut i s at) (h : i < 10) (e : r ≡ behind (linesOf (drop (getD at i 0) s)) (getD at i 0)) (f : linesOf (drop r s) ≡ drop 1 (linesOf (drop (getD at i 0) s))) (g : r ≤ length s) where
-  new : getD (set at (i + 1) r) (i + 1) 0 ≡ r
+-- a fact of every number up to m, by its last
+up-to : (P : ℕ → Type 0) (m k : ℕ) → k < m + 1 → (k < m → P k) → P m → P k
+up-to P m k w p q = cases (eqb k m) (λ b. subst P (sym (eqb-true k m b)) q) (λ b. p (less (λ z. never (sym (eq-eqb k m z) ∙ b))))
+  where
+    less : (k ≡ m → ⊥) → k < m
+    less z = omega arith
+
+-- one more: the place r behind the line at the last
+module _ (s at : List ℕ) (i r : ℕ) (c : Cut i s at) (h : i < 10)
+    (e : r ≡ behind (linesOf (drop (getD at i 0) s)) (getD at i 0))
+    (f : linesOf (drop r s) ≡ drop 1 (linesOf (drop (getD at i 0) s)))
+    (g : r ≤ length s) where
+  abbrev more : List ℕ
+  more = set at (i + 1) r
+
+  new : getD more (i + 1) 0 ≡ r
   new = getD-set-same at (i + 1) r 0 (omega (arith, c .size))
 
-  old : (k : ℕ) → k ≤ i → getD (set at (i + 1) r) k 0 ≡ getD at k 0
+  old : (k : ℕ) → k ≤ i → getD more k 0 ≡ getD at k 0
   old k w = getD-set-other at (i + 1) k r 0 (λ q. absurd (omega arith))
 
-  up-to : (P : ℕ → Type 0) (m k : ℕ) → k < m + 1 → (k < m → P k) → P m → P k
-  up-to P m k w p q = cases (eqb k m) (λ b. subst P (sym (eqb-true k m b)) q) (λ b. p (less (λ z. never (sym (eq-eqb k m z) ∙ b))))
-    where
-      less : (k ≡ m → ⊥) → k < m
-      less z = omega arith
+  more-within : (k : ℕ) → k ≤ i + 1 → getD more k 0 ≤ length s
+  more-within k w =
+      up-to (λ (m : ℕ). getD more m 0 ≤ length s) (i + 1) k (omega arith)
+      (λ v. rw (old k (omega arith)) (c .within k (omega arith)))
+      (rw new g)
+
+  more-from : (k : ℕ) → k ≤ i + 1 → linesOf (drop (getD more k 0) s) ≡ drop k (linesOf s)
+  more-from k w =
+      up-to (λ (m : ℕ). linesOf (drop (getD more m 0) s) ≡ drop m (linesOf s)) (i + 1) k (omega arith)
+      (λ v. rw (old k (omega arith)) (c .from k (omega arith)))
+      (rw new (f ∙ ap (drop 1) (c .from i (omega arith)) ∙ drop-drop 1 i (linesOf s)))
+
+  more-next : (k : ℕ) → k < i + 1 → getD more (k + 1) 0 ≡ behind (drop k (linesOf s)) (getD more k 0)
+  more-next k w =
+      up-to (λ (m : ℕ). getD more (m + 1) 0 ≡ behind (drop m (linesOf s)) (getD more m 0)) i k w
+      (λ v. rw (old k (omega arith), old (k + 1) (omega arith)) (c .next k v))
+      (rw (new, old i (omega arith), ← c .from i (omega arith)) e)
 
   pub cut-on : Cut (i + 1) s (set at (i + 1) r)
-  cut-on = record { size = length-set at (i + 1) r ∙ c .size; within = λ k w. up-to (λ (m : ℕ). getD (set at (i + 1) r) m 0 ≤ length s) (i + 1) k (omega arith) (λ v. rw (old k (omega arith)) (c .within k (omega arith))) (rw new g); from = λ k w. up-to (λ (m : ℕ). linesOf (drop (getD (set at (i + 1) r) m 0) s) ≡ drop m (linesOf s)) (i + 1) k (omega arith) (λ v. rw (old k (omega arith)) (c .from k (omega arith))) (rw new (skip-goes s (getD at i 0) r i (c .from i (omega arith)) f)); next = λ k w. up-to (λ (m : ℕ). getD (set at (i + 1) r) (m + 1) 0 ≡ behind (drop m (linesOf s)) (getD (set at (i + 1) r) m 0)) i k w (λ v. rw (old k (omega arith), old (k + 1) (omega arith)) (c .next k v)) (rw (new, old i (omega arith), ← c .from i (omega arith)) e) }
+  cut-on = record { size = length-set at (i + 1) r ∙ c .size; start = old 0 (omega arith) ∙ c .start; within = more-within; from = more-from; next = more-next }
 
-pub cut-place : (s at : List ℕ) (i k : ℕ) → Cut i s at → k ≤ i → getD at k 0 ≤ length s
-cut-place s at i k c h = c .within k h
+-- the last place found is one of the text; ten are all
+pub cut-place : (s at : List ℕ) (i : ℕ) → Cut i s at → getD at i 0 ≤ length s
+cut-place s at i c = c .within i (omega arith)
 
 pub cut-ends : (s at : List ℕ) (i : ℕ) → Cut i s at → i ≤ 10 → 10 ≤ i → Cut 10 s at
 cut-ends s at i c h g = let z : i ≡ 10 = omega arith in subst (λ (m : ℕ). Cut m s at) z c
+
+-- the k-th line, between its place and its 0A
+module _ (s at : List ℕ) (k : ℕ) (c : Cut 10 s at) (h : k < 10) where
+  nth-first : nth (drop k (linesOf s)) 0 ≡ nth (linesOf s) k
+  nth-first = getD-drop k (linesOf s) 0 [] ∙ (let z : k + 0 ≡ k = omega arith in ap (λ (m : ℕ). nth (linesOf s) m) z)
+
+  pub line-starts : getD at k 0 ≤ length s
+  line-starts = c .within k (omega arith)
+
+  pub line-room : getD at (k + 1) 0 - 1 ≤ length s
+  line-room = omega (arith, c .within (k + 1) (omega arith))
+
+  pub line-missing : getD at (k + 1) 0 ≡ getD at k 0 → take (getD at k 0 - getD at k 0) (drop (getD at k 0) s) ≡ nth (linesOf s) k
+  unfolding behind
+  line-missing e = ap (λ (n : ℕ). take n (drop (getD at k 0) s)) z ∙ gone (drop k (linesOf s)) (c .next k h) ∙ nth-first
+    where
+      z : getD at k 0 - getD at k 0 ≡ 0
+      z = omega arith
+
+      gone : (ls : List (List ℕ)) → getD at (k + 1) 0 ≡ behind ls (getD at k 0) → [] ≡ nth ls 0
+      gone [] q = refl
+      gone (l ∷ ls) q = absurd (omega (arith, e, q))
+
+  module _ (e : getD at (k + 1) 0 ≡ getD at k 0 → ⊥) where
+    between : (ls : List (List ℕ)) → linesOf (drop (getD at k 0) s) ≡ ls → getD at (k + 1) 0 ≡ behind ls (getD at k 0) → (getD at k 0 < getD at (k + 1) 0) × (take (getD at (k + 1) 0 - 1 - getD at k 0) (drop (getD at k 0) s) ≡ nth ls 0)
+    unfolding behind
+    between [] f q = absurd (e q)
+    between (l ∷ ls) f q = (omega (arith, q), (let z : getD at (k + 1) 0 - 1 - getD at k 0 ≡ length l = omega (arith, q) in rw z (line-front (drop (getD at k 0) s) l ls f)))
+
+    apart : getD at k 0 < getD at (k + 1) 0
+    apart = between (drop k (linesOf s)) (c .from k (omega arith)) (c .next k h) .0
+
+    pub line-ended : 1 ≤ getD at (k + 1) 0
+    line-ended = omega (arith, apart)
+
+    pub line-ends : getD at k 0 ≤ getD at (k + 1) 0 - 1
+    line-ends = omega (arith, apart)
+
+    pub line-between : take (getD at (k + 1) 0 - 1 - getD at k 0) (drop (getD at k 0) s) ≡ nth (linesOf s) k
+    line-between = between (drop k (linesOf s)) (c .from k (omega arith)) (c .next k h) .1 ∙ nth-first
+
+-- a part is no longer than the whole
+pub part-short : (s : List ℕ) (a n : ℕ) → length (take n (drop a s)) ≤ length s
+part-short s a n = simp (length-take, length-drop) (omega arith)
 
 -- ---- a key
 starts-front : (key t : List ℕ) → length key ≤ length t → same (take (length key) t) key ≡ starts key t
@@ -182,30 +241,30 @@ first-is a b x r e h = cc
 pub link : (r x y w : Verdict) → r ≡ andThen x w → x ≡ y → r ≡ andThen y w
 link r x y w e f = e ∙ ap (λ (v : Verdict). andThen v w) f
 
--- ---- one line, found as t
-module _ (before : Verdict) (k : ℕ) (key : List ℕ) (good : Bool) (l t : List ℕ) (q : Bool) (r : Verdict) (e : t ≡ l) (f : q ≡ starts key t) where
+-- ---- one line
+module _ (before : Verdict) (k : ℕ) (key : List ℕ) (good : Bool) (t : List ℕ) (q : Bool) (r : Verdict) (f : q ≡ starts key t) where
   pub key-room : not q ≡ false → length key ≤ length t
   key-room h = starts-within key t (sym f ∙ not-false q h)
 
-  pub line-key : not q ≡ true → r ≡ andThen before (Key k) → r ≡ andThen before (lineAs k key good l)
+  pub line-key : not q ≡ true → r ≡ andThen before (Key k) → r ≡ andThen before (lineAs k key good t)
   unfolding lineAs
-  line-key h g = g ∙ rw (← e, ← f, not-true q h)
+  line-key h g = g ∙ rw (← f, not-true q h)
 
   module _ (u : Bool) (n : u ≡ same (take (length t - length key) (drop (length key) t)) (34 ∷ 34 ∷ [])) (h : not q ≡ false) where
     null : same (drop (length key) t) (34 ∷ 34 ∷ []) ≡ u
     null = sym (n ∙ ap (λ (v : List ℕ). same v (34 ∷ 34 ∷ [])) (rest-is t (length key)))
 
-    pub line-null : u ≡ true → r ≡ andThen before (Value k) → r ≡ andThen before (lineAs k key good l)
+    pub line-null : u ≡ true → r ≡ andThen before (Value k) → r ≡ andThen before (lineAs k key good t)
     unfolding lineAs bytes
-    line-null j g = g ∙ rw (← e, ← f, not-false q h, null, j)
+    line-null j g = g ∙ rw (← f, not-false q h, null, j)
 
-    pub line-bad : u ≡ false → not good ≡ true → r ≡ andThen before (Value k) → r ≡ andThen before (lineAs k key good l)
+    pub line-bad : u ≡ false → not good ≡ true → r ≡ andThen before (Value k) → r ≡ andThen before (lineAs k key good t)
     unfolding lineAs bytes
-    line-bad j b g = g ∙ rw (← e, ← f, not-false q h, null, j, not-true good b)
+    line-bad j b g = g ∙ rw (← f, not-false q h, null, j, not-true good b)
 
-    pub line-good : u ≡ false → not good ≡ false → r ≡ andThen before Fine → r ≡ andThen before (lineAs k key good l)
+    pub line-good : u ≡ false → not good ≡ false → r ≡ andThen before Fine → r ≡ andThen before (lineAs k key good t)
     unfolding lineAs bytes
-    line-good j b g = g ∙ rw (← e, ← f, not-false q h, null, j, not-false good b)
+    line-good j b g = g ∙ rw (← f, not-false q h, null, j, not-false good b)
 
 pub keeps-is : (f : Fault) (x : ℕ) (r : Bool) → r ≡ fineOf f → faultNo f ≡ x → r ≡ eqb x 0
 keeps-is f x r e h =
@@ -223,19 +282,19 @@ module _ (place : Place) (v : List ℕ) where
   pub fits-may : (r : Coded) (q : Bool) → place ≡ May r → q ≡ fits false (ruleOf r) v → q ≡ fitsPlace place v
   fits-may r q e h = rw e h
 
-module _ (before r : Verdict) (k : ℕ) (key l v : List ℕ) (good : Bool) (place : Place) (e : v ≡ drop (length key) l) (f : good ≡ fitsPlace place v) where
-  pub line-is : r ≡ andThen before (lineAs k key good l) → r ≡ andThen before (lineAs k key (fitsPlace place (drop (length key) l)) l)
-  line-is g = g ∙ ap (λ (b : Bool). andThen before (lineAs k key b l)) (f ∙ ap (fitsPlace place) e)
+module _ (before r : Verdict) (k : ℕ) (key l t v : List ℕ) (good : Bool) (place : Place) (d : t ≡ l) (e : v ≡ drop (length key) t) (f : good ≡ fitsPlace place v) where
+  pub line-is : r ≡ andThen before (lineAs k key good t) → r ≡ andThen before (lineAs k key (fitsPlace place (drop (length key) l)) l)
+  line-is g = rw (← d, ← e, ← f) g
 
-  pub line-if-is : (also : Bool) → r ≡ andThen before (lineAs k key (good && also) l) → r ≡ andThen before (lineAs k key (fitsPlace place (drop (length key) l) && also) l)
-  line-if-is also g = g ∙ ap (λ (b : Bool). andThen before (lineAs k key (b && also) l)) (f ∙ ap (fitsPlace place) e)
+  pub line-if-is : (also : Bool) → r ≡ andThen before (lineAs k key (good && also) t) → r ≡ andThen before (lineAs k key (fitsPlace place (drop (length key) l) && also) l)
+  line-if-is also g = rw (← d, ← e, ← f) g
 
--- the values of a line behind its key
-pub value-none : (t l : List ℕ) (n : ℕ) → t ≡ l → length t < n → take (length t - length t) (drop (length t) t) ≡ drop n l
-value-none t l n e h = rest-is t (length t) ∙ over t (length t) (omega arith) ∙ rw (← e) (sym (over t n (omega arith)))
+-- what stands behind a key, and where the line ends within it
+pub value-none : (t : List ℕ) (n : ℕ) → length t < n → take (length t - length t) (drop (length t) t) ≡ drop n t
+value-none t n h = rest-is t (length t) ∙ over t (length t) (omega arith) ∙ sym (over t n (omega arith))
 
-pub value-some : (t l : List ℕ) (n : ℕ) → t ≡ l → take (length t - n) (drop n t) ≡ drop n l
-value-some t l n e = rest-is t n ∙ ap (drop n) e
+pub value-is : (r t l : List ℕ) (n : ℕ) → r ≡ drop n t → t ≡ l → r ≡ drop n l
+value-is r t l n e f = e ∙ ap (drop n) f
 
 -- ---- "version is 1"
 version-one : (fits true (text 1) (49 ∷ []) && same (49 ∷ []) (49 ∷ [])) ≡ fits true (words "1") (49 ∷ [])

@@ -27,6 +27,7 @@ behind (l ∷ ls) p = p + length l + 1
 -- at holds the places of the first n lines of s and the place behind each; eleven places, for no group has more than ten lines
 pub record Cut (n : ℕ) (s at : List ℕ) : Type 0 where
   pub size : length at ≡ 11
+  pub start : getD at 0 0 ≡ 0
   pub within : (k : ℕ) → k ≤ n → getD at k 0 ≤ length s
   pub from : (k : ℕ) → k ≤ n → linesOf (drop (getD at k 0) s) ≡ drop k (linesOf s)
   pub next : (k : ℕ) → k < n → getD at (k + 1) 0 ≡ behind (drop k (linesOf s)) (getD at k 0)

@@ -78,20 +78,6 @@ pub fn cut(s: &[u8]) -> [usize; 11]
     at
 }
 
-// The place behind n lines.
-pub fn skip_lines(s: &[u8], n: usize) -> usize
-    ensures { λ r. ⌜ linesOf (drop r (now (s .entry))) ≡ drop n (linesOf (now (s .entry))) ⌝ }
-    ensures within { λ r. ⌜ r ≤ length (now (s .entry)) ⌝ }
-{
-    let mut at = 0;
-    let mut i = 0;
-    while i < n {
-        at = next_line(s, at);
-        i += 1;
-    }
-    at
-}
-
 // Whether a line stands at a place.
 pub fn has_line(s: &[u8], at: usize) -> bool
     requires { ⌜ at ≤ length (now s) ⌝ }
@@ -102,24 +88,34 @@ pub fn has_line(s: &[u8], at: usize) -> bool
     n != rest.len()
 }
 
-// The k-th line, from 0; empty where there are fewer.
-fn walked_line(s: &[u8], k: usize) -> &[u8]
-    ensures { λ r. ⌜ (now r ≡ nth (linesOf (now (s .entry))) k) × (length (now r) ≤ length (now (s .entry))) ⌝ }
+// The first line; empty where there is none.
+fn first_line(s: &[u8]) -> &[u8]
+    ensures { λ r. ⌜ now r ≡ nth (linesOf (now (s .entry))) 0 ⌝ }
 {
-    let at = skip_lines(s, k);
-    let rest = &s[at..];
-    let n = value::before(rest, 0x0A);
-    if n == rest.len() {
-        return &rest[n..];
+    let n = value::before(s, 0x0A);
+    if n == s.len() {
+        return &s[n..];
     }
-    &rest[..n]
+    &s[..n]
 }
 
-// What stands in it behind n bytes, those of its key.
-fn walked_value(s: &[u8], k: usize, n: usize) -> &[u8]
-    ensures { λ r. ⌜ (now r ≡ drop n (nth (linesOf (now (s .entry))) k)) × (length (now r) ≤ length (now (s .entry))) ⌝ }
+// The k-th line of a group, from 0; empty where there are fewer.
+fn line_at<'a>(s: &'a [u8], at: &[usize; 11], k: usize) -> &'a [u8]
+    requires { ⌜ Cut 10 (now s) (now at) × (k < 10) ⌝ }
+    ensures { λ r. ⌜ (now r ≡ nth (linesOf (now (s .entry))) k) × (length (now r) ≤ length (now (s .entry))) ⌝ }
 {
-    let t = walked_line(s, k);
+    let start = at[k];
+    let end = at[k + 1];
+    if end == start {
+        return &s[start..start];
+    }
+    &s[start..end - 1]
+}
+
+// What stands in a line behind n bytes, those of its key.
+fn behind_key(t: &[u8], n: usize) -> &[u8]
+    ensures { λ r. ⌜ (now r ≡ drop n (now (t .entry))) × (length (now r) ≤ length (now (t .entry))) ⌝ }
+{
     let len = t.len();
     if len < n {
         return &t[len..];
@@ -127,12 +123,12 @@ fn walked_value(s: &[u8], k: usize, n: usize) -> &[u8]
     &t[n..]
 }
 
-// What stands in the k-th line behind n bytes, those of its key.
+// The value of the k-th line of a group, whose key has n bytes.
 pub fn value_at<'a>(s: &'a [u8], at: &[usize; 11], k: usize, n: usize) -> &'a [u8]
     requires { ⌜ Cut 10 (now s) (now at) × (k < 10) ⌝ }
     ensures { λ r. ⌜ (now r ≡ drop n (nth (linesOf (now (s .entry))) k)) × (length (now r) ≤ length (now (s .entry))) ⌝ }
 {
-    walked_value(s, k, n)
+    behind_key(line_at(s, at, k), n)
 }
 
 fn starts(key: &[u8], t: &[u8]) -> bool
@@ -147,10 +143,10 @@ fn starts(key: &[u8], t: &[u8]) -> bool
 
 // ---- one line judged, after those before it
 
-fn judged(before: Verdict, s: &[u8], k: usize, key: &[u8], good: bool) -> Verdict
-    ensures { λ r. ⌜ r ≡ andThen before (lineAs k (now (key .entry)) good (nth (linesOf (now (s .entry))) k)) ⌝ }
+// The line t, the k-th of its group, where good says that its value keeps its rule.
+fn judged(before: Verdict, k: usize, t: &[u8], key: &[u8], good: bool) -> Verdict
+    ensures { λ r. ⌜ r ≡ andThen before (lineAs k (now (key .entry)) good (now (t .entry))) ⌝ }
 {
-    let t = walked_line(s, k);
     if !starts(key, t) {
         return first(before, Verdict::Key(k));
     }
@@ -182,51 +178,76 @@ fn keeps_place(v: &[u8], place: Place) -> bool
     }
 }
 
-fn line(before: Verdict, s: &[u8], k: usize, key: &[u8], place: Place) -> Verdict
+// The k-th line of a group, whose value has the rule of a place.
+fn line(before: Verdict, s: &[u8], at: &[usize; 11], k: usize, key: &[u8], place: Place) -> Verdict
+    requires { ⌜ Cut 10 (now s) (now at) × (k < 10) ⌝ }
     ensures { λ r. ⌜ r ≡ andThen before (lineAs k (now (key .entry)) (fitsPlace place (drop (length (now (key .entry))) (nth (linesOf (now (s .entry))) k))) (nth (linesOf (now (s .entry))) k)) ⌝ }
 {
-    let v = walked_value(s, k, key.len());
-    judged(before, s, k, key, keeps_place(v, place))
+    let t = line_at(s, at, k);
+    let v = behind_key(t, key.len());
+    judged(before, k, t, key, keeps_place(v, place))
 }
 
 // The same, where something else must hold too.
-fn line_if(before: Verdict, s: &[u8], k: usize, key: &[u8], place: Place, also: bool) -> Verdict
+fn line_if(
+    before: Verdict,
+    s: &[u8],
+    at: &[usize; 11],
+    k: usize,
+    key: &[u8],
+    place: Place,
+    also: bool,
+) -> Verdict
+    requires { ⌜ Cut 10 (now s) (now at) × (k < 10) ⌝ }
     ensures { λ r. ⌜ r ≡ andThen before (lineAs k (now (key .entry)) (fitsPlace place (drop (length (now (key .entry))) (nth (linesOf (now (s .entry))) k)) && also) (nth (linesOf (now (s .entry))) k)) ⌝ }
 {
-    let v = walked_value(s, k, key.len());
-    judged(before, s, k, key, keeps_place(v, place) & also)
+    let t = line_at(s, at, k);
+    let v = behind_key(t, key.len());
+    judged(before, k, t, key, keeps_place(v, place) & also)
 }
 
 // ---- the groups
 
-fn visit(s: &[u8]) -> Verdict
+fn visit(s: &[u8], at: &[usize; 11]) -> Verdict
+    requires { ⌜ Cut 10 (now s) (now at) ⌝ }
     ensures { λ r. ⌜ r ≡ groupVerdict Name.Pv1 (linesOf (now (s .entry))) ⌝ }
 {
-    line(Verdict::Fine, s, 0, b"class=", table::CLASS)
+    line(Verdict::Fine, s, at, 0, b"class=", table::CLASS)
 }
 
-fn specimen(s: &[u8]) -> Verdict
+fn specimen(s: &[u8], at: &[usize; 11]) -> Verdict
+    requires { ⌜ Cut 10 (now s) (now at) ⌝ }
     ensures { λ r. ⌜ r ≡ groupVerdict Name.Spm (linesOf (now (s .entry))) ⌝ }
 {
-    let kind = line(Verdict::Fine, s, 0, b"specimen=", table::SPECIMEN);
-    line(kind, s, 1, b"collected=", table::COLLECTED)
+    let kind = line(Verdict::Fine, s, at, 0, b"specimen=", table::SPECIMEN);
+    line(kind, s, at, 1, b"collected=", table::COLLECTED)
 }
 
-fn order(s: &[u8]) -> Verdict
+fn order(s: &[u8], at: &[usize; 11]) -> Verdict
+    requires { ⌜ Cut 10 (now s) (now at) ⌝ }
     ensures { λ r. ⌜ r ≡ groupVerdict Name.Obr (linesOf (now (s .entry))) ⌝ }
 {
-    let id = line(Verdict::Fine, s, 0, b"order=", table::ORDER);
-    line(id, s, 1, b"group=", table::GROUP)
+    let id = line(Verdict::Fine, s, at, 0, b"order=", table::ORDER);
+    line(id, s, at, 1, b"group=", table::GROUP)
 }
 
-fn header(s: &[u8]) -> Verdict
+fn header(s: &[u8], at: &[usize; 11]) -> Verdict
+    requires { ⌜ Cut 10 (now s) (now at) ⌝ }
     ensures { λ r. ⌜ r ≡ groupVerdict Name.Msh (linesOf (now (s .entry))) ⌝ }
 {
-    let one = value::equal(walked_value(s, 0, 8), b"1");
-    let version = line_if(Verdict::Fine, s, 0, b"version=", Must(Rule::Text(1)), one);
-    let mode = line(version, s, 1, b"mode=", table::MODE);
-    let sent = line(mode, s, 2, b"sent=", table::SENT);
-    line(sent, s, 3, b"control=", table::CONTROL)
+    let one = value::equal(value_at(s, at, 0, 8), b"1");
+    let version = line_if(
+        Verdict::Fine,
+        s,
+        at,
+        0,
+        b"version=",
+        Must(Rule::Text(1)),
+        one,
+    );
+    let mode = line(version, s, at, 1, b"mode=", table::MODE);
+    let sent = line(mode, s, at, 2, b"sent=", table::SENT);
+    line(sent, s, at, 3, b"control=", table::CONTROL)
 }
 
 // "A blank kanafamily needs a blank kanagiven".
@@ -236,17 +257,18 @@ fn kana_fits(family: &[u8], given: &[u8]) -> bool
     (family.len() != 0) | (given.len() == 0)
 }
 
-fn patient(s: &[u8]) -> Verdict
+fn patient(s: &[u8], at: &[usize; 11]) -> Verdict
+    requires { ⌜ Cut 10 (now s) (now at) ⌝ }
     ensures { λ r. ⌜ r ≡ groupVerdict Name.Pid (linesOf (now (s .entry))) ⌝ }
 {
-    let also = kana_fits(walked_value(s, 3, 11), walked_value(s, 4, 10));
-    let id = line(Verdict::Fine, s, 0, b"patient=", table::PATIENT);
-    let family = line(id, s, 1, b"family=", Must(table::NAME));
-    let given = line(family, s, 2, b"given=", May(table::NAME));
-    let kana_family = line(given, s, 3, b"kanafamily=", May(table::NAME));
-    let kana_given = line_if(kana_family, s, 4, b"kanagiven=", May(table::NAME), also);
-    let birth = line(kana_given, s, 5, b"birth=", table::BIRTH);
-    line(birth, s, 6, b"sex=", table::SEX)
+    let also = kana_fits(value_at(s, at, 3, 11), value_at(s, at, 4, 10));
+    let id = line(Verdict::Fine, s, at, 0, b"patient=", table::PATIENT);
+    let family = line(id, s, at, 1, b"family=", Must(table::NAME));
+    let given = line(family, s, at, 2, b"given=", May(table::NAME));
+    let kana_family = line(given, s, at, 3, b"kanafamily=", May(table::NAME));
+    let kana_given = line_if(kana_family, s, at, 4, b"kanagiven=", May(table::NAME), also);
+    let birth = line(kana_given, s, at, 5, b"birth=", table::BIRTH);
+    line(birth, s, at, 6, b"sex=", table::SEX)
 }
 
 // ---- OBX-5
@@ -312,32 +334,42 @@ fn agrees(status: &[u8], compare: &[u8], value: &[u8], join: &[u8], second: &[u8
     value::agrees(status, value.len() != 0, parts)
 }
 
-fn result(s: &[u8]) -> Verdict
+fn result(s: &[u8], at: &[usize; 11]) -> Verdict
+    requires { ⌜ Cut 10 (now s) (now at) ⌝ }
     ensures { λ r. ⌜ r ≡ groupVerdict Name.Obx (linesOf (now (s .entry))) ⌝ }
 {
-    let kind = walked_value(s, 2, 5);
-    let compare = walked_value(s, 3, 8);
-    let value = walked_value(s, 4, 6);
-    let join = walked_value(s, 5, 5);
-    let second = walked_value(s, 6, 7);
-    let met = agrees(walked_value(s, 9, 7), compare, value, join, second);
-    let item = line(Verdict::Fine, s, 0, b"item=", table::ITEM);
-    let name = line(item, s, 1, b"name=", table::ITEM_NAME);
-    let to_type = line(name, s, 2, b"type=", table::TYPE);
-    let to_compare = line_if(to_type, s, 3, b"compare=", May(compare_rule(kind)), true);
-    let to_value = line_if(to_compare, s, 4, b"value=", May(value_rule(kind)), true);
-    let to_join = line_if(to_value, s, 5, b"join=", May(join_rule(kind)), true);
+    let kind = value_at(s, at, 2, 5);
+    let compare = value_at(s, at, 3, 8);
+    let value = value_at(s, at, 4, 6);
+    let join = value_at(s, at, 5, 5);
+    let second = value_at(s, at, 6, 7);
+    let met = agrees(value_at(s, at, 9, 7), compare, value, join, second);
+    let item = line(Verdict::Fine, s, at, 0, b"item=", table::ITEM);
+    let name = line(item, s, at, 1, b"name=", table::ITEM_NAME);
+    let to_type = line(name, s, at, 2, b"type=", table::TYPE);
+    let to_compare = line_if(
+        to_type,
+        s,
+        at,
+        3,
+        b"compare=",
+        May(compare_rule(kind)),
+        true,
+    );
+    let to_value = line_if(to_compare, s, at, 4, b"value=", May(value_rule(kind)), true);
+    let to_join = line_if(to_value, s, at, 5, b"join=", May(join_rule(kind)), true);
     let to_second = line_if(
         to_join,
         s,
+        at,
         6,
         b"second=",
         May(second_rule(kind)),
         joined(compare, value, join, second),
     );
-    let unit = line(to_second, s, 7, b"unit=", table::UNIT);
-    let flag = line(unit, s, 8, b"flag=", table::FLAG);
-    line_if(flag, s, 9, b"status=", table::STATUS, met)
+    let unit = line(to_second, s, at, 7, b"unit=", table::UNIT);
+    let flag = line(unit, s, at, 8, b"flag=", table::FLAG);
+    line_if(flag, s, at, 9, b"status=", table::STATUS, met)
 }
 
 pub fn group(name: Name, s: &[u8], at: &[usize; 11]) -> Verdict
@@ -345,13 +377,13 @@ pub fn group(name: Name, s: &[u8], at: &[usize; 11]) -> Verdict
     ensures { λ r. ⌜ r ≡ groupVerdict name (linesOf (now (s .entry))) ⌝ }
 {
     match name {
-        Name::Msh => header(s),
-        Name::Pid => patient(s),
-        Name::Pv1 => visit(s),
-        Name::Spm => specimen(s),
-        Name::Obr => order(s),
+        Name::Msh => header(s, at),
+        Name::Pid => patient(s, at),
+        Name::Pv1 => visit(s, at),
+        Name::Spm => specimen(s, at),
+        Name::Obr => order(s, at),
         Name::Orc => Verdict::Fine,
-        Name::Obx => result(s),
+        Name::Obx => result(s, at),
         Name::Other => Verdict::Fine,
     }
 }
@@ -369,7 +401,7 @@ pub fn next_group(name: Name, s: &[u8]) -> Name
         Name::Spm => Name::Obr,
         Name::Obr => Name::Obx,
         Name::Orc => Name::Obx,
-        Name::Obx => after_result(walked_line(s, 0)),
+        Name::Obx => after_result(first_line(s)),
     }
 }
 

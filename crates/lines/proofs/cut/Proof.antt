@@ -1,7 +1,6 @@
+-- `lines::cut` meets its contract. The loop: the places of the lines passed are found. Assumes nothing.
 use borrow.Author.Needs.{needs}
-use native.Mathlib.Omega.{arith}
-use Prim.Native.Nat.{ℕ, _+_, _-_, _≤_, _<_}
-use lib.ListN.{length}
+use Prim.Native.Nat.{_-_, _≤_}
 use Rattle.lines.specs.Lines.{Cut}
 use Rattle.lines.proofs.Laws.{cut-start, cut-on, cut-ends, cut-place}
 use Rattle.lines.proofs.cut.Statement.{statement}

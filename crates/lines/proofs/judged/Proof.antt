@@ -1,14 +1,7 @@
 use borrow.Author.Needs.{needs}
-use native.Mathlib.Omega.{arith}
-use Prim.Native.Nat.{ℕ, _+_, _-_, _≤_, _<_}
-use mathlib.Core.Path.{_≡_}
-use lib.ListN.{length, take, drop}
 use Rattle.lines.proofs.Laws.{key-room, line-bad, line-good, line-key, line-null}
 use Rattle.lines.proofs.judged.Statement.{statement}
 use Rattle.lines.proofs.judged.Tie as tie
-
-walked-line-requires : tie.Need-walked-line-requires
-walked-line-requires c κs = search needs
 
 starts-requires : tie.Need-starts-requires
 starts-requires c κs = search needs
@@ -56,7 +49,6 @@ pub judged-spec : {M : Type 1} → statement M
 judged-spec =
     tie.close
     (tie.spec
-    walked-line-requires
     starts-requires
     first-requires
     returns

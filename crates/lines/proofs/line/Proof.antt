@@ -1,14 +1,13 @@
 use borrow.Author.Needs.{needs}
-use native.Mathlib.Omega.{arith}
-use Prim.Native.Nat.{ℕ, _+_, _-_, _≤_, _<_}
-use mathlib.Core.Path.{_≡_}
-use lib.ListN.{length, take, drop}
 use Rattle.lines.proofs.Laws.{line-is}
 use Rattle.lines.proofs.line.Statement.{statement}
 use Rattle.lines.proofs.line.Tie as tie
 
-walked-value-requires : tie.Need-walked-value-requires
-walked-value-requires c κs = search needs
+line-at-requires : tie.Need-line-at-requires
+line-at-requires c κs = search needs
+
+behind-key-requires : tie.Need-behind-key-requires
+behind-key-requires c κs = search needs
 
 keeps-place-requires : tie.Need-keeps-place-requires
 keeps-place-requires c κs = search needs
@@ -20,4 +19,4 @@ returns : tie.Need-returns
 returns c = search (line-is, needs)
 
 pub line-spec : {M : Type 1} → statement M
-line-spec = tie.close (tie.spec walked-value-requires keeps-place-requires judged-requires returns)
+line-spec = tie.close (tie.spec line-at-requires behind-key-requires keeps-place-requires judged-requires returns)

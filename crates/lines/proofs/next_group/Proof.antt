@@ -1,7 +1,3 @@
-use native.Mathlib.Omega.{arith}
-use Prim.Native.Nat.{ℕ, _+_, _-_, _≤_, _<_}
-use mathlib.Core.Path.{_≡_}
-use lib.ListN.{length, take, drop}
 use Rattle.rules.specs.Row.{lines}
 use Rattle.lines.specs.Lines.{nextGroup}
 use Rattle.lines.proofs.Laws.{next-is, next-result}
@@ -33,8 +29,8 @@ enum-told-7 c = search needs
 enum-told-8 : tie.Need-enum-told-8
 enum-told-8 c = search needs
 
-walked-line-requires : tie.Need-walked-line-requires
-walked-line-requires c κs = search needs
+first-line-requires : tie.Need-first-line-requires
+first-line-requires c κs = search needs
 
 after-result-requires : tie.Need-after-result-requires
 after-result-requires c κs = search needs
@@ -83,7 +79,7 @@ next-group-spec =
     enum-told-6
     enum-told-7
     enum-told-8
-    walked-line-requires
+    first-line-requires
     after-result-requires
     returns
     returns-2

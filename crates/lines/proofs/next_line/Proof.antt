@@ -1,7 +1,4 @@
-use native.Mathlib.Omega.{arith}
-use Prim.Native.Nat.{ℕ, _+_, _-_, _≤_, _<_}
-use mathlib.Core.Path.{_≡_}
-use lib.ListN.{length, take, drop}
+-- `lines::next_line` meets its contract. Assumes nothing.
 use Rattle.lines.proofs.Laws.{past-none, past-some, past-within, behind-none, behind-some}
 use borrow.Author.Needs.{needs}
 use Rattle.lines.proofs.next_line.Statement.{statement}

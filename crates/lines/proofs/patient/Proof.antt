@@ -1,17 +1,13 @@
-use native.Mathlib.Omega.{arith}
-use Prim.Native.Nat.{ℕ, _+_, _-_, _≤_, _<_}
-use mathlib.Core.Path.{_≡_}
-use lib.ListN.{length, take, drop}
 use Rattle.lines.proofs.Laws.{patient-is}
 use borrow.Author.Needs.{needs}
 use Rattle.lines.proofs.patient.Statement.{statement}
 use Rattle.lines.proofs.patient.Tie as tie
 
-walked-value-requires : tie.Need-walked-value-requires
-walked-value-requires c κs = search needs
+value-at-requires : tie.Need-value-at-requires
+value-at-requires c κs = search needs
 
-walked-value-requires-2 : tie.Need-walked-value-requires-2
-walked-value-requires-2 c κs = search needs
+value-at-requires-2 : tie.Need-value-at-requires-2
+value-at-requires-2 c κs = search needs
 
 kana-fits-requires : tie.Need-kana-fits-requires
 kana-fits-requires c κs = search needs
@@ -50,23 +46,23 @@ slice-aggregate-line-5 : tie.Need-slice-aggregate-line-5
 slice-aggregate-line-5 c = search needs
 
 line-requires-5 : tie.Need-line-requires-5
-line-requires-5 c κs = search needs
+line-requires-5 c κs = (c .before .before .before .before .before .before .before .before .before .before .before .before .before .before .before .pre, search needs)
 
 slice-aggregate-line-6 : tie.Need-slice-aggregate-line-6
 slice-aggregate-line-6 c = search needs
 
 line-requires-6 : tie.Need-line-requires-6
-line-requires-6 c κs = search needs
+line-requires-6 c κs = (c .before .before .before .before .before .before .before .before .before .before .before .before .before .before .before .before .before .pre, search needs)
 
 returns : tie.Need-returns
-returns c = patient-is _ _ _ _ (c .before .before .before .before .before .before .before .before .before .before .before .before .before .before .before .before .walked-value .ensures .0) (c .before .before .before .before .before .before .before .before .before .before .before .before .before .before .before .walked-value2 .ensures .0) (c .before .before .before .before .before .before .before .before .before .before .before .before .before .before .kana-fits .ensures) _ _ _ _ _ _ _ (c .before .before .before .before .before .before .before .before .before .before .before .before .line .ensures) (c .before .before .before .before .before .before .before .before .before .before .line2 .ensures) (c .before .before .before .before .before .before .before .before .line3 .ensures) (c .before .before .before .before .before .before .line4 .ensures) (c .before .before .before .before .line-if .ensures) (c .before .before .line5 .ensures) (c .line6 .ensures)
+returns c = patient-is _ _ _ _ (c .before .before .before .before .before .before .before .before .before .before .before .before .before .before .before .before .value-at .ensures .0) (c .before .before .before .before .before .before .before .before .before .before .before .before .before .before .before .value-at2 .ensures .0) (c .before .before .before .before .before .before .before .before .before .before .before .before .before .before .kana-fits .ensures) _ _ _ _ _ _ _ (c .before .before .before .before .before .before .before .before .before .before .before .before .line .ensures) (c .before .before .before .before .before .before .before .before .before .before .line2 .ensures) (c .before .before .before .before .before .before .before .before .line3 .ensures) (c .before .before .before .before .before .before .line4 .ensures) (c .before .before .before .before .line-if .ensures) (c .before .before .line5 .ensures) (c .line6 .ensures)
 
 pub patient-spec : {M : Type 1} → statement M
 patient-spec =
     tie.close
     (tie.spec
-    walked-value-requires
-    walked-value-requires-2
+    value-at-requires
+    value-at-requires-2
     kana-fits-requires
     slice-aggregate-line
     line-requires

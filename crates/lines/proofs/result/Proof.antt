@@ -1,29 +1,25 @@
-use native.Mathlib.Omega.{arith}
-use Prim.Native.Nat.{ℕ, _+_, _-_, _≤_, _<_}
-use mathlib.Core.Path.{_≡_}
-use lib.ListN.{length, take, drop}
 use Rattle.lines.proofs.Laws.{result-is}
 use borrow.Author.Needs.{needs}
 use Rattle.lines.proofs.result.Statement.{statement}
 use Rattle.lines.proofs.result.Tie as tie
 
-walked-value-requires : tie.Need-walked-value-requires
-walked-value-requires c κs = search needs
+value-at-requires : tie.Need-value-at-requires
+value-at-requires c κs = search needs
 
-walked-value-requires-2 : tie.Need-walked-value-requires-2
-walked-value-requires-2 c κs = search needs
+value-at-requires-2 : tie.Need-value-at-requires-2
+value-at-requires-2 c κs = search needs
 
-walked-value-requires-3 : tie.Need-walked-value-requires-3
-walked-value-requires-3 c κs = search needs
+value-at-requires-3 : tie.Need-value-at-requires-3
+value-at-requires-3 c κs = search needs
 
-walked-value-requires-4 : tie.Need-walked-value-requires-4
-walked-value-requires-4 c κs = search needs
+value-at-requires-4 : tie.Need-value-at-requires-4
+value-at-requires-4 c κs = search needs
 
-walked-value-requires-5 : tie.Need-walked-value-requires-5
-walked-value-requires-5 c κs = search needs
+value-at-requires-5 : tie.Need-value-at-requires-5
+value-at-requires-5 c κs = search needs
 
-walked-value-requires-6 : tie.Need-walked-value-requires-6
-walked-value-requires-6 c κs = search needs
+value-at-requires-6 : tie.Need-value-at-requires-6
+value-at-requires-6 c κs = search needs
 
 agrees-requires : tie.Need-agrees-requires
 agrees-requires c κs = search needs
@@ -44,7 +40,7 @@ slice-aggregate-line-3 : tie.Need-slice-aggregate-line-3
 slice-aggregate-line-3 c = search needs
 
 line-requires-3 : tie.Need-line-requires-3
-line-requires-3 c κs = search needs
+line-requires-3 c κs = (c .before .before .before .before .before .before .before .before .before .before .before .before .before .pre, search needs)
 
 slice-aggregate-line-if : tie.Need-slice-aggregate-line-if
 slice-aggregate-line-if c = search needs
@@ -53,7 +49,7 @@ compare-rule-requires : tie.Need-compare-rule-requires
 compare-rule-requires c κs = search needs
 
 line-if-requires : tie.Need-line-if-requires
-line-if-requires c κs = search needs
+line-if-requires c κs = (c .before .before .before .before .before .before .before .before .before .before .before .before .before .before .before .before .pre, search needs)
 
 slice-aggregate-line-if-2 : tie.Need-slice-aggregate-line-if-2
 slice-aggregate-line-if-2 c = search needs
@@ -62,7 +58,7 @@ value-rule-requires : tie.Need-value-rule-requires
 value-rule-requires c κs = search needs
 
 line-if-requires-2 : tie.Need-line-if-requires-2
-line-if-requires-2 c κs = search needs
+line-if-requires-2 c κs = (c .before .before .before .before .before .before .before .before .before .before .before .before .before .before .before .before .before .before .before .pre, search needs)
 
 slice-aggregate-line-if-3 : tie.Need-slice-aggregate-line-if-3
 slice-aggregate-line-if-3 c = search needs
@@ -71,7 +67,7 @@ join-rule-requires : tie.Need-join-rule-requires
 join-rule-requires c κs = search needs
 
 line-if-requires-3 : tie.Need-line-if-requires-3
-line-if-requires-3 c κs = search needs
+line-if-requires-3 c κs = (c .before .before .before .before .before .before .before .before .before .before .before .before .before .before .before .before .before .before .before .before .before .before .pre, search needs)
 
 slice-aggregate-line-if-4 : tie.Need-slice-aggregate-line-if-4
 slice-aggregate-line-if-4 c = search needs
@@ -83,39 +79,39 @@ joined-requires : tie.Need-joined-requires
 joined-requires c κs = search needs
 
 line-if-requires-4 : tie.Need-line-if-requires-4
-line-if-requires-4 c κs = search needs
+line-if-requires-4 c κs = (c .before .before .before .before .before .before .before .before .before .before .before .before .before .before .before .before .before .before .before .before .before .before .before .before .before .before .pre, search needs)
 
 slice-aggregate-line-4 : tie.Need-slice-aggregate-line-4
 slice-aggregate-line-4 c = search needs
 
 line-requires-4 : tie.Need-line-requires-4
-line-requires-4 c κs = search needs
+line-requires-4 c κs = (c .before .before .before .before .before .before .before .before .before .before .before .before .before .before .before .before .before .before .before .before .before .before .before .before .before .before .before .before .pre, search needs)
 
 slice-aggregate-line-5 : tie.Need-slice-aggregate-line-5
 slice-aggregate-line-5 c = search needs
 
 line-requires-5 : tie.Need-line-requires-5
-line-requires-5 c κs = search needs
+line-requires-5 c κs = (c .before .before .before .before .before .before .before .before .before .before .before .before .before .before .before .before .before .before .before .before .before .before .before .before .before .before .before .before .before .before .pre, search needs)
 
 slice-aggregate-line-if-5 : tie.Need-slice-aggregate-line-if-5
 slice-aggregate-line-if-5 c = search needs
 
 line-if-requires-5 : tie.Need-line-if-requires-5
-line-if-requires-5 c κs = search needs
+line-if-requires-5 c κs = (c .before .before .before .before .before .before .before .before .before .before .before .before .before .before .before .before .before .before .before .before .before .before .before .before .before .before .before .before .before .before .before .before .pre, search needs)
 
 returns : tie.Need-returns
-returns c = result-is _ _ _ _ _ _ _ _ _ _ _ _ _ (c .before .before .before .before .before .before .before .before .before .before .before .before .before .before .before .before .before .before .before .before .before .before .before .before .before .before .before .before .before .before .before .walked-value .ensures .0) (c .before .before .before .before .before .before .before .before .before .before .before .before .before .before .before .before .before .before .before .before .before .before .before .before .before .before .before .before .before .before .walked-value2 .ensures .0) (c .before .before .before .before .before .before .before .before .before .before .before .before .before .before .before .before .before .before .before .before .before .before .before .before .before .before .before .before .before .walked-value3 .ensures .0) (c .before .before .before .before .before .before .before .before .before .before .before .before .before .before .before .before .before .before .before .before .before .before .before .before .before .before .before .before .walked-value4 .ensures .0) (c .before .before .before .before .before .before .before .before .before .before .before .before .before .before .before .before .before .before .before .before .before .before .before .before .before .before .before .walked-value5 .ensures .0) (c .before .before .before .before .before .before .before .before .before .before .before .before .before .before .before .before .before .before .before .before .before .before .before .before .before .before .walked-value6 .ensures .0) (c .before .before .before .before .before .before .before .before .before .before .before .before .before .before .before .before .before .before .before .before .before .before .before .before .before .agrees .ensures) (c .before .before .before .before .before .before .before .joined .ensures) (c .before .before .before .before .before .before .before .before .before .before .before .before .before .before .before .before .before .compare-rule .ensures) (c .before .before .before .before .before .before .before .before .before .before .before .before .before .before .value-rule .ensures) (c .before .before .before .before .before .before .before .before .before .before .before .join-rule .ensures) (c .before .before .before .before .before .before .before .before .second-rule .ensures) _ _ _ _ _ _ _ _ _ _ (c .before .before .before .before .before .before .before .before .before .before .before .before .before .before .before .before .before .before .before .before .before .before .before .line .ensures) (c .before .before .before .before .before .before .before .before .before .before .before .before .before .before .before .before .before .before .before .before .before .line2 .ensures) (c .before .before .before .before .before .before .before .before .before .before .before .before .before .before .before .before .before .before .before .line3 .ensures) (c .before .before .before .before .before .before .before .before .before .before .before .before .before .before .before .before .line-if .ensures) (c .before .before .before .before .before .before .before .before .before .before .before .before .before .line-if2 .ensures) (c .before .before .before .before .before .before .before .before .before .before .line-if3 .ensures) (c .before .before .before .before .before .before .line-if4 .ensures) (c .before .before .before .before .line4 .ensures) (c .before .before .line5 .ensures) (c .line-if5 .ensures)
+returns c = result-is _ _ _ _ _ _ _ _ _ _ _ _ _ (c .before .before .before .before .before .before .before .before .before .before .before .before .before .before .before .before .before .before .before .before .before .before .before .before .before .before .before .before .before .before .before .value-at .ensures .0) (c .before .before .before .before .before .before .before .before .before .before .before .before .before .before .before .before .before .before .before .before .before .before .before .before .before .before .before .before .before .before .value-at2 .ensures .0) (c .before .before .before .before .before .before .before .before .before .before .before .before .before .before .before .before .before .before .before .before .before .before .before .before .before .before .before .before .before .value-at3 .ensures .0) (c .before .before .before .before .before .before .before .before .before .before .before .before .before .before .before .before .before .before .before .before .before .before .before .before .before .before .before .before .value-at4 .ensures .0) (c .before .before .before .before .before .before .before .before .before .before .before .before .before .before .before .before .before .before .before .before .before .before .before .before .before .before .before .value-at5 .ensures .0) (c .before .before .before .before .before .before .before .before .before .before .before .before .before .before .before .before .before .before .before .before .before .before .before .before .before .before .value-at6 .ensures .0) (c .before .before .before .before .before .before .before .before .before .before .before .before .before .before .before .before .before .before .before .before .before .before .before .before .before .agrees .ensures) (c .before .before .before .before .before .before .before .joined .ensures) (c .before .before .before .before .before .before .before .before .before .before .before .before .before .before .before .before .before .compare-rule .ensures) (c .before .before .before .before .before .before .before .before .before .before .before .before .before .before .value-rule .ensures) (c .before .before .before .before .before .before .before .before .before .before .before .join-rule .ensures) (c .before .before .before .before .before .before .before .before .second-rule .ensures) _ _ _ _ _ _ _ _ _ _ (c .before .before .before .before .before .before .before .before .before .before .before .before .before .before .before .before .before .before .before .before .before .before .before .line .ensures) (c .before .before .before .before .before .before .before .before .before .before .before .before .before .before .before .before .before .before .before .before .before .line2 .ensures) (c .before .before .before .before .before .before .before .before .before .before .before .before .before .before .before .before .before .before .before .line3 .ensures) (c .before .before .before .before .before .before .before .before .before .before .before .before .before .before .before .before .line-if .ensures) (c .before .before .before .before .before .before .before .before .before .before .before .before .before .line-if2 .ensures) (c .before .before .before .before .before .before .before .before .before .before .line-if3 .ensures) (c .before .before .before .before .before .before .line-if4 .ensures) (c .before .before .before .before .line4 .ensures) (c .before .before .line5 .ensures) (c .line-if5 .ensures)
 
 pub result-spec : {M : Type 1} → statement M
 result-spec =
     tie.close
     (tie.spec
-    walked-value-requires
-    walked-value-requires-2
-    walked-value-requires-3
-    walked-value-requires-4
-    walked-value-requires-5
-    walked-value-requires-6
+    value-at-requires
+    value-at-requires-2
+    value-at-requires-3
+    value-at-requires-4
+    value-at-requires-5
+    value-at-requires-6
     agrees-requires
     slice-aggregate-line
     line-requires

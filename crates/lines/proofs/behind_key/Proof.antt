@@ -1,14 +1,9 @@
+-- `lines::behind_key` meets its contract. Assumes nothing.
 use borrow.Author.Needs.{needs}
-use native.Mathlib.Omega.{arith}
-use Prim.Native.Nat.{ℕ, _+_, _-_, _≤_, _<_}
-use mathlib.Core.Path.{_≡_}
-use lib.ListN.{length, take, drop}
-use Rattle.lines.proofs.Laws.{past-short, value-none, value-some}
-use Rattle.lines.proofs.walked_value.Statement.{statement}
-use Rattle.lines.proofs.walked_value.Tie as tie
-
-walked-line-requires : tie.Need-walked-line-requires
-walked-line-requires c κs = search needs
+use Rattle.lines.proofs.Laws.{value-none}
+use Rattle.rules.proofs.Lists.{rest-is, rest-shorter}
+use Rattle.lines.proofs.behind_key.Statement.{statement}
+use Rattle.lines.proofs.behind_key.Tie as tie
 
 sub-result : tie.Need-sub-result
 sub-result c = search needs
@@ -20,7 +15,7 @@ part-result-end : tie.Need-part-result-end
 part-result-end c = search needs
 
 returns : tie.Need-returns
-returns c = search (value-none, value-some, past-short, needs)
+returns c = (search (value-none, needs), search (rest-shorter, needs))
 
 sub-result-2 : tie.Need-sub-result-2
 sub-result-2 c = search needs
@@ -32,13 +27,12 @@ part-result-end-2 : tie.Need-part-result-end-2
 part-result-end-2 c = search needs
 
 returns-2 : tie.Need-returns-2
-returns-2 c = search (value-none, value-some, past-short, needs)
+returns-2 c = (search (rest-is, needs), search (rest-shorter, needs))
 
-pub walked-value-spec : {M : Type 1} → statement M
-walked-value-spec =
+pub behind-key-spec : {M : Type 1} → statement M
+behind-key-spec =
     tie.close
     (tie.spec
-    walked-line-requires
     sub-result
     part-result-start
     part-result-end
