@@ -1,8 +1,7 @@
 use borrow.Author.Needs.{needs}
 use native.Mathlib.Omega.{arith}
-use Prim.Native.Nat.{ℕ, _+_, _-_, _≤_, _<_}
-use mathlib.Core.Path.{_≡_}
-use lib.ListN.{length, take, drop}
+use Prim.Native.Nat.{_-_}
+use lib.ListN.{length}
 use Rattle.compose.proofs.Passing.{Passing, begins, index-low, rest-low, ahead, unread-told, nearer, goes, ends-refused, ends-all}
 use Rattle.compose.proofs.pass.Statement.{statement}
 use Rattle.compose.proofs.pass.Tie as tie
@@ -15,12 +14,12 @@ abbrev μ-loop : tie.MeasureT-loop
 μ-loop out₀ sheet d group₀ at₀ line₀ bytes₀ segments₀ specimens₀ results₀ out group at line bytes segments specimens results =
     length sheet - at
 
--- the turn in which a verdict is looked at, and the look behind which a group is counted
+-- the turn of a verdict, and the verdict on a group whose segments are counted
 abbrev turn : tie.After-fine Inv-loop μ-loop → tie.At-loop Inv-loop μ-loop
 turn c = c .before .before .before .before .before .before .before .before
 
-abbrev looked : tie.After-segments-of Inv-loop μ-loop → tie.After-fine Inv-loop μ-loop
-looked c = c .before .before .before .before .before .before .before
+abbrev verdict : tie.After-segments-of Inv-loop μ-loop → tie.After-fine Inv-loop μ-loop
+verdict c = c .before .before .before .before .before .before .before
 
 loop-holds : tie.Need-loop-holds Inv-loop μ-loop
 loop-holds c = begins _ _ _ (c .before .before .pre)
@@ -72,19 +71,19 @@ segments-of-requires : tie.Need-segments-of-requires Inv-loop μ-loop
 segments-of-requires c κs = search needs
 
 add-segments : tie.Need-add-segments Inv-loop μ-loop
-add-segments c = omega (arith, turn (looked c) .loop .inv, c .segments-of .ensures)
+add-segments c = omega (arith, turn (verdict c) .loop .inv, c .segments-of .ensures)
 
 specimens-with-requires : tie.Need-specimens-with-requires Inv-loop μ-loop
-specimens-with-requires c κs = omega (arith, turn (looked c) .loop .inv)
+specimens-with-requires c κs = omega (arith, turn (verdict c) .loop .inv)
 
 results-with-requires : tie.Need-results-with-requires Inv-loop μ-loop
-results-with-requires c κs = omega (arith, turn (looked (c .before)) .loop .inv)
+results-with-requires c κs = omega (arith, turn (verdict (c .before)) .loop .inv)
 
 lines-in-requires : tie.Need-lines-in-requires Inv-loop μ-loop
 lines-in-requires c κs = search needs
 
 add-line : tie.Need-add-line Inv-loop μ-loop
-add-line c = omega (arith, turn (looked (c .before .before .before)) .loop .inv, c .lines-in .ensures)
+add-line c = omega (arith, turn (verdict (c .before .before .before)) .loop .inv, c .lines-in .ensures)
 
 mul-at : tie.Need-mul-at Inv-loop μ-loop
 mul-at c = search needs
@@ -94,13 +93,13 @@ array-read-at c = search needs
 
 add-at : tie.Need-add-at Inv-loop μ-loop
 add-at c =
-    let fine = looked (c .before .before .before) in
+    let fine = verdict (c .before .before .before) in
     let kept = turn fine .loop .inv in
     omega (arith, kept .small, ahead kept (fine .before .before .before .cut .ensures) (c .lines-in .ensures .1))
 
 loop-less : tie.Need-loop-less Inv-loop μ-loop
 loop-less c =
-    let cut = looked (c .before .before .before) .before .before .before in
+    let cut = verdict (c .before .before .before) .before .before .before in
     let next = cut .before in
     let more = next .before .before in
     nearer (more .before .before .loop .inv) (more .before .has-line .ensures) (more .if1 .taken) (next .next-group .ensures) (cut .cut .ensures) (c .lines-in .ensures)
@@ -111,7 +110,7 @@ loop-again c =
     let specimens = results .before in
     let segments = specimens .before in
     let put = segments .before .before .before in
-    let fine = looked segments in
+    let fine = verdict segments in
     let judged = fine .before in
     let cut = judged .before .before in
     let next = cut .before in

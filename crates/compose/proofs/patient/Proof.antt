@@ -1,12 +1,12 @@
-use native.Mathlib.Omega.{arith}
-use Prim.Native.Nat.{ℕ, _+_, _-_, _≤_, _<_}
-use mathlib.Core.Path.{_≡_}
-use lib.ListN.{length, take, drop}
 use Rattle.writer.specs.Woven.{holes, taken, sizes}
 use Rattle.compose.proofs.Texts.{patient-kana, patient-plain}
 use borrow.Author.Needs.{needs}
 use Rattle.compose.proofs.patient.Statement.{statement}
 use Rattle.compose.proofs.patient.Tie as tie
+
+-- the call, seen from its last value
+abbrev start : tie.After-value-at7 → tie.Start
+start c = c .before .before .before .before .before .before .before .before .before .before
 
 value-at-requires : tie.Need-value-at-requires
 value-at-requires c κs = search needs
@@ -37,7 +37,7 @@ slice-aggregate-fit-woven-2 c = search needs
 
 fit-woven-requires : tie.Need-fit-woven-requires
 unfolding holes taken sizes
-fit-woven-requires c κs = search (c .before .before .before .before .before .before .before .before .before .before .before .before .before .before .pre, needs)
+fit-woven-requires c κs = search (start (c .before .before .before .before) .pre, needs)
 
 same-length : tie.Need-same-length
 same-length c = search needs
@@ -52,7 +52,7 @@ returns c =
     let given = kanafamily .before in
     let family = given .before in
     let id = family .before in
-    let asked = id .before .before .before .before .pre in
+    let asked = start sex .pre in
     let wrote = c .before .before .fit-woven .ensures in
     (patient-plain _ _ _ _ _ _ _ _ _ (kanafamily .value-at4 .result) _ _ (asked .2) (id .value-at .ensures .0) (family .value-at2 .ensures .0) (given .value-at3 .ensures .0) (kanafamily .value-at4 .ensures .0) (birth .value-at6 .ensures .0) (sex .value-at7 .ensures .0) (test .if1 .taken) (wrote .0), wrote .1)
 
@@ -64,7 +64,7 @@ slice-aggregate-fit-woven-4 c = search needs
 
 fit-woven-requires-2 : tie.Need-fit-woven-requires-2
 unfolding holes taken sizes
-fit-woven-requires-2 c κs = search (c .before .before .before .before .before .before .before .before .before .before .before .before .before .before .pre, needs)
+fit-woven-requires-2 c κs = search (start (c .before .before .before .before) .pre, needs)
 
 same-length-2 : tie.Need-same-length-2
 same-length-2 c = search needs
@@ -79,7 +79,7 @@ returns-2 c =
     let given = kanafamily .before in
     let family = given .before in
     let id = family .before in
-    let asked = id .before .before .before .before .pre in
+    let asked = start sex .pre in
     let wrote = c .before .before .fit-woven2 .ensures in
     (patient-kana _ _ _ _ _ _ _ _ _ _ _ _ _ (asked .2) (id .value-at .ensures .0) (family .value-at2 .ensures .0) (given .value-at3 .ensures .0) (kanafamily .value-at4 .ensures .0) (kanagiven .value-at5 .ensures .0) (birth .value-at6 .ensures .0) (sex .value-at7 .ensures .0) (test .if1 .left) (wrote .0), wrote .1)
 

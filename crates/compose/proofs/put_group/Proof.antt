@@ -1,7 +1,3 @@
-use native.Mathlib.Omega.{arith}
-use Prim.Native.Nat.{ℕ, _+_, _-_, _≤_, _<_}
-use mathlib.Core.Path.{_≡_}
-use lib.ListN.{length, take, drop}
 use Rattle.rules.specs.Frame.{spelling}
 use Rattle.rules.specs.Lists.{bytes}
 use Rattle.compose.proofs.Texts.{put-msh, put-obr, put-obx, put-orc, put-other, put-pid, put-pv1, put-spm}

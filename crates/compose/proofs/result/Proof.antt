@@ -1,12 +1,13 @@
 use native.Mathlib.Omega.{arith}
-use Prim.Native.Nat.{ℕ, _+_, _-_, _≤_, _<_}
-use mathlib.Core.Path.{_≡_}
-use lib.ListN.{length, take, drop}
 use Rattle.writer.proofs.Laws.{front, front-is, front-within}
 use Rattle.compose.proofs.Texts.{number-short, number-size, result-is}
 use borrow.Author.Needs.{needs}
 use Rattle.compose.proofs.result.Statement.{statement}
 use Rattle.compose.proofs.result.Tie as tie
+
+-- the call, seen from its eighth value
+abbrev start : tie.After-value-at8 → tie.Start
+start c = c .before .before .before .before .before .before .before .before .before .before .before
 
 value-at-requires : tie.Need-value-at-requires
 value-at-requires c κs = search needs
@@ -33,19 +34,19 @@ value-at-requires-8 : tie.Need-value-at-requires-8
 value-at-requires-8 c κs = search needs
 
 value-at-requires-9 : tie.Need-value-at-requires-9
-value-at-requires-9 c κs = (c .before .before .before .before .before .before .before .before .before .before .before .pre .1, omega arith)
+value-at-requires-9 c κs = (start c .pre .1, omega arith)
 
 value-at-requires-10 : tie.Need-value-at-requires-10
-value-at-requires-10 c κs = (c .before .before .before .before .before .before .before .before .before .before .before .before .pre .1, omega arith)
+value-at-requires-10 c κs = (start (c .before) .pre .1, omega arith)
 
 slice-aggregate-put-number : tie.Need-slice-aggregate-put-number
 slice-aggregate-put-number c = search needs
 
 add-put-number : tie.Need-add-put-number
-add-put-number c = omega (arith, c .before .before .before .before .before .before .before .before .before .before .before .before .before .before .pre .3)
+add-put-number c = omega (arith, start (c .before .before .before) .pre .3)
 
 put-number-requires : tie.Need-put-number-requires
-put-number-requires c κs = number-short _ (c .before .before .before .before .before .before .before .before .before .before .before .before .before .before .pre .3)
+put-number-requires c κs = number-short _ (start (c .before .before .before) .pre .3)
 
 array-share-prefix-digits : tie.Need-array-share-prefix-digits
 array-share-prefix-digits c = front-within _ _ _ _ (c .before .before .put-number .ensures)
@@ -65,7 +66,7 @@ put-result-requires c κs =
     let type = compare .before in
     let name = type .before in
     let item = name .before in
-    let asked = item .before .before .before .before .pre in (
+    let asked = start unit .pre in (
       asked .2,
       number-size _ _ _ _ (c .before .before .before .put-number .ensures) (asked .3),
       omega (arith, item .value-at .ensures .1, asked .0),

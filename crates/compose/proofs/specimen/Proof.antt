@@ -1,7 +1,4 @@
 use native.Mathlib.Omega.{arith}
-use Prim.Native.Nat.{ℕ, _+_, _-_, _≤_, _<_}
-use mathlib.Core.Path.{_≡_}
-use lib.ListN.{length, take, drop}
 use Rattle.writer.proofs.Laws.{front, front-is, front-within}
 use Rattle.compose.proofs.Texts.{number-short, number-size, specimen-is}
 use borrow.Author.Needs.{needs}
