@@ -116,9 +116,6 @@ pub number-short : (i : ℕ) → i ≤ 65536 → length (decimal (i + 1)) ≤ 5
 unfolding tens
 number-short i h = decimal-few 4 (i + 1) (omega arith)
 
-pub front-short : (r b : ℕ) (x w old : List ℕ) → Wrote r x w old → length w ≤ b → length (take r x) ≤ b
-front-short r b x w old p h = omega (arith, ap length (front p))
-
 pub number-size : (r n : ℕ) (x old : List ℕ) → Wrote r x (decimal (n + 1)) old → n ≤ 65536 → length (take r x) ≤ 65536
 number-size r n x old p h = omega (arith, ap length (front p), number-short n h)
 

@@ -15,7 +15,7 @@ ghost use Rattle.writer.specs.Over.{Fit};
 ghost use Rattle.lines.specs.Lines.{toldOf, indexOf, Cut};
 ghost use Rattle.compose.specs.Compose.{Named, groupText, specimenText, resultText, specimensWith, resultsWith, segmentsOf, isValue, Added, toldSize, refusalAt, Pass};
 
-// ---- the groups written, each where there is room; their names are the bytes that the reader compares with
+// ---- the groups written, each where there is room, from the places of its lines; the reader compares with the same names
 
 fn header<'a>(out: &mut [u8], msh: &'a [u8], s: &'a [u8], places: &[usize; 11], d: Delims) -> usize
     requires { ⌜ (length (now s) ≤ 65536) × Cut 10 (now s) (now places) × Named (now msh) Name.Msh ⌝ }
