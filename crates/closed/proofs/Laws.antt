@@ -4,7 +4,7 @@ use native.Mathlib.Omega.{arith}
 use mathlib.Core.Path.{_≡_, refl, sym, ap, subst, _∙_}
 use mathlib.Core.Bool.{Bool, true, false, cond, not, _&&_, _||_}
 use mathlib.Core.List.{List, [], _∷_, map}
-use borrow.Author.Tests.{le-leb, lt-ltb, le-ltb}
+use borrow.Author.Tests.{lt-ltb, le-ltb}
 use lib.Dec.{eqb, ltb}
 use lib.ListN.{length, getD, take, drop, length-drop}
 use lib.Seq.{drop-drop}
@@ -13,6 +13,7 @@ use Rattle.rules.specs.declared.Mode.the-variants.{One}
 use Rattle.rules.specs.Told.{_then_, _when_}
 use Rattle.rules.specs.Lists.{bytes, empty, filled, same, all, has, nth, split}
 use Rattle.rules.specs.Shift.{isOne, mark, marks, met, within, byteOf}
+use Rattle.rules.specs.Frame.{Proper}
 use Rattle.rules.specs.Value as Val
 use Rattle.rules.specs.Escape.{unescape, unescapeAt}
 use Rattle.rules.specs.Places.{Four, valueRules}
@@ -23,7 +24,8 @@ use Rattle.rules.proofs.Lists.{here, over, rest-is, empty-zero, filled-some, al
 use Rattle.rules.proofs.Split.{split-nil, split-none}
 use Rattle.rules.proofs.Modes.{length-marks}
 use Rattle.rules.proofs.Clean.{same-met}
-use Rattle.scan.specs.Scan.{until, is, ends, after, next, plainText, CutOf, TailOf, Proper}
+use Rattle.rules.proofs.Header.{delim-within}
+use Rattle.scan.specs.Scan.{until, is, ends, after, next, plainText, CutOf, TailOf}
 use Rattle.scan.proofs.Laws.{from-met, piece-met, ends-far}
 use Rattle.value.specs.Rules.{faultNo, ruleOf, rulesOf}
 use Rattle.value.specs.declared.Fault.{Fault}
@@ -120,7 +122,7 @@ module _ (t : List ℕ) (d : Delims) (n : ℕ) (more y : Bool) (p : Proper d) (e
   unfolding bytes all
   charset-same =
       ap (λ l. same l (d .repetition ∷ isoIr87)) (sym (field-met t d n more e))
-      ∙ same-met (take n t) (d .repetition ∷ isoIr87) (all-cons (within 0x20 0x7E) (d .repetition) isoIr87 ∙ rw (le-leb 0x20 (d .repetition) (p .repetition .low), le-leb (d .repetition) 0x7E (p .repetition .high)))
+      ∙ same-met (take n t) (d .repetition ∷ isoIr87) (all-cons (within 0x20 0x7E) (d .repetition) isoIr87 ∙ rw (delim-within (d .repetition) (p .repetition)))
       ∙ sym g
 
   pub charset-right : y ≡ true → ClosedOf (charsetFault d) (fieldAt d t) (faultNo Nothing) n
@@ -237,6 +239,10 @@ pub last-within : (t last : List ℕ) (d : Delims) (n : ℕ) → Proper d → me
 unfolding met
 last-within t last d n p e =
     omega (arith, length-marks 0x0D One t, length-marks 0x0D One last, ap length e, forward-short d p n (met t))
+
+pub next-within : (t last : List ℕ) (d : Delims) → Proper d → met last ≡ next d (met t) → length last ≤ length t
+unfolding forward
+next-within t last d p e = last-within t last d 1 p e
 
 module _ (t last : List ℕ) (d : Delims) (n k j : ℕ) (clean more : Bool) (p : Proper d) (e : met last ≡ forward d n (met t)) (c : CutOf d last k clean)
     (tail : TailOf d (met (take (length last - k) (drop k last))) j more) where

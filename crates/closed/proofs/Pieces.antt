@@ -9,10 +9,11 @@ use lib.Dec.{eqb, ltb, leb·suc-suc}
 use lib.ListN.{length, drop}
 use Rattle.rules.specs.declared.Delims.{Delims}
 use Rattle.rules.specs.Lists.{split, onto, has, nth}
+use Rattle.rules.specs.Frame.{Proper}
 use Rattle.rules.proofs.Logic.{cases, never, neither, or-false}
 use Rattle.rules.proofs.Lists.{has-nil, has-here, has-there, has-first}
 use Rattle.rules.proofs.Split.{split-nil, split-here, split-there, split-none, pieces-length}
-use Rattle.scan.specs.Scan.{until, is, ends, after, onward, next, nextFrom, Proper}
+use Rattle.scan.specs.Scan.{until, is, ends, after, onward, next, nextFrom}
 use Rattle.scan.proofs.Laws.{until-yes, until-no, until-nil, first-piece}
 use Rattle.closed.specs.Closed.{endsRepetition, forward}
 
@@ -149,7 +150,7 @@ byteCases d p x m inside between past =
     cases (ends d x)
     (λ e. cases (eqb x (d .component))
     (λ f. let q : x ≡ d .component = eqb-true x (d .component) f in
-    between (rw q (p .fieldDiffers)) (rw q (p .repetitionDiffers)) f (next-here d x m e ∙ cc))
+    between (rw q (p .component-field)) (rw q (p .component-repetition)) f (next-here d x m e ∙ cc))
     (λ f. past (ends-yes d x e f) (next-here d x m e ∙ cc)))
     (λ e. let q = ends-no d x e in
     let r = neither (eqb x (d .field)) (eqb x (d .repetition)) (q .0) in

@@ -13,7 +13,7 @@ use Rattle.rules.specs.declared.Name.{Name}
 use Rattle.rules.specs.declared.Name.the-variants.{Msh, Other}
 use Rattle.rules.specs.Lists.{bytes, empty, starts, all, any, has, split, ended}
 use Rattle.rules.specs.Shift.{within, isOne, walk, keeps, marks, met}
-use Rattle.rules.specs.Frame.{headerOk, delimsOf, knownNames, spelling, nameAmong, nameOf, is, segments, Known}
+use Rattle.rules.specs.Frame.{headerOk, delimsOf, knownNames, spelling, nameAmong, nameOf, is, segments, Known, Delim}
 use Rattle.rules.specs.Places.{isClosed, unreadField}
 use Rattle.rules.specs.View.{pieceOf, fieldOf, componentOf}
 use Rattle.rules.specs.Fetch.{span, startOf}
@@ -22,7 +22,7 @@ use Rattle.rules.proofs.Lists.{all-cons, has-nil, has-cons, has-here}
 use Rattle.rules.proofs.Split.{front, later, frees, split-next, ended-append, before, since, here, before-more, since-more, frees-left, frees-right}
 use Rattle.rules.proofs.Modes.{keeps-append, met-append, length-met}
 use Rattle.rules.proofs.Names.{spelling-of, name-three, name-split}
-use Rattle.rules.proofs.Header.{Delim, Header, header, header-bytes, header-stays, delims-stay, nine, delim-within, printable}
+use Rattle.rules.proofs.Header.{Header, header, header-bytes, header-stays, delims-stay, nine, delim-within, printable}
 use Rattle.rules.proofs.Clean.{plain-met, plain-kept, ended-keeps}
 use Rattle.rules.proofs.Pieces.{Piece, met-sep, start-past, piece-bytes, piece-marks}
 use Rattle.rules.proofs.Where.{repetitionOf, fieldPlace, repetitionPlace, componentPlace, Framed, ended-segments, segments-free, starts-fresh, Stands, stands-known, after-header, fieldPiece, fieldLeft, fieldRight, field-is, field-whole, field-place, repetitionPiece, repetitionLeft, repetitionRight, repetition-is, repetition-whole, repetition-place, componentPiece, componentLeft, componentRight, component-is, component-whole, component-place, segments-ended}

@@ -1,13 +1,12 @@
 -- Laws of fetch: one for each way through its code. Assumes nothing.
 use mathlib.Core.Path.{_≡_, refl, sym, ap, _∙_}
-use mathlib.Core.Bool.{Bool, true, false, cond, not, _&&_, _||_}
+use mathlib.Core.Bool.{Bool, true, false, cond, not, _||_}
 use mathlib.Core.List.{List, [], _∷_, _++_, append-assoc}
 use Prim.Native.Nat.{ℕ, suc, _+_, _-_, _≤_, _<_}
-use native.Mathlib.Numerals.{add-one}
 use native.Mathlib.Omega.{arith}
 use borrow.Author.Tests.{eqb-false, eq-eqb, ne-eqb, lt-ltb, le-ltb, le-leb, lt-leb}
-use lib.Dec.{eqb, leb}
-use lib.ListN.{length, getD, take, drop, length-append, length-drop, List·getD-eq-default}
+use lib.Dec.{eqb}
+use lib.ListN.{length, take, drop, length-append, length-drop, List·getD-eq-default}
 use lib.Seq.{drop-drop, length-take-le}
 use Rattle.rules.specs.declared.Delims.{Delims}
 use Rattle.rules.specs.declared.Counts.{Counts}
@@ -21,28 +20,26 @@ use Rattle.rules.specs.declared.Fetched.{Fetched}
 use Rattle.rules.specs.declared.Fetched.the-variants.{At, NotFetched}
 use Rattle.rules.specs.declared.Kind.the-variants.{NoOrdinal, Zero}
 use Rattle.rules.specs.declared.Mode.the-variants.{One}
-use Rattle.rules.specs.Told.{Told, gives, refused, told, toldSpan, _>>_, _when_}
-use Rattle.rules.specs.Lists.{bytes, starts, nth, split, allButLast}
+use Rattle.rules.specs.Told.{gives, refused, told, toldSpan, _when_}
+use Rattle.rules.specs.Lists.{nth, split, allButLast}
 use Rattle.rules.specs.Shift.{marks, met}
-use Rattle.rules.specs.Frame.{delimsOf, delimsOk, headerOk, segments, nameOf, Known, knownFrom, known}
+use Rattle.rules.specs.Frame.{delimsOf, Delim, Proper, headerOk, segments, nameOf, Known, knownFrom, known}
 use Rattle.rules.specs.Frame as Frame
-use Rattle.rules.specs.Check.{frameTold, viewTold, checkTold}
-use Rattle.rules.specs.View.{view, pieceOf, fieldOf, componentOf, firstRepetition}
+use Rattle.rules.specs.Check.{checkTold}
+use Rattle.rules.specs.View.{pieceOf, fieldOf, componentOf, firstRepetition}
 use Rattle.rules.specs.Fetch.{span, startOf, stretch, spanOf, ordinal, fetchTold, bytesAt, partTold}
-use Rattle.rules.proofs.Logic.{cases, zeroCases, both, neither, not-true, not-false}
-use Rattle.rules.proofs.Lists.{over, rest-is, take-own, nth-at}
+use Rattle.rules.proofs.Logic.{cases, zeroCases, neither, not-true, not-false}
+use Rattle.rules.proofs.Lists.{over, rest-is, rest-inside, rest-end, take-own, nth-at}
 use Rattle.rules.proofs.Split.{front, later, split-cons}
 use Rattle.rules.proofs.Modes.{length-met, take-marks}
 use Rattle.rules.proofs.Header.{header}
 use Rattle.rules.proofs.Pieces.{start-first}
-use Rattle.rules.proofs.Where.{framed}
-use Rattle.rules.proofs.Header as Header
-use Rattle.scan.specs.Scan.{until, is, Printable, Proper}
+use Rattle.rules.proofs.Where.{accepted-passes}
+use Rattle.scan.specs.Scan.{until, is}
 use Rattle.scan.proofs.Laws.{take-until, after-drop, first-piece}
 use Rattle.scan.proofs.Walk.{past-next}
 use Rattle.value.proofs.Laws.{split-last, split-more}
-use Rattle.frame.proofs.Laws.{segments-next}
-use Rattle.frame.proofs.Rules.{proper}
+use Rattle.frame.proofs.Laws.{there, segment-there, named-there}
 use Rattle.fetch.specs.declared.Segment.{Segment}
 use Rattle.fetch.specs.declared.Found.{Found}
 use Rattle.fetch.specs.declared.Found.the-variants as Found
@@ -50,7 +47,7 @@ use Rattle.fetch.specs.Place.{shown, startTold, spanIn, placeTold, known
 
 -- ---- the pieces, one after another
 -- what follows a separator that acts is met from one-byte mode on
-next-met : (sep : ℕ) → Printable sep → (u : List ℕ) (len : ℕ) → len ≡ length (until (is sep) (met u)) → len < length u → drop (suc len) (met u) ≡ met (drop (len + 1) u)
+next-met : (sep : ℕ) → Delim sep → (u : List ℕ) (len : ℕ) → len ≡ length (until (is sep) (met u)) → len < length u → drop (suc len) (met u) ≡ met (drop (len + 1) u)
 unfolding met
 next-met sep p u len e h =
     let k : suc len ≡ len + 1 = omega arith in
@@ -78,7 +75,7 @@ module _ (sep : ℕ) (s : List ℕ) (number at len : ℕ) (inv : Walked sep s nu
   abbrev rest : List ℕ
   rest = met (drop at s)
 
-  walked-on : (next : ℕ) → Printable sep → at + len ≤ length s → (at + len ≡ length s → ⊥)
+  walked-on : (next : ℕ) → Delim sep → at + len ≤ length s → (at + len ≡ length s → ⊥)
       → next ≡ length (until (is sep) (marks 0x0D One (take (length s - (at + len + 1)) (drop (at + len + 1) s)))) → Walked sep s (number + 1) (at + len + 1) next
   unfolding met
   walked-on next p h g e =
@@ -96,7 +93,7 @@ module _ (sep : ℕ) (s : List ℕ) (number at len : ℕ) (inv : Walked sep s nu
         long = e ∙ ap (λ l. length (until (is sep) (met l))) (rest-is s (at + len + 1));
       }
 
-  pub walked-next : (next i a l : ℕ) → Printable sep → at + len ≤ length s → (at + len ≡ length s → ⊥)
+  pub walked-next : (next i a l : ℕ) → Delim sep → at + len ≤ length s → (at + len ≡ length s → ⊥)
       → next ≡ length (until (is sep) (marks 0x0D One (take (length s - (at + len + 1)) (drop (at + len + 1) s))))
       → i ≡ number + 1 → a ≡ at + len + 1 → l ≡ next → Walked sep s i a l
   walked-next next i a l p h g e ei ea el = rw (ei, ea, el) (walked-on next p h g e)
@@ -186,31 +183,25 @@ unfolding segments split allButLast knownFrom
 segment-over m o left at inv h = sym (inv .same ∙ ap (λ l. ordinal (knownFrom at (segments l)) (suc left)) (over m at h) ∙ ordinal-none left)
 
 module _ (m : List ℕ) (o left at n : ℕ) (inv : Seeking m o left at) (en : n ≡ length (until (is 0x0D) (take (length m - at) (drop at m)))) where
-  there : n ≡ length (until (is 0x0D) (drop at m))
-  there = en ∙ ap (λ l. length (until (is 0x0D) l)) (rest-is m at)
-
   pub segment-open : n ≡ length (take (length m - at) (drop at m)) → refused 30 0 0 ≡ ordinal (known m) o
   unfolding segments allButLast knownFrom
   segment-open h =
-      let z : split 0x0D (drop at m) ≡ drop at m ∷ [] = split-last 0x0D (drop at m) (sym there ∙ h ∙ ap length (rest-is m at)) in
+      let z : split 0x0D (drop at m) ≡ drop at m ∷ [] = split-last 0x0D (drop at m) (sym (there m at n en) ∙ h ∙ ap length (rest-is m at)) in
       sym (inv .same ∙ ap (λ ps. ordinal (knownFrom at (allButLast ps)) (suc left)) z ∙ ordinal-none left)
 
   module _ (k : n ≤ length (take (length m - at) (drop at m))) (ne : n ≡ length (take (length m - at) (drop at m)) → ⊥) where
     inside : n < length (drop at m)
-    inside = let q : length (take (length m - at) (drop at m)) ≡ length (drop at m) = ap length (rest-is m at) in omega arith
-
-    pub segment-further : at ≤ length m → at + (n + 1) ≤ length m
-    segment-further h = omega (arith, inside, length-drop at m)
+    inside = rest-inside m at n k ne
 
     next : segments (drop at m) ≡ take n (drop at m) ∷ segments (drop (at + (n + 1)) m)
-    next = segments-next 0 (drop at m) n there inside ∙ ap (λ l. take n (drop at m) ∷ segments l) (drop-drop (suc n) at m ∙ ap (λ i. drop (at + i) m) (sym (add-one n)))
+    next = segment-there m at n en inside
 
     module _ (name : Name) (one : ℕ) (ename : name ≡ nameOf (take n (take (length m - at) (drop at m)))) (eone : one ≡ (1 when not (Frame.is name Other))) where
       named : nameOf (take n (drop at m)) ≡ name
-      named = ap (λ l. nameOf (take n l)) (sym (rest-is m at)) ∙ sym ename
+      named = named-there m at n name ename
 
       long : at + suc (length (take n (drop at m))) ≡ at + (n + 1)
-      long = omega (arith, length-take-le n (drop at m) (omega (arith, inside)))
+      long = rest-end m at n inside
 
       pub segment-found : left < one → gives (record { name = name; start = at; body = met (take n (drop at m)) }) ≡ ordinal (known m) o
       segment-found h =
@@ -311,18 +302,12 @@ module _ (d : Delims) (m : List ℕ) (s : Segment) (f c : ℕ) (r : Span) (t : B
   part-later n h k e = let z : Frame.is (s .name) Msh ≡ true = sym et ∙ not-false t n in rw (z, ne-eqb f 1 h, ne-eqb f 2 k) e
 
 -- ---- 31, 30, or the place
-module _ (m : List ℕ) (t : Bool) (et : t ≡ headerOk m) (n : not t ≡ false) where
-  pub headed-long : 9 ≤ length m
-  headed-long = header m (sym et ∙ not-false t n) .long
+-- a refusal names no bytes
+pub refused-within : (n : ℕ) (r : Refusal) (p : Span) → NotFetched r ≡ At p → p .start + p .len ≤ n
+refused-within n r p e = let z : _≡_ {A = ℕ} 0 1 = cc in absurd (omega arith)
 
-  headed-delims : delimsOk (delimsOf m) ≡ true
-  unfolding headerOk
-  headed-delims =
-      let a = both (leb 9 (length m) && starts (bytes "MSH") m && delimsOk (delimsOf m)) (eqb (getD m 8 0) (delimsOf m .field)) (sym et ∙ not-false t n) in
-      both (leb 9 (length m) && starts (bytes "MSH") m) (delimsOk (delimsOf m)) (a .0) .1
-
-  pub headed-proper : (d : Delims) → d ≡ delimsOf m → Proper d
-  headed-proper d e = rw e (proper (delimsOf m) (Header.proper (delimsOf m) headed-delims))
+pub headed-proper : (m : List ℕ) (t : Bool) (d : Delims) → t ≡ headerOk m → not t ≡ false → d ≡ delimsOf m → Proper d
+headed-proper m t d et n e = rw e (header m (sym et ∙ not-false t n) .proper)
 
 pub asks-field : (f c : ℕ) → (eqb f 0 || eqb c 0) ≡ false → 1 ≤ f
 asks-field f c h = omega (arith, eqb-false f 0 (neither (eqb f 0) (eqb c 0) h .0))
@@ -346,7 +331,7 @@ module _ (m : List ℕ) (o f c : ℕ) (r : Fetched) where
     place-none n x g y e = let z : ordinal (known m) o ≡ refused 30 0 0 = rw y at (sym g) in rw (h, ← et, n, z, e)
 
   pub place-absent : {y : ℕ} → {k : _} → r ≡ NotFetched k → (p : Span) → r ≡ At p → p .start + p .len ≤ y
-  place-absent e p q = let z : _≡_ {A = ℕ} 0 1 = cc in absurd (omega arith)
+  place-absent {y} {k} e p q = refused-within y k p (sym e ∙ q)
 
 pub place-at : (m : List ℕ) (o f c : ℕ) (x : Found) (s : Segment) (d : Delims) (p : Span) (t : Bool) → (eqb f 0 || eqb c 0) ≡ false → t ≡ headerOk m → not t ≡ false
     → foundTold m x ≡ ordinal (known m) o → x ≡ Found.At s → d ≡ delimsOf m → p ≡ spanOf d (knownOf m s) f c → gives p ≡ placeTold m o f c
@@ -357,17 +342,9 @@ pub at-within : (m : List ℕ) (p : Span) → p .start + p .len ≤ length m →
 at-within m p h q e = let z : q ≡ p = cc in rw z h
 
 -- ---- of an accepted message
-accepted-headed : (m : List ℕ) (k : Counts) → checkTold m ≡ gives k → headerOk m ≡ true
-unfolding checkTold
-accepted-headed m k h = framed m (first (frameTold m) (viewTold (view m)) k h) .headed
-  where
-    first : (t : Told (Unit {0})) (u : Told Counts) (k : Counts) → (t >> u) ≡ gives k → t ≡ gives tt
-    first (gives tt) u k h = refl
-    first (refused n s f) u k h = cc
-
 pub place-accepted : (m : List ℕ) (o f c : ℕ) (k : Counts) → checkTold m ≡ gives k → placeTold m o f c ≡ fetchTold m o f c
 unfolding placeTold fetchTold
-place-accepted m o f c k h = rw (h, accepted-headed m k h)
+place-accepted m o f c k h = rw (h, accepted-passes m k h .headed)
 
 -- ---- the check first
 module _ (m : List ℕ) (o f c : ℕ) (x : Answer) (e : told x ≡ checkTold m) where
@@ -377,9 +354,6 @@ module _ (m : List ℕ) (o f c : ℕ) (x : Answer) (e : told x ≡ checkTold m) 
 
   pub locate-accepted : (k : Counts) (y : Fetched) → x ≡ Accepted k → toldSpan y ≡ placeTold m o f c → toldSpan y ≡ fetchTold m o f c
   locate-accepted k y h p = p ∙ place-accepted m o f c k (rw h at (sym e))
-
-pub refused-within : (n : ℕ) (r : Refusal) (p : Span) → NotFetched r ≡ At p → p .start + p .len ≤ n
-refused-within n r p e = let z : _≡_ {A = ℕ} 0 1 = cc in absurd (omega arith)
 
 -- ---- the bytes that an answer names
 pub span-refused : (n : ℕ) (x : Fetched) (r : Refusal) → x ≡ NotFetched r → spanIn n x ≡ stretch 0 0

@@ -16,10 +16,9 @@ ghost use lib.ListN.{length, take, drop};
 ghost use Rattle.rules.specs.declared.Name.the-variants.{Other};
 ghost use Rattle.rules.specs.Told.{toldSpan, _when_};
 ghost use Rattle.rules.specs.Shift.{met};
-ghost use Rattle.rules.specs.Frame.{is, known};
+ghost use Rattle.rules.specs.Frame.{Proper, is, known};
 ghost use Rattle.rules.specs.Fetch.{spanOf, stretch, fetchTold, bytesAt, partTold};
 ghost use Rattle.rules.specs.Fetch as Fetch;
-ghost use Rattle.scan.specs.Scan.{Proper};
 ghost use Rattle.fetch.specs.Place.{shown, startTold, spanIn, placeTold, knownOf, foundTold, partIn, stretchOf};
 
 mod pieces;

@@ -3,7 +3,7 @@ use rules::Span;
 ghost use mathlib.Core.Path.{_≡_};
 ghost use Prim.Native.Nat.{_+_, _<_, _≤_, _^_};
 ghost use lib.ListN.{length};
-ghost use Rattle.scan.specs.Scan.{Printable};
+ghost use Rattle.rules.specs.Frame.{Delim};
 ghost use Rattle.fetch.specs.Place.{PieceOf, Reached};
 
 // A piece: which one it is, from 0, where it begins, and how long it is.
@@ -15,7 +15,7 @@ pub struct Piece {
 
 // The n-th piece, from 0; the last where there are fewer.
 pub fn reach(s: &[u8], sep: u8, n: usize) -> Piece
-    requires { ⌜ Printable sep ⌝ }
+    requires { ⌜ Delim sep ⌝ }
     ensures { λ r. ⌜ Reached sep n (now (s .entry)) (r .number) (r .start) (r .len) ⌝ }
     ensures within { λ r. ⌜ r .start + r .len ≤ length (now (s .entry)) ⌝ }
 {
@@ -49,7 +49,7 @@ fn following(p: Piece, start: usize, len: usize) -> Piece
 
 // The n-th piece, from 0; an absent one is empty, at the end.
 pub fn nth_piece(s: &[u8], sep: u8, n: usize) -> Span
-    requires { ⌜ Printable sep ⌝ }
+    requires { ⌜ Delim sep ⌝ }
     ensures { λ r. ⌜ PieceOf sep n (now (s .entry)) (r .start) (r .len) ⌝ }
     ensures within { λ r. ⌜ r .start + r .len ≤ length (now (s .entry)) ⌝ }
 {

@@ -11,13 +11,15 @@ use Rattle.rules.specs.Told.{_then_, _when_}
 use Rattle.rules.specs.Lists.{has}
 use Rattle.rules.specs.Lists as L
 use Rattle.rules.specs.Shift.{met, byteOf}
+use Rattle.rules.specs.Frame.{Proper}
 use Rattle.rules.specs.Judge.{judge, judgeAll, namesFault, rawFour, valueFault}
 use Rattle.rules.specs.Judge as J
 use Rattle.rules.specs.View.{componentOf, firstRepetition, seenIn}
 use Rattle.rules.proofs.Logic.{never, not-true, not-false, then-zero}
 use Rattle.rules.proofs.Lists.{rest-is, rest-length, rest-within, part-length}
 use Rattle.rules.proofs.Modes.{length-met}
-use Rattle.scan.specs.Scan.{until, is, ends, after, next, onward, CutOf, TailOf, Proper}
+use Rattle.rules.proofs.Header.{delim-small}
+use Rattle.scan.specs.Scan.{until, is, ends, after, next, onward, CutOf, TailOf}
 use Rattle.scan.proofs.Laws.{from-met, ends-far, far-is, after-field}
 use Rattle.value.specs.Rules.{ruleOf, faultNo, fineOf}
 use Rattle.value.specs.declared.Fault.{Fault}
@@ -26,8 +28,8 @@ use Rattle.value.specs.declared.Fault.the-variants.{Nothing, Found}
 use Rattle.value.specs.declared.Rule.{Rule}
 use Rattle.judge.specs.Judge.{Small}
 use Rattle.closed.specs.Closed.{forward, charsetFault, ClosedOf, ValueOf}
-use Rattle.closed.proofs.Laws.{head-met, head-raw}
-use Rattle.closed.proofs.Pieces.{piece-at, repetition-is, component-at, forward-repeats, forward-long, forward-short, rest-long, rest-more}
+use Rattle.closed.proofs.Laws.{head-met, head-raw, next-within}
+use Rattle.closed.proofs.Pieces.{piece-at, repetition-is, component-at, forward-repeats, forward-long, rest-long, rest-more}
 use Rattle.value.specs.declared.Place.{Place}
 use Rattle.value.specs.declared.Place.the-variants.{Unread, Must, May}
 use Rattle.fields.specs.declared.Form.{Form}
@@ -96,10 +98,6 @@ one-read d p place t f n k more j e =
 
 -- a component before the others
 module _ (d : Delims) (p : Proper d) (t u : List ℕ) (e : met u ≡ next d (met t)) where
-  pub rest-fits : length u ≤ length t
-  unfolding forward
-  rest-fits = omega (arith, forward-short d p 1 (met t), length-met t, length-met u, ap length e)
-
   pub led-read : (place : Place) (ps : List Place) (f g h n k l : ℕ) (more : Bool) → JudgedOf d place t f n → ComponentsOf d ps u more g k l
       → h ≡ (f then g) → ComponentsOf d (place ∷ ps) t more h n (length t - length u + l)
   unfolding componentsFault forward
@@ -109,11 +107,11 @@ module _ (d : Delims) (p : Proper d) (t u : List ℕ) (e : met u ≡ next d (met
     short = j .long;
     raw = j .raw;
     long = let a : l ≡ length (until (is (d .field)) (next d (met t))) = r .long ∙ ap (λ m. length (until (is (d .field)) m)) e in
-        omega (arith, forward-long d p 1 (met t), length-met t, length-met u, ap length e, rest-fits);
+        omega (arith, forward-long d p 1 (met t), length-met t, length-met u, ap length e, next-within t u d p e);
   }
 
   pub led-within : (l : ℕ) → l ≤ length u → length t - length u + l ≤ length t
-  led-within l h = omega (arith, rest-fits)
+  led-within l h = omega (arith, next-within t u d p e)
 
 -- ---- the components of a field as the table lists them
 pub component-is : (d : Delims) → Proper d → (n : ℕ) (m : List ℕ)
@@ -217,7 +215,7 @@ module _ (d : Delims) (s : List ℕ) (n : ℕ) (own : List ℕ → ℕ) (first :
           told = x .told ∙ ap (λ l. own (until (is (d .field)) l)) g;
           numbered = a;
           raw = sym (ap (λ l. map byteOf (first l)) g) ∙ x .raw ∙ ap (λ i. take (r .head) (drop i s)) (sym b);
-          rest = ap (λ l. after (d .field) (met l)) m ∙ ap (after (d .field)) (sym (from-met (is (d .field)) (far-is (d .field) (omega (arith, p .field .high))) t)) ∙ after-field (d .field) (met t) ∙ ap (after (d .field)) g;
+          rest = ap (λ l. after (d .field) (met l)) m ∙ ap (after (d .field)) (sym (from-met (is (d .field)) (far-is (d .field) (delim-small (d .field) (p .field))) t)) ∙ after-field (d .field) (met t) ∙ ap (after (d .field)) g;
         };
   }
 
@@ -276,9 +274,9 @@ pub ruleset component·laws = (head-raw, component-judged, part-length)
 
 pub ruleset one·laws = (one-read, rest-within)
 
-pub ruleset two·laws = (led-read, rest-fits, led-within)
+pub ruleset two·laws = (led-read, next-within, led-within)
 
-pub ruleset three·laws = (led-read, rest-fits, led-within)
+pub ruleset three·laws = (led-read, next-within, led-within)
 
 pub ruleset judge-field·laws = (read-one, read-three, read-charset, read-names, small-one, small-first, small-second, small-third)
 

@@ -11,7 +11,8 @@ ghost use Prim.Native.Nat.{_+_, _≤_};
 ghost use lib.ListN.{length, drop};
 ghost use Rattle.rules.specs.Told.{_then_, _when_};
 ghost use Rattle.rules.specs.Shift.{met};
-ghost use Rattle.scan.specs.Scan.{Printable, Proper, onward};
+ghost use Rattle.rules.specs.Frame.{Delim, Proper};
+ghost use Rattle.scan.specs.Scan.{onward};
 ghost use Rattle.value.specs.Rules.{faultNo};
 ghost use Rattle.judge.specs.Judge.{Raw};
 ghost use Rattle.fields.specs.Fields.{placeFault, formFault, formHead, Smalls, SmallForm, JudgedOf, ComponentsOf, ReadOf, Begins, Ready, To, ValueTo};
@@ -208,7 +209,7 @@ pub fn begin(field: usize) -> Walk
 
 // Where what follows the n-th separator after `at` starts.
 fn past(s: &[u8], at: usize, n: usize, sep: u8) -> usize
-    requires { ⌜ Printable sep × (at ≤ length (now s)) ⌝ }
+    requires { ⌜ Delim sep × (at ≤ length (now s)) ⌝ }
     ensures { λ r. ⌜ met (drop r (now (s .entry))) ≡ onward sep n (met (drop at (now (s .entry)))) ⌝ }
     ensures within { λ r. ⌜ r ≤ length (now (s .entry)) ⌝ }
 {

@@ -1,14 +1,12 @@
 -- Laws of the frame: one for each way through its code. Assumes nothing.
 use mathlib.Core.Path.{_≡_, refl, sym, ap, _∙_}
-use mathlib.Core.Bool.{Bool, true, false, cond, not, _&&_, _||_}
+use mathlib.Core.Bool.{Bool, true, false, cond, not, _&&_, _||_, false≢true}
 use mathlib.Core.List.{List, [], _∷_}
 use Prim.Native.Nat.{ℕ, zero, suc, _+_, _-_, _≤_, _<_}
-use native.Mathlib.Numerals.{add-one}
 use native.Mathlib.Omega.{arith}
 use borrow.Author.Tests.{eqb-true, eq-eqb, ne-eqb, le-leb, lt-leb, lt-ltb, le-ltb}
 use lib.Dec.{eqb, leb, ltb}
 use lib.ListN.{length, getD, take, drop, length-drop}
-use lib.Seq.{drop-drop}
 use Rattle.rules.specs.declared.Delims.{Delims}
 use Rattle.rules.specs.declared.Counts.{Counts}
 use Rattle.rules.specs.declared.Name.{Name}
@@ -17,12 +15,13 @@ use Rattle.rules.specs.Told.{gives, _then_, _when_}
 use Rattle.rules.specs.Lists.{bytes, empty, starts, all, any, has, distinct, split, allButLast, last}
 use Rattle.rules.specs.Shift.{keeps}
 use Rattle.rules.specs.Frame.{delimsOf, fiveOf, delimsOk, headerOk, segments, capital, capitalOrDigit, nameOk, segmentsOk, knownNames, spelling, nameAmong, nameOf, rank, is, after}
-use Rattle.rules.proofs.Logic.{cases, not-true, not-false, and-true, and-false, and-assoc, or-false, or-assoc}
-use Rattle.rules.proofs.Lists.{starts-short, filled-some, here, over, rest-is, all-cons, all-first, any-cons, has-cons, has-nil, has-here, has-there}
+use Rattle.rules.proofs.Logic.{cases, both, not-true, not-false, and-true, and-false, and-assoc, or-false, or-assoc}
+use Rattle.rules.proofs.Lists.{starts-short, filled-some, here, over, rest-is, rest-inside, rest-on, all-cons, all-first, any-cons, has-cons, has-nil, has-here, has-there}
 use Rattle.rules.proofs.Split.{butLast-split, last-split}
 use Rattle.rules.proofs.Header.{header}
 use Rattle.scan.specs.Scan.{until}
 use Rattle.scan.specs.Scan as Scan
+use Rattle.scan.proofs.Laws.{until-rest}
 use Rattle.value.proofs.Laws.{split-last, split-more}
 use Rattle.rules.specs.Check.{frameTold}
 use Rattle.frame.proofs.Rules.{closing-is, sound}
@@ -229,26 +228,43 @@ module _ (bar : ℕ) (r : List ℕ) (n : ℕ) (en : n ≡ length (until (Scan.is
 pub pass-starts : (m : List ℕ) (bar : ℕ) (v : Seen) → v ≡ start → passFrom start bar m ≡ passFrom v bar m
 pass-starts m bar v e = rw e
 
--- the pass at `at`, as its code has the rest
+-- ---- one turn of a loop over the segments, at `at`, as its code has the rest
+module _ (m : List ℕ) (at n : ℕ) (en : n ≡ length (until (Scan.is 0x0D) (take (length m - at) (drop at m)))) where
+  pub there : n ≡ length (until (Scan.is 0x0D) (drop at m))
+  there = until-rest (Scan.is 0x0D) m at n en
+
+  pub segment-there : n < length (drop at m) → segments (drop at m) ≡ take n (drop at m) ∷ segments (drop (at + (n + 1)) m)
+  segment-there h = segments-next 0 (drop at m) n there h ∙ ap (λ l. take n (drop at m) ∷ segments l) (rest-on m at n)
+
+  -- where what is left of the message is whole, the segment ends in it, is good, and what follows is whole
+  module _ (bar : ℕ) (whole : segmentsOk bar (drop at m) ≡ true) (k : at < length m) (l : n ≤ length (take (length m - at) (drop at m))) where
+    pub ends-inside : n < length (drop at m)
+    ends-inside =
+        rest-inside m at n l
+        (λ e. false≢true (sym (ok-unended bar (drop at m) n there (omega (arith, length-drop at m)) (e ∙ ap length (rest-is m at))) ∙ whole))
+
+    pub good-there : (goodOf bar (take n (drop at m)) ≡ true) × (segmentsOk bar (drop (at + (n + 1)) m) ≡ true)
+    good-there =
+        rw (rest-on m at n) at
+        (both (goodOf bar (take n (drop at m))) (segmentsOk bar (drop (suc n) (drop at m))) (sym (ok-next bar (drop at m) n there ends-inside) ∙ whole))
+
+pub named-there : (m : List ℕ) (at n : ℕ) (x : Name) → x ≡ nameOf (take n (take (length m - at) (drop at m))) → nameOf (take n (drop at m)) ≡ x
+named-there m at n x e = ap (λ l. nameOf (take n l)) (sym (rest-is m at)) ∙ sym e
+
+-- the pass at `at`
 module _ (m : List ℕ) (bar at n : ℕ) (v : Seen) (inv : passFrom start bar m ≡ passFrom v bar (drop at m))
     (en : n ≡ length (until (Scan.is 0x0D) (take (length m - at) (drop at m)))) where
-  there : n ≡ length (until (Scan.is 0x0D) (drop at m))
-  there = en ∙ ap (λ l. length (until (Scan.is 0x0D) l)) (rest-is m at)
-
   pub pass-open : at < length m → n ≡ length (take (length m - at) (drop at m)) → Bad ≡ passFrom start bar m
   unfolding passFrom
-  pass-open h e = sym (inv ∙ rw (ok-unended bar (drop at m) n there (omega (arith, length-drop at m)) (e ∙ ap length (rest-is m at))))
+  pass-open h e = sym (inv ∙ rw (ok-unended bar (drop at m) n (there m at n en) (omega (arith, length-drop at m)) (e ∙ ap length (rest-is m at))))
 
   module _ (k : n ≤ length (take (length m - at) (drop at m))) (ne : n ≡ length (take (length m - at) (drop at m)) → ⊥) where
     inside : n < length (drop at m)
-    inside = let q : length (take (length m - at) (drop at m)) ≡ length (drop at m) = ap length (rest-is m at) in omega arith
-
-    pub pass-further : at ≤ length m → at + (n + 1) ≤ length m
-    pass-further h = omega (arith, inside, length-drop at m)
+    inside = rest-inside m at n k ne
 
     module _ (t : Bool) (et : t ≡ goodOf bar (take n (take (length m - at) (drop at m)))) where
       turn : passFrom start bar m ≡ cond t (passFrom (countedOf v (nameOf (take n (drop at m)))) bar (drop (at + (n + 1)) m)) Bad
-      turn = inv ∙ pass-next bar (drop at m) n there inside v ∙ rw (et, rest-is m at, drop-drop, add-one)
+      turn = inv ∙ pass-next bar (drop at m) n (there m at n en) inside v ∙ rw (et, rest-is m at, rest-on m at n)
 
       pub pass-bad : not t ≡ true → Bad ≡ passFrom start bar m
       pass-bad h = sym (turn ∙ rw (not-true t h))

@@ -1,4 +1,4 @@
--- What the frame's definitions say in terms of the rules: the pass counts what the rules count, the header gives proper delimiters, and the check goes on from the frame.
+-- What the frame's definitions say in terms of the rules: the pass counts what the rules count, and the check goes on from the frame.
 -- Assumes nothing.
 use mathlib.Core.Path.{_≡_, refl, sym, ap, _∙_}
 use mathlib.Core.Bool.{Bool, true, false, cond, not}
@@ -7,25 +7,21 @@ use Prim.Native.Nat.{ℕ, zero, suc, _+_}
 use native.Mathlib.Nat.{add-assoc, add-zero, zero-add}
 use native.Mathlib.Numerals.{add-one}
 use native.Mathlib.Omega.{arith}
-use borrow.Author.Tests.{ltb-false}
 use lib.Dec.{eqb, ltb}
 use lib.ListN.{length}
 use Rattle.rules.specs.declared.Delims.{Delims}
 use Rattle.rules.specs.declared.Counts.{Counts}
 use Rattle.rules.specs.declared.Name.{Name}
 use Rattle.rules.specs.declared.Name.the-variants.{Spm, Obr, Obx, Other}
-use Rattle.rules.specs.Told.{Told, gives, refused, refuse_if_else_, _>>_, _>>=_, _then_, _when_}
-use Rattle.rules.specs.Lists.{bytes, all, any, count}
-use Rattle.rules.specs.Shift.{keeps}
-use Rattle.rules.specs.Frame.{delimsOf, headerOk, digit, segments, segmentsOk, nameOf, is, after, knownFrom, known, orderFault}
+use Rattle.rules.specs.Told.{gives, refused, refuse_if_else_, _>>_, _>>=_, _then_, _when_}
+use Rattle.rules.specs.Lists.{any, count}
+use Rattle.rules.specs.Frame.{delimsOf, segments, nameOf, is, after, knownFrom, known, orderFault}
 use Rattle.rules.specs.View.{Segment, segmentOf, view}
 use Rattle.rules.specs.Check.{frameTold, namesOf, countsTold, placesTold, viewTold, checkTold}
-use Rattle.rules.proofs.Logic.{cases, toldCases, not-true, not-false, guard, then-zero, then-gives}
-use Rattle.rules.proofs.Lists.{in-all}
-use Rattle.rules.proofs.Header as Header
-use Rattle.rules.proofs.Header.{twelve, Delim}
+use Rattle.rules.proofs.Logic.{cases, toldCases, then-zero, then-gives}
+use Rattle.rules.proofs.Header.{header}
+use Rattle.rules.proofs.Where.{passes}
 use Rattle.rules.proofs.Unique.{refusal-unique}
-use Rattle.scan.specs.Scan.{Proper, Printable, alnum}
 use Rattle.frame.specs.Frame.{framedTold, frameOf, Sound, start, tallied, countedOf, seenIn, closing}
 use Rattle.frame.specs.declared.Opened.{Opened}
 use Rattle.frame.specs.declared.Framed.{Framed}
@@ -132,61 +128,22 @@ closing-is m d =
     let es : w .segments ≡ length (segments m) = seen-segments start (segments m) ∙ zero-add (length (segments m)) in
     rw (eo, ec, es)
 
--- ---- the header gives proper delimiters
-printable : (x : ℕ) → Delim x → Printable x
-printable x h = let q = Header.printable x h in record { low = q .0; high = q .1 }
-
-module _ (d : Delims) (h : Header.Proper d) (p : ℕ → Bool) (g : all (λ b. not (p b)) twelve ≡ true) where
-  not-one : (x : ℕ) → Delim x → p x ≡ false
-  not-one x k = not-true (p x) (in-all (λ b. not (p b)) x twelve k g)
-
-  none-of : any p (d .field ∷ d .component ∷ d .sub ∷ d .repetition ∷ d .escape ∷ []) ≡ false
-  unfolding any
-  none-of =
-      cc (not-one (d .field) (h .field), not-one (d .component) (h .component), not-one (d .sub) (h .sub), not-one (d .repetition) (h .repetition), not-one (d .escape) (h .escape))
-
-pub proper : (d : Delims) → Header.Proper d → Proper d
-unfolding all bytes
-proper d h = record {
-  field = printable (d .field) (h .field);
-  component = printable (d .component) (h .component);
-  repetition = printable (d .repetition) (h .repetition);
-  escape = printable (d .escape) (h .escape);
-  sub = printable (d .sub) (h .sub);
-  fieldDiffers = h .component-field;
-  repetitionDiffers = h .component-repetition;
-  digits = none-of d h digit refl;
-  signs = none-of d h alnum refl;
-}
-
 -- ---- what a message that passes is
 pick-gives : {A : Type 0} (b : Bool) (x a : A) (n s f : ℕ) → cond b (gives x) (refused n s f) ≡ gives a → x ≡ a
 pick-gives true x a n s f h = cc
 pick-gives false x a n s f h = cc
 
 pub sound : (m : List ℕ) (o : Opened) → frameOf m ≡ gives o → Sound m (o .delims)
-unfolding frameOf frameTold headerOk countsTold
+unfolding frameOf countsTold
 sound m o h =
     let at : ℕ = orderFault Other 1 (namesOf (view m)) in
     let ns : List Name = namesOf (view m) in
     let d : Delims = delimsOf m in
     let x : Opened = record { delims = d; counts = record { spm = count (is Spm) ns; obr = count (is Obr) ns; obx = count (is Obx) ns } } in
     let q = then-gives (frameTold m) (cond (eqb at 0) (gives x) (refused 15 at 0)) o h in
-    let t14 : Told (Unit {0}) = refuse 14 if ltb 512 (length (segments m)) else gives tt in
-    let t13 : Told (Unit {0}) = refuse 13 if not (segmentsOk (d .field) m) else t14 in
-    let t12 : Told (Unit {0}) = refuse 12 if not (keeps 0x0D m) else t13 in
-    let g10 = guard 10 0 0 (ltb 32768 (length m)) (refuse 11 if not (headerOk m) else t12) tt (q .0) in
-    let g11 = guard 11 0 0 (not (headerOk m)) t12 tt (g10 .1) in
-    let g12 = guard 12 0 0 (not (keeps 0x0D m)) t13 tt (g11 .1) in
-    let g13 = guard 13 0 0 (not (segmentsOk (d .field) m)) t14 tt (g12 .1) in
+    let p = passes m (q .0) in
     let ed : o .delims ≡ d = ap (λ y. y .delims) (sym (pick-gives (eqb at 0) x o 15 at 0 (q .1))) in
-    rw ed (record {
-      delims = refl;
-      proper = proper d (Header.header m (not-false (headerOk m) (g11 .0)) .proper);
-      short = ltb-false 32768 (length m) (g10 .0);
-      shifts = not-false (keeps 0x0D m) (g12 .0);
-      whole = not-false (segmentsOk (d .field) m) (g13 .0);
-    })
+    rw ed (record { delims = refl; proper = header m (p .headed) .proper; short = p .short; shifts = p .kept; whole = p .cut })
 
 -- ---- the check goes on from the frame
 pub check-from : (m : List ℕ) → checkTold m ≡ (frameOf m >>= λ (o : Opened). placesTold (o .delims) [] 1 (view m .segs) >> gives (o .counts))

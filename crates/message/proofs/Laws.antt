@@ -6,7 +6,6 @@ use Prim.Native.Nat.{ℕ, suc, _+_, _-_, _≤_, _<_}
 use native.Mathlib.Numerals.{add-one}
 use native.Mathlib.Omega.{arith}
 use lib.ListN.{length, take, drop, length-drop}
-use lib.Seq.{drop-drop, length-take-le}
 use Rattle.rules.specs.declared.Delims.{Delims}
 use Rattle.rules.specs.declared.Counts.{Counts}
 use Rattle.rules.specs.declared.Kind.{Kind}
@@ -22,9 +21,9 @@ use Rattle.rules.specs.Frame.{known, segments, segmentsOk, nameOf, knownFrom, i
 use Rattle.rules.specs.Places.{places}
 use Rattle.rules.specs.View.{fieldOf, partOf, segmentOf, Segment, view}
 use Rattle.rules.specs.Check.{faultTold, partsTold, placesTold, orderAfter, checkTold}
-use Rattle.rules.proofs.Logic.{both, not-true, not-false}
+use Rattle.rules.proofs.Logic.{not-true, not-false}
 use Rattle.rules.proofs.Names.{inNames}
-use Rattle.rules.proofs.Lists.{over, rest-is, part-length}
+use Rattle.rules.proofs.Lists.{over, rest-is, rest-further, rest-on, rest-end, part-length}
 use Rattle.scan.specs.Scan.{until}
 use Rattle.scan.specs.Scan as Scan
 use Rattle.value.specs.declared.Fault.{Fault}
@@ -32,12 +31,12 @@ use Rattle.value.specs.declared.Fault.the-variants.{Nothing, Found}
 use Rattle.value.specs.Rules.{faultNo, fineOf}
 use Rattle.value.proofs.Laws.{fine-zero, fault-some}
 use Rattle.places.specs.Check.{here, FoundIn, OrderAt}
-use Rattle.frame.specs.Frame.{goodOf, framedTold, frameOf, Sound}
+use Rattle.frame.specs.Frame.{framedTold, frameOf, Sound}
 use Rattle.frame.specs.declared.Opened.{Opened}
 use Rattle.frame.specs.declared.Framed.{Framed}
 use Rattle.frame.specs.declared.Framed.the-variants.{Open, Not}
 use Rattle.frame.proofs.Rules.{check-refused, check-given}
-use Rattle.frame.proofs.Laws.{segments-next, ok-next, ok-unended}
+use Rattle.frame.proofs.Laws.{segments-next, there, ends-inside, good-there, named-there}
 use Rattle.message.specs.Check.{readTold}
 
 -- ---- what is told of the segments of r, the rest of a message from `at` on
@@ -116,34 +115,18 @@ stopped f i field t h = rw (fault-some f h)
 
 module _ (d : Delims) (m order : List ℕ) (i at n : ℕ) (g : Going d m order i at) (k : at < length m)
     (en : n ≡ length (until (Scan.is 0x0D) (take (length m - at) (drop at m)))) (l : n ≤ length (take (length m - at) (drop at m))) where
-  there : n ≡ length (until (Scan.is 0x0D) (drop at m))
-  there = en ∙ ap (λ s. length (until (Scan.is 0x0D) s)) (rest-is m at)
-
   short : n < length (drop at m)
-  short =
-      let q : length (take (length m - at) (drop at m)) ≡ length (drop at m) = ap length (rest-is m at) in
-      let e : n ≡ length (drop at m) → ⊥
-      = λ e. false≢true (sym (ok-unended (d .field) (drop at m) n there (omega (arith, length-drop at m)) e) ∙ g .whole) in
-      omega arith
+  short = ends-inside m at n en (d .field) (g .whole) k l
 
   pub further : at + (n + 1) ≤ length m
-  further = omega (arith, short, length-drop at m)
-
-  onward : drop (suc n) (drop at m) ≡ drop (at + (n + 1)) m
-  onward = rw (drop-drop, add-one)
+  further = rest-further m at n short
 
   rest-whole : segmentsOk (d .field) (drop (at + (n + 1)) m) ≡ true
-  rest-whole =
-      rw onward at
-      (both (goodOf (d .field) (take n (drop at m))) (segmentsOk (d .field) (drop (suc n) (drop at m)))
-      (sym (ok-next (d .field) (drop at m) n there short) ∙ g .whole) .1)
-
-  past : at + suc (length (take n (drop at m))) ≡ at + (n + 1)
-  past = let q : n ≤ length (drop at m) = omega (arith, short) in omega (arith, length-take-le n (drop at m) q)
+  rest-whole = good-there m at n en (d .field) (g .whole) k l .1
 
   module _ (x : Name) (ex : x ≡ nameOf (take n (take (length m - at) (drop at m)))) (t : Bool) (et : t ≡ is x Other) where
     named : nameOf (take n (drop at m)) ≡ x
-    named = rw (rest-is m at) at (sym ex)
+    named = named-there m at n x ex
 
     pub skipped : t ≡ true → Going d m order i (at + (n + 1))
     skipped h =
@@ -151,7 +134,7 @@ module _ (d : Delims) (m order : List ℕ) (i at n : ℕ) (g : Going d m order i
           inside = further;
           ordinal = omega (arith, g .ordinal);
           whole = rest-whole;
-          told = g .told ∙ turn-skip d order i at (drop at m) n there short (rw named (sym et ∙ h)) ∙ rw (past, onward);
+          told = g .told ∙ turn-skip d order i at (drop at m) n (there m at n en) short (rw named (sym et ∙ h)) ∙ rw (rest-end m at n short, rest-on m at n);
         }
 
     module _ (f : Fault) (field : ℕ) (found : FoundIn x d order (met (take n (take (length m - at) (drop at m)))) field (faultNo f)) (ht : t ≡ false) (u : Bool) (eu : u ≡ fineOf f) where
@@ -164,8 +147,8 @@ module _ (d : Delims) (m order : List ℕ) (i at n : ℕ) (g : Going d m order i
       turned : toldFrom d [] 1 0 m ≡ (faultTold i field (faultNo f) >> tail after)
       unfolding tail after
       turned =
-          g .told ∙ turn-found d order i at (drop at m) n there short field (faultNo f) (rw named (sym et ∙ ht)) (rw named (rw (rest-is m at) at found))
-          ∙ rw (named, past, onward)
+          g .told ∙ turn-found d order i at (drop at m) n (there m at n en) short field (faultNo f) (rw named (sym et ∙ ht)) (rw named (rw (rest-is m at) at found))
+          ∙ rw (named, rest-end m at n short, rest-on m at n)
 
       pub refuses : (c : Counts) (kind : Kind) → Sound m d → not u ≡ true → number kind ≡ faultNo f
           → told (Refused (record { kind = kind; segment = i; field = field })) ≡ readTold d c m

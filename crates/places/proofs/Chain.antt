@@ -11,12 +11,13 @@ use Rattle.rules.specs.declared.Name.{Name}
 use Rattle.rules.specs.Told.{Told, _>>_, _then_, _when_}
 use Rattle.rules.specs.Lists.{has}
 use Rattle.rules.specs.Shift.{met, byteOf}
+use Rattle.rules.specs.Frame.{Proper}
 use Rattle.rules.specs.Places.{Field, places}
 use Rattle.rules.specs.View.{pieceOf, fieldOf, componentOf, firstRepetition, seenIn, partOf, segmentOf}
 use Rattle.rules.specs.Judge.{plainOf, judge, judgeAll}
 use Rattle.rules.specs.Check.{numberOf, ownFault, laterFault, partFault, faultTold, partsTold}
 use Rattle.rules.proofs.Logic.{cases, then-zero, then-none, done}
-use Rattle.scan.specs.Scan.{until, is, ends, after, onward, Proper}
+use Rattle.scan.specs.Scan.{until, is, ends, after, onward}
 use Rattle.value.specs.Rules.{ruleOf, faultNo, fineOf}
 use Rattle.value.specs.declared.Fault.{Fault}
 use Rattle.value.specs.declared.Rule.{Rule}

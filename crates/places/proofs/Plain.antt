@@ -3,7 +3,7 @@ use Prim.Native.Nat.{ℕ}
 use native.Mathlib.Omega.{arith}
 use mathlib.Core.Path.{_≡_, refl, sym, ap, _∙_}
 use mathlib.Core.List.{List, [], _∷_, map}
-use mathlib.Core.Option.{Option, none, some}
+use mathlib.Core.Option.{none, some}
 use mathlib.Core.Bool.{Bool, true, false, not}
 use lib.Dec.{eqb}
 use lib.ListN.{length}
@@ -11,13 +11,15 @@ use Rattle.rules.specs.declared.Delims.{Delims}
 use Rattle.rules.specs.Told.{_when_}
 use Rattle.rules.specs.Lists.{bytes, same, all, any, split, isOneOf, empty}
 use Rattle.rules.specs.Shift.{byteOf}
-use Rattle.rules.specs.Frame.{digit}
+use Rattle.rules.specs.Frame.{digit, Proper}
 use Rattle.rules.specs.Value.{Rule, time, date, number, text, digits, capitals, words, holds, tooLong, fault}
-use Rattle.rules.specs.Escape.{Letter, plain, opened, named, letters, meaning, push, unescapeAt, unescape}
+use Rattle.rules.specs.Escape.{Letter, plain, opened, named, letters, meaning, unescapeAt, unescape}
 use Rattle.rules.specs.Judge.{plainOf, unescapedOr, faultOr23, judge}
-use Rattle.rules.proofs.Logic.{cases, optionCases, never, both, not-false, then-none, when-none}
-use Rattle.rules.proofs.Lists.{all-first, any-first, same-eq}
-use Rattle.scan.specs.Scan.{alnum, Proper}
+use Rattle.rules.proofs.Logic.{cases, optionCases, nothing-some, never, both, not-false, then-none, when-none}
+use Rattle.rules.proofs.Lists.{all-first, all-each, any-first, one-of}
+use Rattle.rules.proofs.Header.{delim-apart}
+use Rattle.rules.proofs.Escaped.{pushCases}
+use Rattle.scan.specs.Scan.{alnum}
 
 -- ---- an escape stands for a delimiter, and no delimiter is a letter or a digit
 -- the bytes that the letters of some rows stand for
@@ -34,33 +36,35 @@ meaning-apart (r ∷ rs) y z h e =
     (λ t. meaning-apart rs y z (a .1) (rw (t, meaning) at e))
 
 letters-apart : (d : Delims) → Proper d → any alnum (stand (letters d)) ≡ false
-unfolding letters stand
-letters-apart d p = p .signs
+unfolding letters stand any all bytes
+letters-apart d p =
+    cc (
+      delim-apart (d .field) (p .field) alnum refl,
+      delim-apart (d .component) (p .component) alnum refl,
+      delim-apart (d .sub) (p .sub) alnum refl,
+      delim-apart (d .repetition) (p .repetition) alnum refl,
+      delim-apart (d .escape) (p .escape) alnum refl,
+    )
 
 -- what is read after an escape byte has a delimiter
-push-some : (x : ℕ) (o : Option (List ℕ)) (v : List ℕ) {P : Type 0} → push x o ≡ some v → ((w : List ℕ) → o ≡ some w → v ≡ x ∷ w → P) → P
-unfolding push
-push-some x none v e f = absurd (let z : _≡_ {A = ℕ} 0 1 = cc in omega arith)
-push-some x (some w) v e f = f w refl (cc)
-
 first-not : (x : ℕ) (w v : List ℕ) → v ≡ x ∷ w → alnum x ≡ false → all alnum v ≡ true → ⊥
 first-not x w v e h g = let q = all-first alnum x w (rw e at g) in never (sym (q .0) ∙ h)
 
 named-not : (d : Delims) (x : ℕ) (m v : List ℕ) → alnum x ≡ false → unescapeAt d (named x) m ≡ some v → all alnum v ≡ true → ⊥
 unfolding unescapeAt
-named-not d x [] v h e g = let z : _≡_ {A = ℕ} 0 1 = cc in omega arith
+named-not d x [] v h e g = nothing-some e
 named-not d x (y ∷ m) v h e g =
     cases (eqb y (d .escape))
-    (λ t. push-some x (unescapeAt d plain m) v (rw (t, unescapeAt) at e) (λ w q r. first-not x w v r h g))
-    (λ t. let q : none ≡ some v = rw (t, unescapeAt) at e in let z : _≡_ {A = ℕ} 0 1 = cc in omega arith)
+    (λ t. pushCases x (unescapeAt d plain m) v (rw (t, unescapeAt) at e) (λ w q r. first-not x w v r h g))
+    (λ t. nothing-some (rw (t, unescapeAt) at e))
 
 opened-not : (d : Delims) → Proper d → (m v : List ℕ) → unescapeAt d opened m ≡ some v → all alnum v ≡ true → ⊥
 unfolding unescapeAt
-opened-not d p [] v e g = let z : _≡_ {A = ℕ} 0 1 = cc in omega arith
+opened-not d p [] v e g = nothing-some e
 opened-not d p (y ∷ m) v e g =
     optionCases (meaning (letters d) y)
     (λ z q. named-not d z m v (meaning-apart (letters d) y z (letters-apart d p) q) (rw (q, unescapeAt) at e) g)
-    (λ q. let w : none ≡ some v = rw (q, unescapeAt) at e in let z : _≡_ {A = ℕ} 0 1 = cc in omega arith)
+    (λ q. nothing-some (rw (q, unescapeAt) at e))
 
 -- ---- so its bytes are the raw ones
 raw-at : (d : Delims) → Proper d → (m v : List ℕ) → unescapeAt d plain m ≡ some v → all alnum v ≡ true → v ≡ map byteOf m
@@ -71,7 +75,7 @@ raw-at d p (x ∷ m) v e g =
     (λ t. absurd (opened-not d p m v (rw (t, unescapeAt) at e) g))
     (λ t. cases (eqb x (d .sub))
     (λ u. let q : none ≡ some v = rw (t, u, unescapeAt) at e in cc)
-    (λ u. push-some (byteOf x) (unescapeAt d plain m) v (rw (t, u, unescapeAt) at e)
+    (λ u. pushCases (byteOf x) (unescapeAt d plain m) v (rw (t, u, unescapeAt) at e)
     (λ w q r. r ∙ ap (λ (l : List ℕ). byteOf x ∷ l) (raw-at d p m w q (all-first alnum (byteOf x) w (rw r at g) .1)))))
 
 -- ---- the rules whose values are letters and digits
@@ -84,32 +88,15 @@ lettersOnly (digits n) = true
 lettersOnly (capitals n) = false
 lettersOnly (words ws) = all (all alnum) (split 0x20 (bytes ws))
 
-digits-letters : (v : List ℕ) → all digit v ≡ true → all alnum v ≡ true
-unfolding all
-digits-letters [] h = refl
-digits-letters (b ∷ v) h =
-    let q = all-first digit b v h in
-    let a : alnum b ≡ true = rw (q .0) in
-    rw (a, all) (digits-letters v (q .1))
-
-words-letters : (v : List ℕ) (ws : List (List ℕ)) → any (same v) ws ≡ true → all (all alnum) ws ≡ true → all alnum v ≡ true
-unfolding any
-words-letters v [] h g = never (sym h)
-words-letters v (w ∷ ws) h g =
-    let q = all-first (all alnum) w ws g in
-    cases (same v w)
-    (λ e. ap (all alnum) (same-eq v w e) ∙ q .0)
-    (λ e. words-letters v ws (rw (e, any) at h) (q .1))
-
 holds-letters : (r : Rule) (v : List ℕ) → lettersOnly r ≡ true → holds r v ≡ true → all alnum v ≡ true
 unfolding lettersOnly holds isOneOf
 holds-letters time v l h = never (sym l)
 holds-letters date v l h = never (sym l)
 holds-letters number v l h = never (sym l)
 holds-letters (text n) v l h = never (sym l)
-holds-letters (digits n) v l h = digits-letters v (both (eqb (length v) n) (all digit v) h .1)
+holds-letters (digits n) v l h = all-each digit alnum (λ b e. rw e) v (both (eqb (length v) n) (all digit v) h .1)
 holds-letters (capitals n) v l h = never (sym l)
-holds-letters (words ws) v l h = words-letters v (split 0x20 (bytes ws)) h l
+holds-letters (words ws) v l h = one-of (all alnum) v (split 0x20 (bytes ws)) h l
 
 filled-holds : (r : Rule) (v : List ℕ) → fault true r v ≡ 0 → holds r v ≡ true
 unfolding fault

@@ -13,12 +13,13 @@ use Rattle.rules.specs.Lists.{bytes, same, all, onto, split}
 use Rattle.rules.specs.Lists as L
 use Rattle.rules.specs.Shift.{met}
 use Rattle.rules.specs.Frame as Frame
+use Rattle.rules.specs.Frame.{Proper}
 use Rattle.rules.specs.Places.{Four, places}
 use Rattle.rules.specs.View.{pieceOf, fieldOf, partOf, seenIn, segmentOf, partAt, seenAt}
 use Rattle.rules.specs.Check.{valueAt, rawFourOf, numberOf, ownFault, laterFault, faultTold, partsTold}
 use Rattle.rules.specs.Judge.{rawFour, beside, valueFault, agrees}
 use Rattle.rules.proofs.Logic.{never, then-zero}
-use Rattle.scan.specs.Scan.{until, is, onward, Proper}
+use Rattle.scan.specs.Scan.{until, is, onward}
 use Rattle.value.specs.declared.Fault.{Fault}
 use Rattle.rules.specs.declared.Kind.the-variants.{Status, Differs}
 use Rattle.value.specs.declared.Fault.the-variants.{Nothing, Found}

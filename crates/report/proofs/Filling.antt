@@ -16,10 +16,11 @@ use Rattle.rules.specs.Lists.{ended}
 use Rattle.rules.specs.Shift.{met, byteOf}
 use Rattle.rules.specs.Escape.{At, plain, opened, named, letters, meaning, push, unescapeAt, unescape}
 use Rattle.rules.specs.Judge.{plainOf, unescapedOr}
-use Rattle.rules.proofs.Logic.{cases, optionCases, both}
+use Rattle.rules.proofs.Logic.{cases, optionCases, nothing-some, both}
 use Rattle.rules.proofs.Lists.{over, rest-is}
 use Rattle.rules.proofs.Split.{ended-append}
 use Rattle.rules.proofs.Modes.{length-marks, length-met}
+use Rattle.rules.proofs.Escaped.{pushCases}
 use Rattle.scan.specs.Scan.{until, ends, plainText, CutOf}
 use Rattle.scan.proofs.Laws.{take-until}
 use Rattle.judge.proofs.Laws.{clean-at}
@@ -63,32 +64,27 @@ prefix-room s old n h = omega (arith, length-take-le n s (h .0), h .1)
 
 -- ---- a value is no longer than its component
 push-short : (x : ℕ) (o : Option (List ℕ)) (v : List ℕ) (n : ℕ) → push x o ≡ some v → ((w : List ℕ) → o ≡ some w → length w ≤ n) → length v ≤ suc n
-unfolding push
-push-short x none v n e f = absurd (let z : _≡_ {A = ℕ} 0 1 = cc in omega arith)
-push-short x (some w) v n e f = let q : v ≡ x ∷ w = cc in rw q (omega (arith, f w refl))
-
-no-value : {P : Type 0} (v : List ℕ) → none ≡ some v → P
-no-value v e = absurd (let z : _≡_ {A = ℕ} 0 1 = cc in omega arith)
+push-short x o v n e f = pushCases x o v e (λ w q r. rw r (omega (arith, f w q)))
 
 unescaped-short : (d : Delims) (at : At) (m v : List ℕ) → unescapeAt d at m ≡ some v → length v ≤ length m
 unfolding unescapeAt
 unescaped-short d plain [] v e = let q : v ≡ [] = cc in rw q (omega arith)
-unescaped-short d opened [] v e = no-value v e
-unescaped-short d (named x) [] v e = no-value v e
+unescaped-short d opened [] v e = nothing-some e
+unescaped-short d (named x) [] v e = nothing-some e
 unescaped-short d plain (b ∷ m) v e =
     cases (eqb b (d .escape))
     (λ t. omega (arith, unescaped-short d opened m v (rw (t, unescapeAt) at e)))
     (λ t. cases (eqb b (d .sub))
-    (λ u. no-value v (rw (t, u, unescapeAt) at e))
+    (λ u. nothing-some (rw (t, u, unescapeAt) at e))
     (λ u. push-short (byteOf b) (unescapeAt d plain m) v (length m) (rw (t, u, unescapeAt) at e) (unescaped-short d plain m)))
 unescaped-short d opened (b ∷ m) v e =
     optionCases (meaning (letters d) b)
     (λ x q. omega (arith, unescaped-short d (named x) m v (rw (q, unescapeAt) at e)))
-    (λ q. no-value v (rw (q, unescapeAt) at e))
+    (λ q. nothing-some (rw (q, unescapeAt) at e))
 unescaped-short d (named x) (b ∷ m) v e =
     cases (eqb b (d .escape))
     (λ t. push-short x (unescapeAt d plain m) v (length m) (rw (t, unescapeAt) at e) (unescaped-short d plain m))
-    (λ t. no-value v (rw (t, unescapeAt) at e))
+    (λ t. nothing-some (rw (t, unescapeAt) at e))
 
 module _ (d : Delims) (raw : List ℕ) where
   value-short : (v : List ℕ) → unescape d (met raw) ≡ some v → length v ≤ length raw
@@ -117,9 +113,6 @@ module _ (d : Delims) (raw : List ℕ) where
     pub value-got : (u : Unescaped) (n : ℕ) (buf : List ℕ) → u ≡ Got n → Fits u (unescape d (met raw)) buf → Filled r x (take n buf) out → Filled r x (plainOf d (met raw)) out
     unfolding unescapedOr
     value-got u n buf e h f = let w : Whole n (unescape d (met raw)) buf = subst (λ (z : Unescaped). Fits z (unescape d (met raw)) buf) e h in rw (w .is) f
-
-  pub got-within : (u : Unescaped) (n : ℕ) (buf : List ℕ) → u ≡ Got n → Fits u (unescape d (met raw)) buf → n ≤ length buf
-  got-within u n buf e h = let w : Whole n (unescape d (met raw)) buf = subst (λ (z : Unescaped). Fits z (unescape d (met raw)) buf) e h in w .low
 
   pub got-short : (out x : List ℕ) (r : ℕ) (u : Unescaped) (n : ℕ) (buf : List ℕ) → u ≡ Got n → Fits u (unescape d (met raw)) buf → Filled r x (take n buf) out → r ≤ length raw
   got-short out x r u n buf e h f = value-within out x r (value-got out x r u n buf e h f)

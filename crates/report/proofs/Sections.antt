@@ -11,6 +11,7 @@ use Rattle.rules.specs.declared.Delims.{Delims}
 use Rattle.rules.specs.declared.Name.the-variants.{Msh, Pid, Pv1, Spm, Obr, Obx}
 use Rattle.rules.specs.Lists.{bytes, has, nth, same, split}
 use Rattle.rules.specs.Shift.{marks, met}
+use Rattle.rules.specs.Frame.{Proper}
 use Rattle.rules.specs.Places.{places}
 use Rattle.rules.specs.View.{pieceOf, fieldOf, componentOf, firstRepetition, seenIn, partOf, segmentOf, seenAt, partAt}
 use Rattle.rules.specs.Escape.{unescape, unescapeAt}
@@ -20,12 +21,11 @@ use Rattle.rules.specs.Sheet.{keyOf, linesText}
 use Rattle.rules.proofs.Logic.{cases}
 use Rattle.rules.proofs.Lists.{part-length}
 use Rattle.rules.proofs.Modes.{length-met}
-use Rattle.scan.specs.Scan.{until, is, ends, onward, next, TailOf, Proper}
+use Rattle.scan.specs.Scan.{until, is, ends, onward, next, TailOf}
 use Rattle.scan.proofs.Laws.{piece-met, onward-add, first-piece}
 use Rattle.judge.specs.Judge.{fill}
 use Rattle.closed.specs.Closed.{forward, MarkedOf}
 use Rattle.closed.proofs.Pieces.{piece-at, onward-within, until-free, repetition-is, component-at}
-use Rattle.closed.proofs.Laws.{last-within}
 use Rattle.report.specs.Fill.{Filled, Lined, keyed}
 use Rattle.report.proofs.Filling.{lined-then}
 use Rattle.report.specs.Section.{linesIn, modeLines, nameLines, namesLines, birthLines, itemLines, fourLines, fourIn, statusLines}
@@ -33,10 +33,6 @@ use Rattle.report.specs.Section.{linesIn, modeLines, nameLines, namesLin
 -- ---- walking
 pub field-within : (sep n : ℕ) (t r : List ℕ) → met r ≡ onward sep n (met t) → length r ≤ length t
 field-within sep n t r e = omega (arith, length-met r, length-met t, ap length e, onward-within sep n (met t))
-
-pub behind-within : (d : Delims) (t r : List ℕ) → Proper d → met r ≡ next d (met t) → length r ≤ length t
-unfolding forward
-behind-within d t r p e = last-within t r d 1 p e
 
 pub component-within : (t : List ℕ) (n : ℕ) → n ≤ length t → length (take n t) ≤ length t
 component-within t n h = omega (arith, part-length n t h)

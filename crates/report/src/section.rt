@@ -9,8 +9,9 @@ ghost use lib.ListN.{length};
 ghost use Rattle.rules.specs.declared.Name.the-variants.{Msh, Pid, Pv1, Spm, Obr, Obx};
 ghost use Rattle.rules.specs.Lists.{has, split};
 ghost use Rattle.rules.specs.Shift.{met};
+ghost use Rattle.rules.specs.Frame.{Proper};
 ghost use Rattle.rules.specs.Judge.{plainOf, firstMarked, isSN, rawFour};
-ghost use Rattle.scan.specs.Scan.{until, is, ends, next, onward, Proper};
+ghost use Rattle.scan.specs.Scan.{until, is, ends, next, onward};
 ghost use Rattle.report.specs.Fill.{Lined};
 ghost use Rattle.report.specs.Section.{linesIn, modeLines, nameLines, namesLines, birthLines, itemLines, fourLines, fourIn, statusLines};
 

@@ -12,7 +12,7 @@ use Rattle.rules.specs.Told.{Told, gives, _>>_, _when_}
 use Rattle.rules.specs.Lists.{bytes, empty, same, has, any, split, onto, nth, ended, isOneOf}
 use Rattle.rules.specs.Shift.{walk, step}
 use Rattle.rules.specs.Value.{fault, tooLong, holds}
-use Rattle.rules.specs.Frame.{Known}
+use Rattle.rules.specs.Frame.{Known, Proper}
 use Rattle.rules.specs.Places.{Place, Field, reads, closed, places, entryIn, entryOf}
 use Rattle.rules.specs.View.{pieceOf, fieldOf, componentOf, firstRepetition, seenIn, partOf, Segment, segmentOf, Part, whole, seenAt, partAt}
 use Rattle.rules.specs.Judge.{plainOf, judge, judgeAll}
@@ -21,7 +21,6 @@ use Rattle.rules.specs.Row.{Line, line, lines, fourAt}
 use Rattle.rules.specs.Sheet.{keyOf, linesText}
 use Rattle.rules.proofs.Logic.{then-none, not-given}
 use Rattle.rules.proofs.Lists.{from}
-use Rattle.rules.proofs.Header.{Proper}
 use Rattle.rules.proofs.Clean.{Cleans}
 use Rattle.rules.proofs.Measures.{sum, pieces-fit, nth-short}
 use Rattle.returns.proofs.Groups.{Facts}

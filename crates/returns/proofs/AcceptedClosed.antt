@@ -10,6 +10,7 @@ use Rattle.rules.specs.declared.Delims.{Delims}
 use Rattle.rules.specs.declared.Name.the-variants.{Pid, Obx}
 use Rattle.rules.specs.Told.{_when_}
 use Rattle.rules.specs.Lists.{bytes, empty, filled, same, has, split, onto, nth, isOneOf}
+use Rattle.rules.specs.Frame.{Proper}
 use Rattle.rules.specs.Value.{Rule, fault, holds, words, text, fits}
 use Rattle.rules.specs.Escape.{unescape, unescapeAt}
 use Rattle.rules.specs.Places.{places, Four, valueRules}
@@ -18,7 +19,6 @@ use Rattle.rules.specs.Judge.{faultOr23, unescapedOr, plainOf, judge, firstMark
 use Rattle.rules.specs.Row.{lines}
 use Rattle.rules.proofs.Logic.{cases, never, not-false, then-none, when-none}
 use Rattle.rules.proofs.Lists.{empty-is, same-eq, from, one-word}
-use Rattle.rules.proofs.Header.{Proper}
 use Rattle.rules.proofs.Measures.{sum, pieces-fit, piece-there, nth-short, split-sum}
 use Rattle.returns.proofs.Groups.{must-may, must-filled, meets-rule}
 use Rattle.returns.proofs.Closed.{fourOf}

@@ -15,7 +15,7 @@ use Rattle.rules.specs.declared.Name.the-variants.{Msh, Pid, Pv1, Spm, Obr, Orc
 use Rattle.rules.specs.Told.{gives, accepted}
 use Rattle.rules.specs.Lists.{bytes, nth, any, count, has, split, ended}
 use Rattle.rules.specs.Shift.{met}
-use Rattle.rules.specs.Frame.{delimsOf, segments, spelling, nameOf, is, knownFrom, known, after, orderFault}
+use Rattle.rules.specs.Frame.{delimsOf, segments, spelling, nameOf, is, knownFrom, known, after, orderFault, Delim, Proper}
 use Rattle.rules.specs.Places.{places}
 use Rattle.rules.specs.View.{partOf, Segment, segmentOf, View, view}
 use Rattle.rules.specs.Check.{partsTold, orderAfter, placesTold, namesOf, countsTold, viewTold, frameTold, checkTold}
@@ -25,7 +25,7 @@ use Rattle.rules.proofs.Logic.{cases, never, not-given, then-gives}
 use Rattle.rules.proofs.Split.{ended-append, front}
 use Rattle.rules.proofs.Modes.{length-marks}
 use Rattle.rules.proofs.Names.{inNames, name-is, spelling-of, name-split}
-use Rattle.rules.proofs.Header.{Delim, Proper, proper, header}
+use Rattle.rules.proofs.Header.{proper, header}
 use Rattle.rules.proofs.Clean.{Clean, Cleans, end-0D, ended-cleans}
 use Rattle.rules.proofs.Where.{passes, framed, ended-segments, segments-free}
 use Rattle.returns.proofs.Groups.{facts-good}

@@ -9,6 +9,7 @@ use Rattle.rules.specs.declared.Delims.{Delims}
 use Rattle.rules.specs.declared.Name.the-variants.{Pid, Obx}
 use Rattle.rules.specs.Lists.{bytes, empty, filled, same, has, any, all, split, isOneOf}
 use Rattle.rules.specs.Shift.{marks, mark, met, isOne, step}
+use Rattle.rules.specs.Frame.{Proper}
 use Rattle.rules.specs.Escape.{unescape, escape, escapeMet, unescapeAt}
 use Rattle.rules.specs.Value.{Rule, fault, tooLong, holds, words, text, fits}
 use Rattle.rules.specs.Places.{Four, valueRules}
@@ -20,7 +21,6 @@ use Rattle.rules.proofs.Logic.{cases, never, both, neither, not-true, not-false
 use Rattle.rules.proofs.Lists.{empty-is, has-neither}
 use Rattle.rules.proofs.Split.{split-none, split-next}
 use Rattle.rules.proofs.Modes.{met-append}
-use Rattle.rules.proofs.Header.{Proper}
 use Rattle.rules.proofs.Clean.{Clean, Cleans, clean-keeps, clean-append}
 use Rattle.rules.proofs.Escaped.{plainByte, escaped-back, escaped-empty, escaped-null}
 use Rattle.returns.proofs.Fields.{Ok, last, next, also, end, FieldIs, escaped, plain, nothing, single, several, value-in, judge-in, component-is, field-at, ok-cons}

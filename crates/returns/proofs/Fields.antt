@@ -9,6 +9,7 @@ use Rattle.rules.specs.declared.Delims.{Delims}
 use Rattle.rules.specs.declared.Name.{Name}
 use Rattle.rules.specs.Lists.{bytes, empty, same, has, all, split, join, nth}
 use Rattle.rules.specs.Shift.{met}
+use Rattle.rules.specs.Frame.{Delim, Proper}
 use Rattle.rules.specs.Escape.{unescape, escape}
 use Rattle.rules.specs.Value.{Rule, fault}
 use Rattle.rules.specs.View.{pieceOf, fieldOf, componentOf, firstRepetition}
@@ -16,7 +17,7 @@ use Rattle.rules.specs.Judge.{unescapedOr, plainOf, faultOr23, judge}
 use Rattle.rules.specs.Message.{composed, blanks}
 use Rattle.rules.proofs.Lists.{has-there}
 use Rattle.rules.proofs.Split.{frees, split-none, split-join, has-join}
-use Rattle.rules.proofs.Header.{Delim, Proper, delim-one}
+use Rattle.rules.proofs.Header.{delim-one}
 use Rattle.rules.proofs.Clean.{Clean, Cleans, clean-cons, clean-join, met-cons, met-join, nth-met}
 use Rattle.rules.proofs.Escaped.{Separator, by-field, by-component, by-repetition, plainByte, word, escaped-clean, escaped-back, escaped-free, escaped-empty, escaped-null}
 

@@ -12,7 +12,7 @@ use Rattle.rules.specs.declared.Name.the-variants.{Spm, Obr, Orc, Obx, Other}
 use Rattle.rules.specs.Told.{gives, accepted}
 use Rattle.rules.specs.Lists.{bytes, empty, starts, any, count, split, last, led, join, ended}
 use Rattle.rules.specs.Shift.{keeps}
-use Rattle.rules.specs.Frame.{delimsOk, headerOk, delimsOf, segments, nameOk, capital, capitalOrDigit, knownNames, spelling, nameAmong, nameOf, is, knownFrom, known, after, orderFault}
+use Rattle.rules.specs.Frame.{delimsOk, headerOk, delimsOf, segments, nameOk, capital, capitalOrDigit, knownNames, spelling, nameAmong, nameOf, is, knownFrom, known, after, orderFault, Proper}
 use Rattle.rules.specs.Places.{places}
 use Rattle.rules.specs.View.{partOf, Segment, segmentOf, view}
 use Rattle.rules.specs.Check.{partsTold, placesTold, countsTold, viewTold}
@@ -22,7 +22,7 @@ use Rattle.rules.specs.Message.{blanks, encoding, Piece, piece, piecesOf, speci
 use Rattle.rules.proofs.Logic.{cases, never, both, or-true, eqb-self}
 use Rattle.rules.proofs.Split.{split-ended, butLast-snoc, last-snoc}
 use Rattle.rules.proofs.Names.{inNames, name-is}
-use Rattle.rules.proofs.Header.{Proper, proper}
+use Rattle.rules.proofs.Header.{proper}
 use Rattle.rules.proofs.Clean.{Cleans, cleans-free, cleans-ended, end-0D}
 use Rattle.returns.proofs.Fields.{segment-clean}
 use Rattle.returns.proofs.Groups.{Facts, facts}

@@ -15,7 +15,7 @@ use Rattle.rules.specs.Lists.{bytes, empty, same, has, any, all, split, onto, n
 use Rattle.rules.specs.Shift.{step, isOne, mark, marks, met}
 use Rattle.rules.specs.Escape.{escape}
 use Rattle.rules.specs.Value.{fault, tooLong, holds}
-use Rattle.rules.specs.Frame.{spelling, Known, is}
+use Rattle.rules.specs.Frame.{spelling, Known, is, Proper}
 use Rattle.rules.specs.Places.{Place, Field, reads, closed, places, entryIn, entryOf}
 use Rattle.rules.specs.View.{pieceOf, fieldOf, componentOf, firstRepetition, seenIn, partOf, Segment, segmentOf, Part, whole, seenAt, partAt}
 use Rattle.rules.specs.Judge.{plainOf, judgeAll}
@@ -24,7 +24,6 @@ use Rattle.rules.specs.Row.{Line, line, lines, fourAt, Row, header, visit, spec
 use Rattle.rules.specs.Message.{blanks, decimal, decimalTo, encoding, Piece, piece, piecesOf, segmentText}
 use Rattle.rules.proofs.Logic.{cases}
 use Rattle.rules.proofs.Lists.{same-self, in-range, all-append}
-use Rattle.rules.proofs.Header.{Proper}
 use Rattle.rules.proofs.Clean.{Cleans}
 use Rattle.rules.proofs.Escaped.{plainByte}
 use Rattle.rules.proofs.Plain.{bytewise}

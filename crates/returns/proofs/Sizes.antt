@@ -12,7 +12,7 @@ use Rattle.rules.specs.declared.Name.{Name}
 use Rattle.rules.specs.declared.Name.the-variants.{Spm, Obr, Obx}
 use Rattle.rules.specs.Lists.{bytes, empty, filled, same, all, split, onto, join, isOneOf}
 use Rattle.rules.specs.Shift.{marks, met}
-use Rattle.rules.specs.Frame.{capitalOrDigit, spelling, is}
+use Rattle.rules.specs.Frame.{capitalOrDigit, spelling, is, Proper}
 use Rattle.rules.specs.Value.{Rule, time, date, number, text, digits, capitals, words, digitsOk, dayOk, clockOk, holds, tooLong, fits}
 use Rattle.rules.specs.Escape.{escape, escapeMet}
 use Rattle.rules.specs.Places.{places, entryIn, entryOf, valueRules}
@@ -22,7 +22,6 @@ use Rattle.rules.specs.Sheet.{valid}
 use Rattle.rules.specs.Message.{composed, blanks, encoding, decimal, nameText, namesText, valueText, Piece, piecesOf, specimens, results, pieces, segmentText}
 use Rattle.rules.proofs.Logic.{cases, both}
 use Rattle.rules.proofs.Lists.{empty-is, one-of}
-use Rattle.rules.proofs.Header.{Proper}
 use Rattle.rules.proofs.Measures.{total, join-total, tens, decimal-few}
 use Rattle.rules.proofs.Escaped.{plainByte, word, escaped-length}
 use Rattle.rules.proofs.Plain.{bytewise, number-plain, digits-plain, capitals-plain}

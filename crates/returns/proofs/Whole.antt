@@ -3,7 +3,7 @@
 use mathlib.Core.Path.{_≡_, refl, sym, ap, _∙_}
 use mathlib.Core.Bool.{Bool, true, false}
 use mathlib.Core.List.{List, [], _∷_}
-use mathlib.Core.Option.{Option, none, some}
+use mathlib.Core.Option.{none, some}
 use Prim.Native.Nat.{ℕ, _≤_}
 use native.Mathlib.Omega.{arith}
 use borrow.Author.Tests.{eqb-true, eq-eqb}
@@ -15,16 +15,17 @@ use Rattle.rules.specs.declared.Mode.the-variants.{One, Bad}
 use Rattle.rules.specs.Told.{_when_}
 use Rattle.rules.specs.Lists.{bytes, empty, same, has, any, split, nth}
 use Rattle.rules.specs.Shift.{walk, isOne, step, mark, marks, met, byteOf}
+use Rattle.rules.specs.Frame.{twelve, Delim, Proper}
 use Rattle.rules.specs.Value.{Rule, fault}
-use Rattle.rules.specs.Escape.{Letter, letters, meaning, At, plain, opened, named, push, unescapeAt, unescape}
+use Rattle.rules.specs.Escape.{Letter, letters, meaning, At, plain, opened, named, unescapeAt, unescape}
 use Rattle.rules.specs.Judge.{unescapedOr, plainOf, faultOr23, judge}
 use Rattle.rules.proofs.Logic.{cases, optionCases, never, then-none, when-none, nothing-some}
 use Rattle.rules.proofs.Lists.{same-eq, same-self}
 use Rattle.rules.proofs.Modes.{one-is, length-marks, met-one}
-use Rattle.rules.proofs.Header.{twelve, Delim, Proper, delim-one, delim-small}
+use Rattle.rules.proofs.Header.{delim-one, delim-small}
 use Rattle.rules.proofs.Clean.{Clean, not-bad, agree, clean-keeps, keeps-clean, clean-free, end-0D}
 use Rattle.rules.proofs.Pieces.{piece-bytes}
-use Rattle.rules.proofs.Escaped.{small-one, byte-far, byte-near}
+use Rattle.rules.proofs.Escaped.{pushCases, small-one, byte-far, byte-near}
 use Rattle.rules.proofs.Where.{cut}
 use Rattle.returns.proofs.Groups.{Keeps}
 
@@ -53,11 +54,6 @@ FitsAt : At → Mode → Type 0
 FitsAt plain m = Unit
 FitsAt opened m = m ≡ One
 FitsAt (named x) m = (m ≡ One) × Delim x
-
-pushCases : {P : Type 0} (b : ℕ) (o : Option (List ℕ)) (v : List ℕ) → push b o ≡ some v → ((w : List ℕ) → o ≡ some w → v ≡ b ∷ w → P) → P
-unfolding push
-pushCases b none v h f = nothing-some h
-pushCases b (some w) v h f = f w refl (cc)
 
 byte-mark : (m : Mode) (b : ℕ) → (step 0x20 m b ≡ Bad → ⊥) → byteOf (mark m b) ≡ b
 unfolding mark

@@ -3,7 +3,7 @@
 use mathlib.Core.Path.{_≡_, refl, ap, _∙_}
 use mathlib.Core.Bool.{Bool, true, false, not, _&&_}
 use mathlib.Core.List.{List, [], _∷_}
-use mathlib.Core.Option.{none, some}
+use mathlib.Core.Option.{Option, none, some}
 use Prim.Native.Nat.{ℕ, _+_, _-_, _*_, _≤_, _<_}
 use native.Mathlib.Omega.{arith}
 use borrow.Author.Tests.{eqb-true, leb-true, le-ltb, lt-ltb}
@@ -14,12 +14,13 @@ use Rattle.rules.specs.declared.Mode.{Mode}
 use Rattle.rules.specs.declared.Mode.the-variants.{One, Bad}
 use Rattle.rules.specs.Lists.{bytes, empty, same, has, any, all}
 use Rattle.rules.specs.Shift.{step, isOne, walk, mark, marks, met, byteOf}
+use Rattle.rules.specs.Frame.{twelve, Delim, Proper}
 use Rattle.rules.specs.Escape.{Letter, letters, meaning, letterFor, plain, push, unescapeAt, unescape, escapeMet, escape}
-use Rattle.rules.proofs.Logic.{cases, optionCases, both, not-true, eqb-self}
+use Rattle.rules.proofs.Logic.{cases, optionCases, nothing-some, both, not-true, eqb-self}
 use Rattle.rules.proofs.Lists.{same-eq, same-self, all-first}
 use Rattle.rules.proofs.Modes.{one-is, walk-step, length-met}
 use Rattle.rules.proofs.Clean.{Clean, not-bad, agree, stays, met-cons, clean-cons}
-use Rattle.rules.proofs.Header.{twelve, Delim, delim-one, delim-ne, delim-far, Proper}
+use Rattle.rules.proofs.Header.{delim-one, delim-ne, delim-far}
 
 -- a byte that is written as itself: allowed in one-byte mode, and no delimiter
 unfoldable pub plainByte : ℕ → Bool
@@ -43,6 +44,12 @@ units-length d (x ∷ s) =
 pub escaped-length : (d : Delims) (v : List ℕ) → length (escape d v) ≤ 3 * length v
 unfolding escape
 escaped-length d v = omega (arith, units-length d (met v), length-met v)
+
+-- ---- what is read where a byte is read first
+pub pushCases : {P : Type 0} (b : ℕ) (o : Option (List ℕ)) (v : List ℕ) → push b o ≡ some v → ((w : List ℕ) → o ≡ some w → v ≡ b ∷ w → P) → P
+unfolding push
+pushCases b none v h f = nothing-some h
+pushCases b (some w) v h f = f w refl (cc)
 
 -- ---- the table of letters
 none-first : (r : Letter) (rs : List Letter) (b : ℕ) → letterFor (r ∷ rs) b ≡ none → (eqb b (r .stands) ≡ false) × (letterFor rs b ≡ none)

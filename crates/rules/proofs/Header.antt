@@ -12,18 +12,12 @@ use Rattle.rules.specs.declared.Delims.{Delims}
 use Rattle.rules.specs.declared.Mode.the-variants.{One}
 use Rattle.rules.specs.Lists.{bytes, starts, all, has, distinct}
 use Rattle.rules.specs.Shift.{within, step}
-use Rattle.rules.specs.Frame.{delimsOf, fiveOf, delimsOk, headerOk}
+use Rattle.rules.specs.Frame.{delimsOf, fiveOf, twelve, Delim, delimsOk, Proper, headerOk}
 use Rattle.rules.proofs.Logic.{cases, both, not-true, never, eqb-self, eqb-sym, or-true}
 use Rattle.rules.proofs.Lists.{starts-eq, starts-prefix, all-first, has-nil, has-cons, has-first, has-here, in-all}
 use Rattle.rules.proofs.Modes.{still-one}
 
 -- ---- a delimiter: "one of `! # % & * ; ? @ \\ ^ | ~`"
-abbrev pub twelve : List ℕ
-twelve = bytes "!#%&*;?@\\^|~"
-
-abbrev pub Delim : ℕ → Type 0
-Delim x = has x twelve ≡ true
-
 module _ (x : ℕ) (h : Delim x) where
   pub delim-within : within 0x20 0x7E x ≡ true
   delim-within = in-all (within 0x20 0x7E) x twelve h (unfold all bytes in refl)
@@ -41,24 +35,14 @@ module _ (x : ℕ) (h : Delim x) where
   pub delim-ne : (b : ℕ) → has b twelve ≡ false → eqb b x ≡ false
   delim-ne b n = ne-eqb b x (λ e. never (cc (ap (λ (y : ℕ). has y twelve) e)))
 
+  -- what holds of none of the twelve doesn't hold of it
+  pub delim-apart : (p : ℕ → Bool) → all (λ (b : ℕ). not (p b)) twelve ≡ true → p x ≡ false
+  delim-apart p g = not-true (p x) (in-all (λ (b : ℕ). not (p b)) x twelve h g)
+
   pub delim-far : (b : ℕ) → eqb (256 + b) x ≡ false
   delim-far b = ne-eqb (256 + b) x (λ e. omega (arith, delim-small))
 
--- ---- "five different delimiters": what the laws use of them
-pub record Proper (d : Delims) : Type 0 where
-  pub field : Delim (d .field)
-  pub component : Delim (d .component)
-  pub repetition : Delim (d .repetition)
-  pub escape : Delim (d .escape)
-  pub sub : Delim (d .sub)
-  pub component-field : eqb (d .component) (d .field) ≡ false
-  pub repetition-field : eqb (d .repetition) (d .field) ≡ false
-  pub escape-field : eqb (d .escape) (d .field) ≡ false
-  pub sub-field : eqb (d .sub) (d .field) ≡ false
-  pub component-repetition : eqb (d .component) (d .repetition) ≡ false
-  pub escape-component : eqb (d .escape) (d .component) ≡ false
-  pub escape-repetition : eqb (d .escape) (d .repetition) ≡ false
-
+-- ---- "five different delimiters"
 distinct-first : (x : ℕ) (s : List ℕ) → distinct (x ∷ s) ≡ true → (has x s ≡ false) × (distinct s ≡ true)
 unfolding distinct
 distinct-first x s h = let p = both (not (has x s)) (distinct s) h in (not-true (has x s) (p .0), p .1)

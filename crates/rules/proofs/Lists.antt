@@ -8,7 +8,7 @@ use native.Mathlib.Omega.{arith}
 use borrow.Author.Tests.{eqb-true, eqb-false}
 use lib.Dec.{eqb}
 use lib.ListN.{length, getD, take, drop, drop-of-length-le, length-drop}
-use lib.Seq.{drop-cons, take-all, length-take-le}
+use lib.Seq.{drop-cons, drop-drop, take-all, length-take-le}
 pub use lib.Seq.{drop-append-seam as drop-own, take-append-seam as take-own}
 use Rattle.rules.specs.Lists.{empty, nth, same, starts, all, any, has}
 use Rattle.rules.proofs.Logic.{cases, never, eqb-self, neither}
@@ -33,6 +33,19 @@ rest-shorter s a k h = omega (arith, rest-length s a)
 
 pub rest-within : (s : List ℕ) (a k : ℕ) → a ≤ length s → k ≤ length (take (length s - a) (drop a s)) → a + k ≤ length s
 rest-within s a k h e = omega (arith, rest-length s a)
+
+-- n elements of it stand before a separator, so it goes on behind that
+pub rest-inside : {A : Type 0} (s : List A) (a n : ℕ) → n ≤ length (take (length s - a) (drop a s)) → (n ≡ length (take (length s - a) (drop a s)) → ⊥) → n < length (drop a s)
+rest-inside s a n h e = let q : length (take (length s - a) (drop a s)) ≡ length (drop a s) = ap length (rest-is s a) in omega arith
+
+pub rest-further : {A : Type 0} (s : List A) (a n : ℕ) → n < length (drop a s) → a + (n + 1) ≤ length s
+rest-further s a n h = omega (arith, length-drop a s)
+
+pub rest-on : {A : Type 0} (s : List A) (a n : ℕ) → drop (suc n) (drop a s) ≡ drop (a + (n + 1)) s
+rest-on s a n = rw (drop-drop, add-one)
+
+pub rest-end : {A : Type 0} (s : List A) (a n : ℕ) → n < length (drop a s) → a + suc (length (take n (drop a s))) ≡ a + (n + 1)
+rest-end s a n h = omega (arith, length-take-le n (drop a s) (omega arith))
 
 pub part-length : {A : Type 0} (n : ℕ) (s : List A) → n ≤ length s → n ≡ length (take n s)
 part-length n s h = sym (length-take-le n s h)

@@ -1,6 +1,6 @@
 -- Going by cases, and the laws of tests: what every proof of the library stands on. Assumes nothing.
 use mathlib.Core.Path.{_≡_, refl, sym}
-use mathlib.Core.Bool.{Bool, true, false, cond, not, _&&_, _||_, false≢true}
+use mathlib.Core.Bool.{Bool, true, false, cond, _&&_, _||_, false≢true, and-assoc as and-right, or-assoc as or-right}
 pub use mathlib.Core.Bool.{and-true, and-false, and-comm, or-true, or-false}
 use mathlib.Core.List.{List, [], _∷_}
 use mathlib.Core.Option.{Option, none, some}
@@ -9,7 +9,8 @@ use borrow.Author.Tests.{eqb-true, eqb-false, eq-eqb, ne-eqb}
 pub use borrow.Author.Tests.{not-true, not-false}
 use native.Mathlib.Omega.{arith}
 use lib.Dec.{eqb}
-use Rattle.rules.specs.Told.{Told, gives, refused, _>>_, _then_, _when_}
+use Rattle.rules.specs.declared.Written.{Written}
+use Rattle.rules.specs.Told.{Told, gives, refused, Call, _>>_, _then_, _when_}
 
 -- ---- by cases, with the equation
 pub cases : {P : Type 0} (t : Bool) → (t ≡ true → P) → (t ≡ false → P) → P
@@ -58,8 +59,7 @@ either true y h f g = f refl
 either false y h f g = g h
 
 pub and-assoc : (a b c : Bool) → (a && (b && c)) ≡ ((a && b) && c)
-and-assoc true b c = refl
-and-assoc false b c = refl
+and-assoc a b c = sym (and-right a b c)
 
 pub and-swap : (a b c : Bool) → ((a && b) && c) ≡ ((a && c) && b)
 and-swap true true c = sym (and-true c)
@@ -67,8 +67,7 @@ and-swap true false c = sym (and-false c)
 and-swap false b c = refl
 
 pub or-assoc : (a b c : Bool) → (a || (b || c)) ≡ ((a || b) || c)
-or-assoc true b c = refl
-or-assoc false b c = refl
+or-assoc a b c = sym (or-right a b c)
 
 pub cond-same : {A : Type 0} (t : Bool) (x : A) → cond t x x ≡ x
 cond-same true x = refl
@@ -118,3 +117,7 @@ then-gives (refused n s f) u a h = not-given h
 pub done : (t : Told (Unit {0})) → t >> gives tt ≡ t
 done (gives u) = refl
 done (refused n s f) = refl
+
+-- a call that gives an answer gives what equals it
+pub called-as : {t u : Told (List ℕ)} {x : List ℕ} {r : Written} {y : List ℕ} → t ≡ u → Call u x r y → Call t x r y
+called-as e p = rw e p

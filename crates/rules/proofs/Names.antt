@@ -11,13 +11,12 @@ use Rattle.rules.specs.declared.Name.{Name}
 use Rattle.rules.specs.declared.Name.the-variants.{Msh, Pid, Pv1, Spm, Obr, Orc, Obx, Other}
 use Rattle.rules.specs.Lists.{bytes, starts, all, any, has, split}
 use Rattle.rules.specs.Shift.{within, met}
-use Rattle.rules.specs.Frame.{knownNames, spelling, nameAmong, nameOf, rank, is}
+use Rattle.rules.specs.Frame.{knownNames, spelling, nameAmong, nameOf, rank, is, twelve, Delim}
 use Rattle.rules.proofs.Logic.{cases, both, never, not-true}
 use Rattle.rules.proofs.Lists.{starts-eq, in-all}
 use Rattle.rules.proofs.Split.{front, later, split-free}
 use Rattle.rules.proofs.Modes.{met-append}
 use Rattle.rules.proofs.Clean.{plain-met, plain-kept}
-use Rattle.rules.proofs.Header.{twelve, Delim}
 
 -- ---- what holds of each name
 pub inNames : (P : Name → Type 0) → P Msh → P Pid → P Pv1 → P Spm → P Obr → P Orc → P Obx → P Other → (n : Name) → P n

@@ -11,20 +11,21 @@ use borrow.Author.Tests.{ltb-false}
 use lib.Dec.{ltb}
 use lib.ListN.{length, getElem?, length-append}
 use Rattle.rules.specs.declared.Delims.{Delims}
+use Rattle.rules.specs.declared.Counts.{Counts}
 use Rattle.rules.specs.declared.Name.the-variants.{Other}
 use Rattle.rules.specs.Told.{gives}
 use Rattle.rules.specs.Lists.{empty, nth, has, split, last, ended}
 use Rattle.rules.specs.Shift.{keeps, met}
-use Rattle.rules.specs.Frame.{headerOk, delimsOf, segments, segmentsOk, nameOf, is, Known, knownFrom, known}
+use Rattle.rules.specs.Frame.{headerOk, delimsOf, segments, segmentsOk, nameOf, is, Known, knownFrom, known, Delim}
 use Rattle.rules.specs.Frame as Frame
-use Rattle.rules.specs.View.{pieceOf, fieldOf, componentOf, firstRepetition}
-use Rattle.rules.specs.Check.{frameTold}
+use Rattle.rules.specs.View.{view, pieceOf, fieldOf, componentOf, firstRepetition}
+use Rattle.rules.specs.Check.{frameTold, viewTold, checkTold}
 use Rattle.rules.specs.Fetch.{stretch, startOf, bytesAt}
-use Rattle.rules.proofs.Logic.{cases, both, not-false, guard, nothing-some}
+use Rattle.rules.proofs.Logic.{cases, both, not-false, guard, then-gives, nothing-some}
 use Rattle.rules.proofs.Lists.{drop-own, take-own}
 use Rattle.rules.proofs.Split.{since, here, frees, frees-both, frees-left, frees-right, split-frees, butLast-frees, split-ended, last-snoc, ended-append, ended-lines, butLast-snoc}
 use Rattle.rules.proofs.Modes.{length-met}
-use Rattle.rules.proofs.Header.{Delim, printable, Header, header, nine}
+use Rattle.rules.proofs.Header.{printable, Header, header, nine}
 use Rattle.rules.proofs.Clean.{keeps-parts, ended-keeps}
 use Rattle.rules.proofs.Pieces.{Piece, piece, start-first}
 
@@ -55,6 +56,11 @@ passes m h =
       cut = not-false (segmentsOk (delimsOf m .field) m) (e .0);
       few = ltb-false 512 (length (segments m)) (f .0);
     }
+
+-- as an accepted message does
+pub accepted-passes : (m : List ℕ) (c : Counts) → checkTold m ≡ gives c → Passes m
+unfolding checkTold
+accepted-passes m c h = passes m (then-gives (frameTold m) (viewTold (view m)) c h .0)
 
 -- a message with a header, that keeps the byte and shift rule and ends in 0D: one that keeps rules 10 to 14, or one on the way between two
 -- such, which may be too long

@@ -14,14 +14,16 @@ use Rattle.rules.specs.declared.Delims.{Delims}
 use Rattle.rules.specs.declared.Mode.{Mode}
 use Rattle.rules.specs.declared.Mode.the-variants.{One, Two, Second}
 use Rattle.rules.specs.Shift.{step, isOne, walk, keeps, mark, marks, met, within, byteOf}
-use Rattle.rules.specs.Lists.{nth, has, split}
+use Rattle.rules.specs.Lists.{bytes, nth, has, all, split}
+use Rattle.rules.specs.Frame.{Delim, Proper}
 use Rattle.rules.specs.Fetch.{startOf}
 use Rattle.rules.proofs.Logic.{both, not-true, not-false, never, and-true, and-assoc, or-false, or-assoc}
-use Rattle.rules.proofs.Lists.{here, over, rest-is, any-first, has-cons, has-nil, has-append}
+use Rattle.rules.proofs.Lists.{here, over, rest-is, has-cons, has-nil, has-append}
 use Rattle.rules.proofs.Split.{split-next, split-none, later}
 use Rattle.rules.proofs.Pieces.{start-first, start-next, start-over}
 use Rattle.rules.proofs.Modes.{one-is, met-as, byte-met, still-one, marks-here, marks-over, length-marks, met-rest}
-use Rattle.scan.specs.Scan.{is, meetsOf, until, after, onward, between, hidden, Hides, Units, Reaches, ends, escapes, plainText, nextFrom, next, alnum, Printable, Proper, CutOf, TailOf}
+use Rattle.rules.proofs.Header.{printable, delim-small, delim-apart}
+use Rattle.scan.specs.Scan.{is, meetsOf, until, after, onward, between, hidden, Hides, Units, Reaches, ends, escapes, plainText, nextFrom, next, alnum, CutOf, TailOf}
 use Rattle.scan.proofs.Laws.{map-append, between-none, between-one, between-first, between-rest, between-then, between-take, between-length, until-yes, until-no, until-nil, until-stops, after-drop, Far, far-is, far-escapes, ends-far, hidden-append, hidden-nil, hidden-length, hidden-bytes, hidden-until, hidden-has, hidden-free, hidden-plain, plain-cons, plain-nil, from-met, alnum-plain}
 
 -- ---- meets
@@ -346,12 +348,12 @@ past-over s sep r l e h =
     let n : met (drop r s) ≡ [] = marks-over 0x0D s r One (omega arith) in
     n ∙ sym (past-at s sep r l e ∙ ap (drop 1) n)
 
-pub past-next : (s : List ℕ) (sep r : ℕ) → Printable sep → r ≡ length (until (is sep) (marks 0x0D One s)) → r ≤ length s → (r ≡ length s → ⊥)
+pub past-next : (s : List ℕ) (sep r : ℕ) → Delim sep → r ≡ length (until (is sep) (marks 0x0D One s)) → r ≤ length s → (r ≡ length s → ⊥)
     → met (drop (r + 1) s) ≡ after sep (met s)
 unfolding met mark isOne
 past-next s sep r p e l n =
     let b : ℕ = getD s r 0 in
-    let far : sep < 256 = omega (arith, p .high) in
+    let far : sep < 256 = delim-small sep p in
     let h : r < length s = omega arith in
     let m : r < length (met s) = omega (arith, length-marks 0x0D One s) in
     let at-r : met (drop r s) ≡ b ∷ marks 0x0D (step 0x0D One b) (drop (r + 1) s) = marks-here 0x0D s r One h in
@@ -359,7 +361,7 @@ past-next s sep r p e l n =
     = sym (here 0 (met s) r m) ∙ ap (λ k. drop k (met s)) e ∙ from-met (is sep) (far-is sep far) s ∙ ap (λ k. met (drop k s)) (sym e) ∙ at-r in
     let stop : eqb (getD (met s) r 0) sep ≡ true = rw e (until-stops (is sep) (met s) (rw e at m)) in
     let y : eqb b sep ≡ true = ap (λ x. eqb x sep) (let q : b ≡ getD (met s) r 0 = cc in q) ∙ stop in
-    sym (past-at s sep r far e ∙ ap (drop 1) at-r ∙ met-rest 0x0D One b sep (drop (r + 1) s) (p .low) (p .high) y)
+    sym (past-at s sep r far e ∙ ap (drop 1) at-r ∙ met-rest 0x0D One b sep (drop (r + 1) s) (printable sep p .0) (printable sep p .1) y)
 
 -- ---- skip
 pub skip-on : (s : List ℕ) (sep n left at r : ℕ) → onward sep n (met s) ≡ onward sep left (met (drop at s)) → 0 < left
@@ -410,7 +412,7 @@ module _ (d : Delims) (t : List ℕ) (clean : Bool) (i : ℕ) (inv : Cutting d t
       let w : List ℕ = between (i + 1) j t in
       let U : List ℕ = until (ends d) (marks 0x0D One (drop j t)) in
       let u : until (ends d) (marks 0x0D One (drop i t)) ≡ b ∷ (hidden w ++ U) = until-on 0x0D t i (ends d) j k r (ends-far d p) (sym e ∙ g) in
-      let far : Far (escapes d) = far-escapes d (omega (arith, p .escape .high)) (omega (arith, p .sub .high)) in
+      let far : Far (escapes d) = far-escapes d (delim-small (d .escape) (p .escape)) (delim-small (d .sub) (p .sub)) in
       let plain-u : plainText d (b ∷ (hidden w ++ U)) ≡ (not z && plainText d U)
       = plain-cons d b (hidden w ++ U) ∙ rw (← f) (ap (λ x. not z && x) (hidden-plain d far w U)) in
       record {
@@ -425,8 +427,9 @@ module _ (d : Delims) (t : List ℕ) (clean : Bool) (i : ℕ) (inv : Cutting d t
   first-plain y z w h p e g f v o = first-on y z true (i + 1) p e g f (plain-on 0x0D t i h (sym v ∙ o))
 
 -- a letter or a digit is no delimiter
-apart : (b x : ℕ) → alnum b ≡ true → alnum x ≡ false → eqb b x ≡ false
-apart b x h g = ne-eqb b x (λ q. let z : true ≡ false = sym h ∙ ap alnum q ∙ g in never z)
+apart : (b x : ℕ) → alnum b ≡ true → Delim x → eqb b x ≡ false
+unfolding all bytes
+apart b x h g = ne-eqb b x (λ q. let z : true ≡ false = sym h ∙ ap alnum q ∙ delim-apart x g alnum refl in never z)
 
 pub first-simple : (d : Delims) (t : List ℕ) (clean : Bool) (i : ℕ) (y : Bool) → Cutting d t clean i → i < length t
     → y ≡ alnum (getD t i 0) → y ≡ true → Proper d → Cutting d t clean (i + 1)
@@ -434,13 +437,8 @@ unfolding ends escapes
 first-simple d t clean i y inv h e g p =
     let b : ℕ = getD t i 0 in
     let a : alnum b ≡ true = sym e ∙ g in
-    let f = any-first alnum (d .field) (d .component ∷ d .sub ∷ d .repetition ∷ d .escape ∷ []) (p .signs) in
-    let c = any-first alnum (d .component) (d .sub ∷ d .repetition ∷ d .escape ∷ []) (f .1) in
-    let s = any-first alnum (d .sub) (d .repetition ∷ d .escape ∷ []) (c .1) in
-    let r = any-first alnum (d .repetition) (d .escape ∷ []) (s .1) in
-    let x = any-first alnum (d .escape) [] (r .1) in
-    let no-end : false ≡ ends d b = rw (apart b (d .field) a (f .0), apart b (d .repetition) a (r .0), apart b (d .component) a (c .0)) in
-    let no-escape : false ≡ escapes d b = rw (apart b (d .escape) a (x .0), apart b (d .sub) a (s .0)) in
+    let no-end : false ≡ ends d b = rw (apart b (d .field) a (p .field), apart b (d .repetition) a (p .repetition), apart b (d .component) a (p .component)) in
+    let no-escape : false ≡ escapes d b = rw (apart b (d .escape) a (p .escape), apart b (d .sub) a (p .sub)) in
     subst (λ (k : Bool). Cutting d t k (i + 1)) (and-true clean)
     (first-on d t clean i inv false false true (i + 1) p no-end refl no-escape (plain-on 0x0D t i h (alnum-plain b a)))
 
@@ -508,9 +506,9 @@ module _ (t : List ℕ) (n : ℕ) (d : Delims) (pre : (n ≡ length (until (ends
   unfolding nextFrom met mark isOne
   behind-next h e =
       let l : n < length t = let k : n ≤ length t = pre .1 in omega arith in
-      let p : Printable (d .component) = pre .2 .component in
+      let p = printable (d .component) (pre .2 .component) in
       let y : eqb (getD t n 0) (d .component) ≡ true = eq-eqb (getD t n 0) (d .component) e in
-      let q : marks 0x0D (step 0x0D One (getD t n 0)) (drop (n + 1) t) ≡ met (drop (n + 1) t) = met-rest 0x0D One (getD t n 0) (d .component) (drop (n + 1) t) (p .low) (p .high) y in
+      let q : marks 0x0D (step 0x0D One (getD t n 0)) (drop (n + 1) t) ≡ met (drop (n + 1) t) = met-rest 0x0D One (getD t n 0) (d .component) (drop (n + 1) t) (p .0) (p .1) y in
       ap met (rest-is t (n + 1)) ∙ sym (next-is ∙ cc (at-n l, q, y))
 
   pub behind-same : (n ≡ length t → ⊥) → (getD t n 0 ≡ d .component → ⊥) → met (take (length t - n) (drop n t)) ≡ next d (met t)

@@ -1,14 +1,12 @@
 -- Laws of the conversion to a sheet: one for each way through its code. Assumes nothing.
 use mathlib.Core.Path.{_≡_, refl, sym, ap, _∙_}
-use mathlib.Core.Bool.{Bool, true, false, not, _&&_, false≢true}
+use mathlib.Core.Bool.{true}
 use mathlib.Core.List.{List, [], _∷_, _++_, append-assoc, append-nil}
-use Prim.Native.Nat.{ℕ, zero, suc, _+_, _-_, _*_, _≤_, _<_}
-use native.Mathlib.Numerals.{add-one}
+use Prim.Native.Nat.{ℕ, _+_, _-_, _*_, _≤_, _<_}
 use native.Mathlib.Omega.{arith}
 use borrow.Author.Tests.{leb-true, lt-ltb, le-ltb}
-use lib.Dec.{eqb, leb, ltb}
-use lib.ListN.{length, getD, take, drop, length-append, length-drop}
-use lib.Seq.{drop-drop}
+use lib.Dec.{leb}
+use lib.ListN.{length, take, drop, length-append}
 use Rattle.rules.specs.declared.Delims.{Delims}
 use Rattle.rules.specs.declared.Counts.{Counts}
 use Rattle.rules.specs.declared.Kind.the-variants.{Room}
@@ -19,26 +17,27 @@ use Rattle.rules.specs.declared.Name.{Name}
 use Rattle.rules.specs.declared.Name.the-variants.{Orc, Other}
 use Rattle.rules.specs.declared.Written.{Written}
 use Rattle.rules.specs.declared.Written.the-variants.{Wrote, NotWritten}
-use Rattle.rules.specs.Told.{Told, gives, refused, refusal, told, toldLength, lengthOf, over, Call, _>>_}
+use Rattle.rules.specs.Told.{Told, gives, refused, refusal, told, toldLength, lengthOf, over, Call}
 use Rattle.rules.specs.Lists.{split, allButLast, ended}
 use Rattle.rules.specs.Shift.{met}
-use Rattle.rules.specs.Frame.{delimsOf, headerOk, segments, segmentsOk, nameOf}
+use Rattle.rules.specs.Frame.{delimsOf, segments, segmentsOk, nameOf}
 use Rattle.rules.specs.View.{view}
 use Rattle.rules.specs.Row.{lines, rowsOf}
-use Rattle.rules.specs.Check.{frameTold, viewTold, checkTold}
+use Rattle.rules.specs.Check.{checkTold}
 use Rattle.rules.specs.Sheet.{linesText, sheetOf, sheetTold, toSheet}
-use Rattle.rules.proofs.Logic.{both, guard, not-given, toldCases}
+use Rattle.rules.proofs.Logic.{both, not-given, toldCases, called-as}
 use Rattle.rules.proofs.Lists as Lists
-use Rattle.rules.proofs.Lists.{rest-is}
+use Rattle.rules.proofs.Lists.{rest-is, rest-further}
 use Rattle.rules.proofs.Split.{ended-append}
+use Rattle.rules.proofs.Header.{header}
+use Rattle.rules.proofs.Where.{accepted-passes}
 use Rattle.scan.specs.Scan.{until}
 use Rattle.scan.specs.Scan as Scan
 use Rattle.judge.specs.Judge.{fill}
 use Rattle.frame.specs.Frame.{goodOf, frameOf, Sound}
-use Rattle.frame.specs.declared.Opened.{Opened}
 use Rattle.frame.proofs.Rules.{check-refused, sound}
-use Rattle.frame.proofs.Laws.{segments-next, ok-next, ok-unended, header-long}
-use Rattle.report.specs.Fill.{least, Filled, fillAt, Added, Lined}
+use Rattle.frame.proofs.Laws.{segment-there, ends-inside, good-there}
+use Rattle.report.specs.Fill.{least, Filled, fillAt, Lined}
 use Rattle.report.specs.Section.{linesIn, sections}
 use Rattle.report.proofs.Filling.{back, fill-nil, length-fill, lined-then}
 use Rattle.report.proofs.Sheet.{sheet-is}
@@ -103,26 +102,14 @@ section-cons d s ss = refl
 -- a turn, at a segment of n bytes
 module _ (d : Delims) (m out₀ : List ℕ) (at written : ℕ) (out : List ℕ) (p : Passing d m out₀ at written out) (n : ℕ) (k : at < length m)
     (en : n ≡ length (until (Scan.is 0x0D) (take (length m - at) (drop at m)))) (l : n ≤ length (take (length m - at) (drop at m))) where
-  there : n ≡ length (until (Scan.is 0x0D) (drop at m))
-  there = en ∙ ap (λ s. length (until (Scan.is 0x0D) s)) (rest-is m at)
-
   short : n < length (drop at m)
-  short =
-      let q : length (take (length m - at) (drop at m)) ≡ length (drop at m) = ap length (rest-is m at) in
-      let e : n ≡ length (drop at m) → ⊥
-      = λ e. false≢true (sym (ok-unended (d .field) (drop at m) n there (omega (arith, length-drop at m)) e) ∙ p .whole) in
-      omega arith
+  short = ends-inside m at n en (d .field) (p .whole) k l
 
   pub further : at + (n + 1) ≤ length m
-  further = omega (arith, short, length-drop at m)
+  further = rest-further m at n short
 
-  onward : drop (suc n) (drop at m) ≡ drop (at + (n + 1)) m
-  onward = rw (drop-drop, add-one)
-
-  good : (goodOf (d .field) (take n (drop at m)) ≡ true) × (segmentsOk (d .field) (drop (suc n) (drop at m)) ≡ true)
-  good =
-      both (goodOf (d .field) (take n (drop at m))) (segmentsOk (d .field) (drop (suc n) (drop at m)))
-      (sym (ok-next (d .field) (drop at m) n there short) ∙ p .whole)
+  good : (goodOf (d .field) (take n (drop at m)) ≡ true) × (segmentsOk (d .field) (drop (at + (n + 1)) m) ≡ true)
+  good = good-there m at n en (d .field) (p .whole) k l
 
   -- a segment of a message that is sound
   pub small : length (take n (take (length m - at) (drop at m))) ≤ 4096
@@ -142,7 +129,7 @@ module _ (d : Delims) (m out₀ : List ℕ) (at written : ℕ) (out : List ℕ) 
         inside = further;
         few = omega (arith, p .few);
         same = same-length out₀ y (p .done ++ ls) r (lined-then (p .lined) h);
-        whole = rw onward at (good .1);
+        whole = good .1;
         left = p .left ∙ next;
         lined = lined-then (p .lined) h;
       }
@@ -153,7 +140,7 @@ module _ (d : Delims) (m out₀ : List ℕ) (at written : ℕ) (out : List ℕ) 
           let s : List ℕ = take n (take (length m - at) (drop at m)) in
           let ls : List (List ℕ) = linesIn d (nameOf s) (met s) in
           let e : segments (drop at m) ≡ s ∷ segments (drop (at + (n + 1)) m)
-          = segments-next (d .field) (drop at m) n there short ∙ rw (onward, rest-is m at) in
+          = segment-there m at n en short ∙ rw (rest-is m at) in
           let f : sections d (segments (drop at m)) ≡ ended 0x0A ls ++ sections d (segments (drop (at + (n + 1)) m))
           = ap (sections d) e ∙ section-cons d s (segments (drop (at + (n + 1)) m)) in
           ap (λ (t : List ℕ). ended 0x0A (p .done) ++ t) f
@@ -175,9 +162,6 @@ unfolding fill
 fits [] old h = refl
 fits (x ∷ w) [] h = absurd (omega arith)
 fits (x ∷ w) (o ∷ old) h = ap (λ (l : List ℕ). x ∷ l) (fits w old (omega arith))
-
-answered-as : {t u : Told (List ℕ)} {x : List ℕ} {r : Written} {y : List ℕ} → t ≡ u → Call u x r y → Call t x r y
-answered-as e p = rw e p
 
 module _ (m : List ℕ) (d : Delims) (s : Sound m d) (room : ℕ) where
   abbrev text : List ℕ
@@ -201,30 +185,22 @@ module _ (m : List ℕ) (d : Delims) (s : Sound m d) (x z : List ℕ) (n : ℕ) 
 
   pub write-short : (k : Refusal) → length (z ++ x) < n → k ≡ record { kind = Room; segment = 0; field = 0 }
       → Call (sheetTold (view m) (length x)) x (NotWritten k) (z ++ x)
-  write-short k h e = answered-as (told-short m d s (length x) (omega (arith, measured .ends, ap length still))) (rw e (record { told = refl; buffer = still }))
+  write-short k h e = called-as (told-short m d s (length x) (omega (arith, measured .ends, ap length still))) (rw e (record { told = refl; buffer = still }))
 
   pub write-whole : (r : ℕ) (y : List ℕ) → n ≤ length (z ++ x) → Filled r y (sections d (segments m)) (z ++ x) → Call (sheetTold (view m) (length x)) x (Wrote n) y
   write-whole r y h f =
       let room : length (sections d (segments m)) ≤ length x = omega (arith, measured .ends, ap length still) in
-      answered-as (told-whole m d s (length x) room)
+      called-as (told-whole m d s (length x) room)
       (record { told = ap gives (measured .ends); buffer = f .is ∙ ap (fill (sections d (segments m))) still ∙ fits (sections d (segments m)) x room })
 
 -- ---- the check first
-framed : (t : Told (Unit {0})) (u : Told Counts) (c : Counts) → (t >> u) ≡ gives c → t ≡ gives tt
-framed (gives tt) u c h = refl
-framed (refused n s f) u c h = not-given h
-
 module _ (m : List ℕ) (a : Answer) (e : told a ≡ checkTold m) where
   module _ (c : Counts) (h : a ≡ Accepted c) where
     accepted : checkTold m ≡ gives c
     accepted = sym e ∙ ap told h
 
     pub accepted-long : 9 ≤ length m
-    unfolding checkTold frameTold
-    accepted-long =
-        let q = framed (frameTold m) (viewTold (view m)) c accepted in
-        let b = guard 10 0 0 (ltb 32768 (length m)) _ tt q in
-        header-long m (headerOk m) refl (guard 11 0 0 (not (headerOk m)) _ tt (b .1) .0)
+    accepted-long = header m (accepted-passes m c accepted .headed) .long
 
     pub accepted-sound : (d : Delims) → d ≡ delimsOf m → Sound m d
     accepted-sound d g =

@@ -2,8 +2,8 @@
 use borrow.Author.Needs.{needs}
 use Prim.Native.Nat.{_-_, _≤_}
 use lib.ListN.{length}
-use Rattle.rules.proofs.Lists.{part-length}
-use Rattle.fetch.proofs.Laws.{Seeking, found-within, nothing-within, segment-found, segment-further, segment-on, segment-open, segment-over, segment-starts, segment-zero}
+use Rattle.rules.proofs.Lists.{part-length, rest-inside, rest-further}
+use Rattle.fetch.proofs.Laws.{Seeking, found-within, nothing-within, segment-found, segment-on, segment-open, segment-over, segment-starts, segment-zero}
 use Rattle.fetch.proofs.known_segment.Statement.{statement}
 use Rattle.fetch.proofs.known_segment.Tie as tie
 
@@ -50,16 +50,16 @@ returns-3 : tie.Need-returns-3 Inv-loop μ-loop
 returns-3 c = search (segment-found, found-within, needs)
 
 add-at : tie.Need-add-at Inv-loop μ-loop
-add-at c = search (segment-further, needs)
+add-at c = search (rest-further, rest-inside, needs)
 
 add-at-2 : tie.Need-add-at-2 Inv-loop μ-loop
 add-at-2 c = search needs
 
 loop-less : tie.Need-loop-less Inv-loop μ-loop
-loop-less c = search (segment-further, needs)
+loop-less c = search (rest-further, rest-inside, needs)
 
 loop-again : tie.Need-loop-again Inv-loop μ-loop
-loop-again c = (search (segment-further, needs), segment-on _ _ _ _ _ (c .before .before .before .before .before .before .before .before .loop .inv .1) (c .before .before .before .before .before .before2 .ensures .0) (c .before .before .before .before .before .before2 .ensures .1) (c .before .before .before .before .if2 .left) _ _ (c .before .before .name-of .ensures) (c .before .counts .ensures .0) (c .if3 .left))
+loop-again c = (search (rest-further, rest-inside, needs), segment-on _ _ _ _ _ (c .before .before .before .before .before .before .before .before .loop .inv .1) (c .before .before .before .before .before .before2 .ensures .0) (c .before .before .before .before .before .before2 .ensures .1) (c .before .before .before .before .if2 .left) _ _ (c .before .before .name-of .ensures) (c .before .counts .ensures .0) (c .if3 .left))
 
 returns-4 : tie.Need-returns-4 Inv-loop μ-loop
 returns-4 c = search (segment-over, nothing-within, needs)

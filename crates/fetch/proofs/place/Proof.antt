@@ -1,6 +1,7 @@
 -- `place` meets its contract. Assumes nothing.
 use borrow.Author.Needs.{needs}
-use Rattle.fetch.proofs.Laws.{asks-component, asks-field, at-within, found-in, headed-long, headed-proper, place-absent, place-at, place-headless, place-none, place-zero}
+use Rattle.frame.proofs.Laws.{header-long}
+use Rattle.fetch.proofs.Laws.{asks-component, asks-field, at-within, found-in, headed-proper, place-absent, place-at, place-headless, place-none, place-zero}
 use Rattle.fetch.proofs.place.Statement.{statement}
 use Rattle.fetch.proofs.place.Tie as tie
 
@@ -32,10 +33,10 @@ enum-known-s : tie.Need-enum-known-s
 enum-known-s c = search needs
 
 delims-requires : tie.Need-delims-requires
-delims-requires c κs = search (headed-long, needs)
+delims-requires c κs = search (header-long, needs)
 
 part-of-requires : tie.Need-part-of-requires
-part-of-requires c κs = (search (asks-field, needs), search (asks-component, needs), search (headed-long, needs), search (found-in, needs), search (headed-proper, needs))
+part-of-requires c κs = (search (asks-field, needs), search (asks-component, needs), search (header-long, needs), search (found-in, needs), search (headed-proper, needs))
 
 returns-3 : tie.Need-returns-3
 returns-3 c = search (place-none, place-absent, needs)

@@ -2,9 +2,9 @@ use borrow.Author.Needs.{needs}
 use Prim.Native.Nat.{_-_, _≤_}
 use mathlib.Core.Path.{_≡_}
 use lib.ListN.{length, drop}
-use Rattle.rules.proofs.Lists.{part-length}
+use Rattle.rules.proofs.Lists.{part-length, rest-inside, rest-further}
 use Rattle.frame.specs.Frame.{start, passFrom, Within}
-use Rattle.frame.proofs.Laws.{pass-bad, pass-end, pass-further, pass-on, pass-open, pass-starts, within-all, within-bad, within-on, within-starts}
+use Rattle.frame.proofs.Laws.{pass-bad, pass-end, pass-on, pass-open, pass-starts, within-all, within-bad, within-on, within-starts}
 use Rattle.frame.proofs.segments.pass.Statement.{statement}
 use Rattle.frame.proofs.segments.pass.Tie as tie
 
@@ -51,16 +51,16 @@ counted-requires : tie.Need-counted-requires Inv-loop μ-loop
 counted-requires c κs = search needs
 
 add-at : tie.Need-add-at Inv-loop μ-loop
-add-at c = search (pass-further, needs)
+add-at c = search (rest-further, rest-inside, needs)
 
 add-at-2 : tie.Need-add-at-2 Inv-loop μ-loop
 add-at-2 c = search needs
 
 loop-less : tie.Need-loop-less Inv-loop μ-loop
-loop-less c = search (pass-further, needs)
+loop-less c = search (rest-further, rest-inside, needs)
 
 loop-again : tie.Need-loop-again Inv-loop μ-loop
-loop-again c = search (pass-further, pass-on, within-on, needs)
+loop-again c = search (rest-further, rest-inside, pass-on, within-on, needs)
 
 returns-3 : tie.Need-returns-3 Inv-loop μ-loop
 returns-3 c = search (pass-end, within-all, needs)

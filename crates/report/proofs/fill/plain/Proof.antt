@@ -1,7 +1,8 @@
 -- `report::fill::plain` meets its contract.
 use borrow.Author.Needs.{needs}
 use Rattle.rules.proofs.Lists.{part-length}
-use Rattle.report.proofs.Filling.{value-clean, got-within, value-got, got-short, value-faulty, value-over}
+use Rattle.judge.proofs.Laws.{got-low}
+use Rattle.report.proofs.Filling.{value-clean, value-got, got-short, value-faulty, value-over}
 use Rattle.report.proofs.fill.plain.Statement.{statement}
 use Rattle.report.proofs.fill.plain.Tie as tie
 
@@ -27,10 +28,10 @@ enum-known-n : tie.Need-enum-known-n
 enum-known-n c = search needs
 
 array-share-prefix-buf : tie.Need-array-share-prefix-buf
-array-share-prefix-buf c = search (got-within, needs)
+array-share-prefix-buf c = search (got-low, needs)
 
 slice-aggregate-put : tie.Need-slice-aggregate-put
-slice-aggregate-put c = search (got-within, part-length, needs)
+slice-aggregate-put c = search (got-low, part-length, needs)
 
 put-requires-2 : tie.Need-put-requires-2
 put-requires-2 c κs = search needs
