@@ -13,7 +13,7 @@ use Rattle.rules.specs.declared.Mode.the-variants.{One}
 use Rattle.rules.specs.Told.{_then_, _when_}
 use Rattle.rules.specs.Lists.{bytes, empty, filled, same, all, has, nth, split}
 use Rattle.rules.specs.Shift.{isOne, mark, marks, met, within, byteOf}
-use Rattle.rules.specs.Frame.{Proper}
+use Rattle.rules.specs.Proper.{Proper}
 use Rattle.rules.specs.Value as Val
 use Rattle.rules.specs.Escape.{unescape, unescapeAt}
 use Rattle.rules.specs.Places.{Four, valueRules}

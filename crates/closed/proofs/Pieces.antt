@@ -9,7 +9,7 @@ use lib.Dec.{eqb, ltb, leb·suc-suc}
 use lib.ListN.{length, drop}
 use Rattle.rules.specs.declared.Delims.{Delims}
 use Rattle.rules.specs.Lists.{split, onto, has, nth}
-use Rattle.rules.specs.Frame.{Proper}
+use Rattle.rules.specs.Proper.{Proper}
 use Rattle.rules.proofs.Logic.{cases, never, neither, or-false}
 use Rattle.rules.proofs.Lists.{has-nil, has-here, has-there, has-first}
 use Rattle.rules.proofs.Split.{split-nil, split-here, split-there, split-none, pieces-length}

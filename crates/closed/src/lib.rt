@@ -13,7 +13,7 @@ ghost use Prim.Native.Nat.{ℕ, _≤_};
 ghost use lib.ListN.{length};
 ghost use Rattle.rules.specs.Lists.{empty, same, has};
 ghost use Rattle.rules.specs.Shift.{met};
-ghost use Rattle.rules.specs.Frame.{Proper};
+ghost use Rattle.rules.specs.Proper.{Proper};
 ghost use Rattle.rules.specs.Places.{valueRules};
 ghost use Rattle.rules.specs.View.{componentOf};
 ghost use Rattle.rules.specs.Judge as J;

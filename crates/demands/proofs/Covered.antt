@@ -13,7 +13,8 @@ use Rattle.rules.specs.declared.Name.{Name}
 use Rattle.rules.specs.declared.Name.the-variants.{Msh, Other}
 use Rattle.rules.specs.Lists.{bytes, empty, starts, all, any, has, split, ended}
 use Rattle.rules.specs.Shift.{within, isOne, walk, keeps, marks, met}
-use Rattle.rules.specs.Frame.{headerOk, delimsOf, knownNames, spelling, nameAmong, nameOf, is, segments, Known, Delim}
+use Rattle.rules.specs.Frame.{headerOk, delimsOf, knownNames, spelling, nameAmong, nameOf, is, segments, Known}
+use Rattle.rules.specs.Proper.{Delim}
 use Rattle.rules.specs.Places.{isClosed, unreadField}
 use Rattle.rules.specs.View.{pieceOf, fieldOf, componentOf}
 use Rattle.rules.specs.Fetch.{span, startOf}

@@ -23,7 +23,8 @@ use Rattle.rules.specs.declared.Mode.the-variants.{One}
 use Rattle.rules.specs.Told.{gives, refused, told, toldSpan, _when_}
 use Rattle.rules.specs.Lists.{nth, split, allButLast}
 use Rattle.rules.specs.Shift.{marks, met}
-use Rattle.rules.specs.Frame.{delimsOf, Delim, Proper, headerOk, segments, nameOf, Known, knownFrom, known}
+use Rattle.rules.specs.Frame.{delimsOf, headerOk, segments, nameOf, Known, knownFrom, known}
+use Rattle.rules.specs.Proper.{Delim, Proper}
 use Rattle.rules.specs.Frame as Frame
 use Rattle.rules.specs.Check.{checkTold}
 use Rattle.rules.specs.View.{pieceOf, fieldOf, componentOf, firstRepetition}

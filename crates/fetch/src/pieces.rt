@@ -3,7 +3,7 @@ use rules::Span;
 ghost use mathlib.Core.Path.{_≡_};
 ghost use Prim.Native.Nat.{_+_, _<_, _≤_, _^_};
 ghost use lib.ListN.{length};
-ghost use Rattle.rules.specs.Frame.{Delim};
+ghost use Rattle.rules.specs.Proper.{Delim};
 ghost use Rattle.fetch.specs.Place.{PieceOf, Reached};
 
 // A piece: which one it is, from 0, where it begins, and how long it is.

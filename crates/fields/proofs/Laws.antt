@@ -11,7 +11,7 @@ use Rattle.rules.specs.Told.{_then_, _when_}
 use Rattle.rules.specs.Lists.{has}
 use Rattle.rules.specs.Lists as L
 use Rattle.rules.specs.Shift.{met, byteOf}
-use Rattle.rules.specs.Frame.{Proper}
+use Rattle.rules.specs.Proper.{Proper}
 use Rattle.rules.specs.Judge.{judge, judgeAll, namesFault, rawFour, valueFault}
 use Rattle.rules.specs.Judge as J
 use Rattle.rules.specs.View.{componentOf, firstRepetition, seenIn}

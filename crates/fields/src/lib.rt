@@ -11,7 +11,7 @@ ghost use Prim.Native.Nat.{_+_, _≤_};
 ghost use lib.ListN.{length, drop};
 ghost use Rattle.rules.specs.Told.{_then_, _when_};
 ghost use Rattle.rules.specs.Shift.{met};
-ghost use Rattle.rules.specs.Frame.{Delim, Proper};
+ghost use Rattle.rules.specs.Proper.{Delim, Proper};
 ghost use Rattle.scan.specs.Scan.{onward};
 ghost use Rattle.value.specs.Rules.{faultNo};
 ghost use Rattle.judge.specs.Judge.{Raw};

@@ -12,7 +12,8 @@ use Rattle.rules.specs.declared.Name.the-variants.{Spm, Obr, Obx, Other}
 use Rattle.rules.specs.Told.{Told, gives, refused, refusal, refuse_if_else_, _>>_, _>>=_, _then_, _when_}
 use Rattle.rules.specs.Lists.{any}
 use Rattle.rules.specs.Shift.{keeps}
-use Rattle.rules.specs.Frame.{delimsOf, Proper, nameOk, nameOf, segments, segmentsOk, is, after, orderFault}
+use Rattle.rules.specs.Frame.{delimsOf, nameOk, nameOf, segments, segmentsOk, is, after, orderFault}
+use Rattle.rules.specs.Proper.{Proper}
 use Rattle.rules.specs.View.{view}
 use Rattle.rules.specs.Check.{frameTold, namesOf, countsTold}
 use Rattle.frame.specs.declared.Opened.{Opened}

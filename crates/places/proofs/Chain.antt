@@ -11,7 +11,7 @@ use Rattle.rules.specs.declared.Name.{Name}
 use Rattle.rules.specs.Told.{Told, _>>_, _then_, _when_}
 use Rattle.rules.specs.Lists.{has}
 use Rattle.rules.specs.Shift.{met, byteOf}
-use Rattle.rules.specs.Frame.{Proper}
+use Rattle.rules.specs.Proper.{Proper}
 use Rattle.rules.specs.Places.{Field, places}
 use Rattle.rules.specs.View.{pieceOf, fieldOf, componentOf, firstRepetition, seenIn, partOf, segmentOf}
 use Rattle.rules.specs.Judge.{plainOf, judge, judgeAll}

@@ -11,7 +11,8 @@ use Rattle.rules.specs.declared.Delims.{Delims}
 use Rattle.rules.specs.Told.{_when_}
 use Rattle.rules.specs.Lists.{bytes, same, all, any, split, isOneOf, empty}
 use Rattle.rules.specs.Shift.{byteOf}
-use Rattle.rules.specs.Frame.{digit, Proper}
+use Rattle.rules.specs.Frame.{digit}
+use Rattle.rules.specs.Proper.{Proper}
 use Rattle.rules.specs.Value.{Rule, time, date, number, text, digits, capitals, words, holds, tooLong, fault}
 use Rattle.rules.specs.Escape.{Letter, plain, opened, named, letters, meaning, unescapeAt, unescape}
 use Rattle.rules.specs.Judge.{plainOf, unescapedOr, faultOr23, judge}

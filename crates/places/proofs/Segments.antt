@@ -13,7 +13,7 @@ use Rattle.rules.specs.Lists.{bytes, same, all, onto, split}
 use Rattle.rules.specs.Lists as L
 use Rattle.rules.specs.Shift.{met}
 use Rattle.rules.specs.Frame as Frame
-use Rattle.rules.specs.Frame.{Proper}
+use Rattle.rules.specs.Proper.{Proper}
 use Rattle.rules.specs.Places.{Four, places}
 use Rattle.rules.specs.View.{pieceOf, fieldOf, partOf, seenIn, segmentOf, partAt, seenAt}
 use Rattle.rules.specs.Check.{valueAt, rawFourOf, numberOf, ownFault, laterFault, faultTold, partsTold}

@@ -21,7 +21,8 @@ ghost use mathlib.Core.List.{List};
 ghost use Prim.Native.Nat.{ℕ};
 ghost use Rattle.rules.specs.declared.Name.the-variants.{Msh, Pid, Pv1, Spm, Obr, Orc, Obx};
 ghost use Rattle.rules.specs.Shift.{met};
-ghost use Rattle.rules.specs.Frame.{Proper, is};
+ghost use Rattle.rules.specs.Frame.{is};
+ghost use Rattle.rules.specs.Proper.{Proper};
 ghost use Rattle.value.specs.Rules.{faultNo};
 ghost use Rattle.places.specs.Check.{ResultAt, FoundIn, OrderAt};
 

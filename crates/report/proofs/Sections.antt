@@ -11,7 +11,7 @@ use Rattle.rules.specs.declared.Delims.{Delims}
 use Rattle.rules.specs.declared.Name.the-variants.{Msh, Pid, Pv1, Spm, Obr, Obx}
 use Rattle.rules.specs.Lists.{bytes, has, nth, same, split}
 use Rattle.rules.specs.Shift.{marks, met}
-use Rattle.rules.specs.Frame.{Proper}
+use Rattle.rules.specs.Proper.{Proper}
 use Rattle.rules.specs.Places.{places}
 use Rattle.rules.specs.View.{pieceOf, fieldOf, componentOf, firstRepetition, seenIn, partOf, segmentOf, seenAt, partAt}
 use Rattle.rules.specs.Escape.{unescape, unescapeAt}

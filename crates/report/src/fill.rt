@@ -6,7 +6,7 @@ ghost use mathlib.Core.List.{[], _∷_};
 ghost use Prim.Native.Nat.{_+_, _≤_, _<_};
 ghost use lib.ListN.{length};
 ghost use Rattle.rules.specs.Shift.{met};
-ghost use Rattle.rules.specs.Frame.{Proper};
+ghost use Rattle.rules.specs.Proper.{Proper};
 ghost use Rattle.rules.specs.Judge.{plainOf};
 ghost use Rattle.report.specs.Fill.{least, Filled, Added, Lined, keyed};
 

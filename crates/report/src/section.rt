@@ -9,7 +9,7 @@ ghost use lib.ListN.{length};
 ghost use Rattle.rules.specs.declared.Name.the-variants.{Msh, Pid, Pv1, Spm, Obr, Obx};
 ghost use Rattle.rules.specs.Lists.{has, split};
 ghost use Rattle.rules.specs.Shift.{met};
-ghost use Rattle.rules.specs.Frame.{Proper};
+ghost use Rattle.rules.specs.Proper.{Proper};
 ghost use Rattle.rules.specs.Judge.{plainOf, firstMarked, isSN, rawFour};
 ghost use Rattle.scan.specs.Scan.{until, is, ends, next, onward};
 ghost use Rattle.report.specs.Fill.{Lined};

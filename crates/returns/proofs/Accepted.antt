@@ -12,7 +12,8 @@ use Rattle.rules.specs.Told.{Told, gives, _>>_, _when_}
 use Rattle.rules.specs.Lists.{bytes, empty, same, has, any, split, onto, nth, ended, isOneOf}
 use Rattle.rules.specs.Shift.{walk, step}
 use Rattle.rules.specs.Value.{fault, tooLong, holds}
-use Rattle.rules.specs.Frame.{Known, Proper}
+use Rattle.rules.specs.Frame.{Known}
+use Rattle.rules.specs.Proper.{Proper}
 use Rattle.rules.specs.Places.{Place, Field, reads, closed, places, entryIn, entryOf}
 use Rattle.rules.specs.View.{pieceOf, fieldOf, componentOf, firstRepetition, seenIn, partOf, Segment, segmentOf, Part, whole, seenAt, partAt}
 use Rattle.rules.specs.Judge.{plainOf, judge, judgeAll}

@@ -10,7 +10,7 @@ use Rattle.rules.specs.declared.Delims.{Delims}
 use Rattle.rules.specs.declared.Name.the-variants.{Pid, Obx}
 use Rattle.rules.specs.Told.{_when_}
 use Rattle.rules.specs.Lists.{bytes, empty, filled, same, has, split, onto, nth, isOneOf}
-use Rattle.rules.specs.Frame.{Proper}
+use Rattle.rules.specs.Proper.{Proper}
 use Rattle.rules.specs.Value.{Rule, fault, holds, words, text, fits}
 use Rattle.rules.specs.Escape.{unescape, unescapeAt}
 use Rattle.rules.specs.Places.{places, Four, valueRules}

@@ -15,7 +15,8 @@ use Rattle.rules.specs.declared.Name.the-variants.{Msh, Pid, Pv1, Spm, Obr, Orc
 use Rattle.rules.specs.Told.{gives, accepted}
 use Rattle.rules.specs.Lists.{bytes, nth, any, count, has, split, ended}
 use Rattle.rules.specs.Shift.{met}
-use Rattle.rules.specs.Frame.{delimsOf, segments, spelling, nameOf, is, knownFrom, known, after, orderFault, Delim, Proper}
+use Rattle.rules.specs.Frame.{delimsOf, segments, spelling, nameOf, is, knownFrom, known, after, orderFault}
+use Rattle.rules.specs.Proper.{Delim, Proper}
 use Rattle.rules.specs.Places.{places}
 use Rattle.rules.specs.View.{partOf, Segment, segmentOf, View, view}
 use Rattle.rules.specs.Check.{partsTold, orderAfter, placesTold, namesOf, countsTold, viewTold, frameTold, checkTold}

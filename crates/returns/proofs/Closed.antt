@@ -9,7 +9,7 @@ use Rattle.rules.specs.declared.Delims.{Delims}
 use Rattle.rules.specs.declared.Name.the-variants.{Pid, Obx}
 use Rattle.rules.specs.Lists.{bytes, empty, filled, same, has, any, all, split, isOneOf}
 use Rattle.rules.specs.Shift.{marks, mark, met, isOne, step}
-use Rattle.rules.specs.Frame.{Proper}
+use Rattle.rules.specs.Proper.{Proper}
 use Rattle.rules.specs.Escape.{unescape, escape, escapeMet, unescapeAt}
 use Rattle.rules.specs.Value.{Rule, fault, tooLong, holds, words, text, fits}
 use Rattle.rules.specs.Places.{Four, valueRules}

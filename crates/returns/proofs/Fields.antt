@@ -9,7 +9,7 @@ use Rattle.rules.specs.declared.Delims.{Delims}
 use Rattle.rules.specs.declared.Name.{Name}
 use Rattle.rules.specs.Lists.{bytes, empty, same, has, all, split, join, nth}
 use Rattle.rules.specs.Shift.{met}
-use Rattle.rules.specs.Frame.{Delim, Proper}
+use Rattle.rules.specs.Proper.{Delim, Proper}
 use Rattle.rules.specs.Escape.{unescape, escape}
 use Rattle.rules.specs.Value.{Rule, fault}
 use Rattle.rules.specs.View.{pieceOf, fieldOf, componentOf, firstRepetition}

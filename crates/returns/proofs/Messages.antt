@@ -12,7 +12,8 @@ use Rattle.rules.specs.declared.Name.the-variants.{Spm, Obr, Orc, Obx, Other}
 use Rattle.rules.specs.Told.{gives, accepted}
 use Rattle.rules.specs.Lists.{bytes, empty, starts, any, count, split, last, led, join, ended}
 use Rattle.rules.specs.Shift.{keeps}
-use Rattle.rules.specs.Frame.{delimsOk, headerOk, delimsOf, segments, nameOk, capital, capitalOrDigit, knownNames, spelling, nameAmong, nameOf, is, knownFrom, known, after, orderFault, Proper}
+use Rattle.rules.specs.Frame.{delimsOk, headerOk, delimsOf, segments, nameOk, capital, capitalOrDigit, knownNames, spelling, nameAmong, nameOf, is, knownFrom, known, after, orderFault}
+use Rattle.rules.specs.Proper.{Proper}
 use Rattle.rules.specs.Places.{places}
 use Rattle.rules.specs.View.{partOf, Segment, segmentOf, view}
 use Rattle.rules.specs.Check.{partsTold, placesTold, countsTold, viewTold}

@@ -15,7 +15,8 @@ use Rattle.rules.specs.Lists.{bytes, empty, same, has, any, all, split, onto, n
 use Rattle.rules.specs.Shift.{step, isOne, mark, marks, met}
 use Rattle.rules.specs.Escape.{escape}
 use Rattle.rules.specs.Value.{fault, tooLong, holds}
-use Rattle.rules.specs.Frame.{spelling, Known, is, Proper}
+use Rattle.rules.specs.Frame.{spelling, Known, is}
+use Rattle.rules.specs.Proper.{Proper}
 use Rattle.rules.specs.Places.{Place, Field, reads, closed, places, entryIn, entryOf}
 use Rattle.rules.specs.View.{pieceOf, fieldOf, componentOf, firstRepetition, seenIn, partOf, Segment, segmentOf, Part, whole, seenAt, partAt}
 use Rattle.rules.specs.Judge.{plainOf, judgeAll}

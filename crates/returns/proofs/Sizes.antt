@@ -12,7 +12,8 @@ use Rattle.rules.specs.declared.Name.{Name}
 use Rattle.rules.specs.declared.Name.the-variants.{Spm, Obr, Obx}
 use Rattle.rules.specs.Lists.{bytes, empty, filled, same, all, split, onto, join, isOneOf}
 use Rattle.rules.specs.Shift.{marks, met}
-use Rattle.rules.specs.Frame.{capitalOrDigit, spelling, is, Proper}
+use Rattle.rules.specs.Frame.{capitalOrDigit, spelling, is}
+use Rattle.rules.specs.Proper.{Proper}
 use Rattle.rules.specs.Value.{Rule, time, date, number, text, digits, capitals, words, digitsOk, dayOk, clockOk, holds, tooLong, fits}
 use Rattle.rules.specs.Escape.{escape, escapeMet}
 use Rattle.rules.specs.Places.{places, entryIn, entryOf, valueRules}

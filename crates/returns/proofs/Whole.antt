@@ -15,7 +15,8 @@ use Rattle.rules.specs.declared.Mode.the-variants.{One, Bad}
 use Rattle.rules.specs.Told.{_when_}
 use Rattle.rules.specs.Lists.{bytes, empty, same, has, any, split, nth}
 use Rattle.rules.specs.Shift.{walk, isOne, step, mark, marks, met, byteOf}
-use Rattle.rules.specs.Frame.{twelve, Delim, Proper}
+use Rattle.rules.specs.Frame.{twelve}
+use Rattle.rules.specs.Proper.{Delim, Proper}
 use Rattle.rules.specs.Value.{Rule, fault}
 use Rattle.rules.specs.Escape.{Letter, letters, meaning, At, plain, opened, named, unescapeAt, unescape}
 use Rattle.rules.specs.Judge.{unescapedOr, plainOf, faultOr23, judge}

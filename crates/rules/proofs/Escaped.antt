@@ -14,7 +14,8 @@ use Rattle.rules.specs.declared.Mode.{Mode}
 use Rattle.rules.specs.declared.Mode.the-variants.{One, Bad}
 use Rattle.rules.specs.Lists.{bytes, empty, same, has, any, all}
 use Rattle.rules.specs.Shift.{step, isOne, walk, mark, marks, met, byteOf}
-use Rattle.rules.specs.Frame.{twelve, Delim, Proper}
+use Rattle.rules.specs.Frame.{twelve}
+use Rattle.rules.specs.Proper.{Delim, Proper}
 use Rattle.rules.specs.Escape.{Letter, letters, meaning, letterFor, plain, push, unescapeAt, unescape, escapeMet, escape}
 use Rattle.rules.proofs.Logic.{cases, optionCases, nothing-some, both, not-true, eqb-self}
 use Rattle.rules.proofs.Lists.{same-eq, same-self, all-first}

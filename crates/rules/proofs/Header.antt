@@ -12,7 +12,8 @@ use Rattle.rules.specs.declared.Delims.{Delims}
 use Rattle.rules.specs.declared.Mode.the-variants.{One}
 use Rattle.rules.specs.Lists.{bytes, starts, all, has, distinct}
 use Rattle.rules.specs.Shift.{within, step}
-use Rattle.rules.specs.Frame.{delimsOf, fiveOf, twelve, Delim, delimsOk, Proper, headerOk}
+use Rattle.rules.specs.Frame.{delimsOf, fiveOf, twelve, delimsOk, headerOk}
+use Rattle.rules.specs.Proper.{Delim, Proper}
 use Rattle.rules.proofs.Logic.{cases, both, not-true, never, eqb-self, eqb-sym, or-true}
 use Rattle.rules.proofs.Lists.{starts-eq, starts-prefix, all-first, has-nil, has-cons, has-first, has-here, in-all}
 use Rattle.rules.proofs.Modes.{still-one}

@@ -11,7 +11,8 @@ use Rattle.rules.specs.declared.Name.{Name}
 use Rattle.rules.specs.declared.Name.the-variants.{Msh, Pid, Pv1, Spm, Obr, Orc, Obx, Other}
 use Rattle.rules.specs.Lists.{bytes, starts, all, any, has, split}
 use Rattle.rules.specs.Shift.{within, met}
-use Rattle.rules.specs.Frame.{knownNames, spelling, nameAmong, nameOf, rank, is, twelve, Delim}
+use Rattle.rules.specs.Frame.{knownNames, spelling, nameAmong, nameOf, rank, is, twelve}
+use Rattle.rules.specs.Proper.{Delim}
 use Rattle.rules.proofs.Logic.{cases, both, never, not-true}
 use Rattle.rules.proofs.Lists.{starts-eq, in-all}
 use Rattle.rules.proofs.Split.{front, later, split-free}

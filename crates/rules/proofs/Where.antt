@@ -16,7 +16,8 @@ use Rattle.rules.specs.declared.Name.the-variants.{Other}
 use Rattle.rules.specs.Told.{gives}
 use Rattle.rules.specs.Lists.{empty, nth, has, split, last, ended}
 use Rattle.rules.specs.Shift.{keeps, met}
-use Rattle.rules.specs.Frame.{headerOk, delimsOf, segments, segmentsOk, nameOf, is, Known, knownFrom, known, Delim}
+use Rattle.rules.specs.Frame.{headerOk, delimsOf, segments, segmentsOk, nameOf, is, Known, knownFrom, known}
+use Rattle.rules.specs.Proper.{Delim}
 use Rattle.rules.specs.Frame as Frame
 use Rattle.rules.specs.View.{view, pieceOf, fieldOf, componentOf, firstRepetition}
 use Rattle.rules.specs.Check.{frameTold, viewTold, checkTold}

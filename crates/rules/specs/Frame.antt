@@ -1,5 +1,4 @@
 -- "Header", "Segments", "Order"
-use mathlib.Core.Path.{_≡_}
 use mathlib.Core.Bool.{Bool, true, false, cond, _&&_, _||_}
 use mathlib.Core.List.{List, [], _∷_}
 use Prim.Native.Nat.{ℕ, suc, _+_}
@@ -26,24 +25,6 @@ twelve = bytes "!#%&*;?@\\^|~"
 -- "five different delimiters"
 unfoldable pub delimsOk : Delims → Bool
 delimsOk d = all (λ (b : ℕ). has b twelve) (fiveOf d) && distinct (fiveOf d)
-
--- the same, fact by fact, as the calls require it
-abbrev pub Delim : ℕ → Type 0
-Delim x = has x twelve ≡ true
-
-pub record Proper (d : Delims) : Type 0 where
-  pub field : Delim (d .field)
-  pub component : Delim (d .component)
-  pub repetition : Delim (d .repetition)
-  pub escape : Delim (d .escape)
-  pub sub : Delim (d .sub)
-  pub component-field : eqb (d .component) (d .field) ≡ false
-  pub repetition-field : eqb (d .repetition) (d .field) ≡ false
-  pub escape-field : eqb (d .escape) (d .field) ≡ false
-  pub sub-field : eqb (d .sub) (d .field) ≡ false
-  pub component-repetition : eqb (d .component) (d .repetition) ≡ false
-  pub escape-component : eqb (d .escape) (d .component) ≡ false
-  pub escape-repetition : eqb (d .escape) (d .repetition) ≡ false
 
 -- 11. "The first nine bytes are `MSH`, five different delimiters and the first of these again."
 unfoldable pub headerOk : List ℕ → Bool

@@ -15,7 +15,7 @@ use Rattle.rules.specs.declared.Mode.{Mode}
 use Rattle.rules.specs.declared.Mode.the-variants.{One, Two, Second}
 use Rattle.rules.specs.Shift.{step, isOne, walk, keeps, mark, marks, met, within, byteOf}
 use Rattle.rules.specs.Lists.{bytes, nth, has, all, split}
-use Rattle.rules.specs.Frame.{Delim, Proper}
+use Rattle.rules.specs.Proper.{Delim, Proper}
 use Rattle.rules.specs.Fetch.{startOf}
 use Rattle.rules.proofs.Logic.{both, not-true, not-false, never, and-true, and-assoc, or-false, or-assoc}
 use Rattle.rules.proofs.Lists.{here, over, rest-is, has-cons, has-nil, has-append}

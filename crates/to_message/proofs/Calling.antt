@@ -19,7 +19,7 @@ use Rattle.rules.specs.Shift.{keeps}
 use Rattle.rules.specs.Row.{Row}
 use Rattle.rules.specs.Sheet.{readSheet}
 use Rattle.rules.specs.Message.{base, written, messageOf, messageTold, toMessage}
-use Rattle.rules.proofs.Logic.{cases, not-true, not-false, not-given, neither, toldCases, guard}
+use Rattle.rules.proofs.Logic.{cases, not-true, not-false, not-given, neither, toldCases, guard, called-as}
 use Rattle.rules.proofs.Split.{split-here, split-there, split-cons, front, later, last-split}
 use Rattle.writer.specs.Over as Over
 use Rattle.writer.proofs.Laws.{front as begins}
@@ -28,9 +28,6 @@ use Rattle.compose.specs.declared.Passed.{Passed}
 use Rattle.compose.specs.declared.Passed.the-variants.{All, Not}
 use Rattle.compose.specs.Compose.{refusalAt, sizeOf, rowsIn, Pass}
 use Rattle.to_message.specs.Call.{madeTold}
-
-composed-as : {t u : Told (List ℕ)} {x : List ℕ} {r : Written} {y : List ℕ} → t ≡ u → Call u x r y → Call t x r y
-composed-as e p = rw e p
 
 -- a refusal leaves the buffer as it was
 kept : (x : List ℕ) (k : Refusal) → Call (refusal k) x (NotWritten k) x
@@ -48,17 +45,17 @@ module _ (size : Size) (made : List ℕ) (h : (ltb 32768 (size .bytes) || ltb 51
       → Call (madeTold size made (length x)) x (Wrote (size .bytes)) y
   unfolding madeTold Over.over
   write-all x l n y p =
-      composed-as {u = gives (take (size .bytes) made)} (rw (h, le-ltb (length x) (size .bytes) l)) (record { told = ap gives made-length; buffer = p .is })
+      called-as {u = gives (take (size .bytes) made)} (rw (h, le-ltb (length x) (size .bytes) l)) (record { told = ap gives made-length; buffer = p .is })
 
 module _ (size : Size) (made x : List ℕ) (k : Refusal) where
   pub write-44 : (ltb 32768 (size .bytes) || ltb 512 (size .segments)) ≡ true → k ≡ refusalAt Overflow 0 → Call (madeTold size made (length x)) x (NotWritten k) x
   unfolding madeTold
-  write-44 h f = composed-as {u = refusal k} (rw h (ap refusal (sym f))) (kept x k)
+  write-44 h f = called-as {u = refusal k} (rw h (ap refusal (sym f))) (kept x k)
 
   pub write-45 : (ltb 32768 (size .bytes) || ltb 512 (size .segments)) ≡ false → length x < size .bytes → k ≡ refusalAt Room 0
       → Call (madeTold size made (length x)) x (NotWritten k) x
   unfolding madeTold
-  write-45 h l f = composed-as {u = refusal k} (rw (h, lt-ltb (length x) (size .bytes) l) (ap refusal (sym f))) (kept x k)
+  write-45 h l f = called-as {u = refusal k} (rw (h, lt-ltb (length x) (size .bytes) l) (ap refusal (sym f))) (kept x k)
 
 -- ---- the pass over the sheet's groups: p is what it tells, and made what it leaves of the room z
 made-is : (d : Delims) (rows : List Row) (z made : List ℕ) (room : ℕ) → length z ≡ 32768 → (length (messageOf d rows) ≤ length z → made ≡ Over.over (messageOf d rows) z)
@@ -111,7 +108,7 @@ Promise s x r y =
     (toldLength r ≡ lengthOf (toMessage s (length x))) × ((y ≡ over (toMessage s (length x)) x) × ((n : ℕ) → r ≡ Wrote n → n ≤ length x))
 
 pub answers : (s : List ℕ) {x : List ℕ} {t : Told (List ℕ)} {r : Written} {y : List ℕ} → Call t x r y → toMessage s (length x) ≡ t → Promise s x r y
-answers s {x} {t} {r} c e = let q : Call (toMessage s (length x)) x r _ = composed-as e c in (q .told, (q .buffer, within s (length x) r (q .told)))
+answers s {x} {t} {r} c e = let q : Call (toMessage s (length x)) x r _ = called-as e c in (q .told, (q .buffer, within s (length x) r (q .told)))
 
 pub refuses : (s : List ℕ) {x : List ℕ} {k : Refusal} → toMessage s (length x) ≡ refusal k → Promise s x (NotWritten k) x
 refuses s {x} {k} e = answers s (kept x k) e
