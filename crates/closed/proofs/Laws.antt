@@ -20,7 +20,7 @@ use Rattle.rules.specs.Places.{Four, valueRules}
 use Rattle.rules.specs.View.{componentOf}
 use Rattle.rules.specs.Judge.{judge, faultOr23, firstMarked, kanji, nameFault, namesFault, isSN, rawFour, beside, unjoined, partsFault, valueFault}
 use Rattle.rules.proofs.Logic.{cases, cond-same, then-none, then-zero, then-assoc, when-none}
-use Rattle.rules.proofs.Lists.{here, over, rest-is, empty-zero, filled-some, all-cons}
+use Rattle.rules.proofs.Lists.{here, over, rest-is, rest-shorter, empty-zero, filled-some, all-cons}
 use Rattle.rules.proofs.Split.{split-nil, split-none}
 use Rattle.rules.proofs.Modes.{length-marks}
 use Rattle.rules.proofs.Clean.{same-met}
@@ -207,11 +207,8 @@ module _ (d : Delims) (f : List ℕ) (at k : ℕ) where
       let w : length (met (drop k r)) ≡ length r - k = length-marks 0x0D One (drop k r) ∙ length-drop k r in
       omega (arith, l, m, w, ap length e, after-short (d .repetition) (met r) (omega arith))
 
-  pub past-within : at < length f → k ≤ length (take (length f - at) (drop at f)) → at + k ≤ length f
-  past-within h e = omega (arith, ap length (rest-is f at), length-drop at f)
-
 pub rest-fits : (f : List ℕ) (at : ℕ) → length (take (length f - at) (drop at f)) ≤ length f
-rest-fits f at = omega (arith, ap length (rest-is f at), length-drop at f)
+rest-fits f at = rest-shorter f at (length f) (omega arith)
 
 pub name-is : (t given : List ℕ) (d : Delims) (f g r : ℕ) → Proper d → met given ≡ forward d 1 (met t) → f ≡ judge d true (ruleOf (Text 48)) (componentAt d t)
     → g ≡ judge d false (ruleOf (Text 48)) (componentAt d given) → r ≡ (f then g) → r ≡ nameFault d (repetitionAt d t)

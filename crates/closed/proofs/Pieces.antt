@@ -18,11 +18,6 @@ use Rattle.scan.proofs.Laws.{until-yes, until-no, until-nil, first-piece}
 use Rattle.closed.specs.Closed.{endsRepetition, forward}
 
 -- ---- the n-th piece
-onto-head : (x : ℕ) (ps : List (List ℕ)) → nth (onto x ps) 0 ≡ x ∷ nth ps 0
-unfolding onto
-onto-head x [] = refl
-onto-head x (p ∷ ps) = refl
-
 onto-tail : (x n : ℕ) (ps : List (List ℕ)) → nth (onto x ps) (suc n) ≡ nth ps (suc n)
 unfolding onto
 onto-tail x n [] = refl

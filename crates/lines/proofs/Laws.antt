@@ -17,9 +17,10 @@ use Rattle.rules.specs.Judge.{beside, unjoined, agrees}
 use Rattle.rules.specs.Row.{line, lines, fourAt}
 use Rattle.rules.specs.Sheet.{keyOf, linesOf}
 use Rattle.rules.proofs.Logic.{cases, never, and-false, not-true, not-false}
-use Rattle.rules.proofs.Lists.{over, rest-is, take-own, same-eq, empty-zero, filled-some}
+use Rattle.rules.proofs.Lists.{over, rest-is, rest-inside, take-own, same-eq, empty-zero, filled-some}
 use Rattle.rules.proofs.Split.{butLast-split, ended-split}
 use Rattle.scan.specs.Scan.{until, is}
+use Rattle.scan.proofs.Laws.{until-rest}
 use Rattle.value.specs.declared.Fault.{Fault}
 use Rattle.value.specs.declared.Words.the-variants.{Modes, Sexes, Classes, Types, Flags, Statuses}
 use Rattle.value.specs.declared.Place.{Place}
@@ -54,7 +55,7 @@ line-front t l ls e =
 -- as the code finds them: the part from a place on, and how many bytes stand in it before a 0A
 module _ (s : List ℕ) (at n : ℕ) (e : n ≡ length (until (is 0x0A) (take (length s - at) (drop at s)))) (w : n ≤ length (take (length s - at) (drop at s))) where
   there : n ≡ length (until (is 0x0A) (drop at s))
-  there = e ∙ ap (λ l. length (until (is 0x0A) l)) (rest-is s at)
+  there = until-rest (is 0x0A) s at n e
 
   size : length (take (length s - at) (drop at s)) ≡ length (drop at s)
   size = ap length (rest-is s at)
@@ -63,11 +64,9 @@ module _ (s : List ℕ) (at n : ℕ) (e : n ≡ length (until (is 0x0A) (take (l
   found-none h = none (drop at s) (sym there ∙ h ∙ size)
 
   found-some : (n ≡ length (take (length s - at) (drop at s)) → ⊥) → linesOf (drop at s) ≡ take n (drop at s) ∷ linesOf (drop (suc n) (drop at s))
-  found-some h = rw (there) (some (drop at s) (less (λ q. h (there ∙ q ∙ sym size)) (omega (arith, there, size))))
-    where
-      less : (length (until (is 0x0A) (drop at s)) ≡ length (drop at s) → ⊥) → length (until (is 0x0A) (drop at s)) ≤ length (drop at s)
-          → length (until (is 0x0A) (drop at s)) < length (drop at s)
-      less f g = omega arith
+  found-some h =
+      let l : length (until (is 0x0A) (drop at s)) < length (drop at s) = rw (there) at (rest-inside s at n w h) in
+      rw (there) (some (drop at s) l)
 
   pub past-none : n ≡ length (take (length s - at) (drop at s)) → linesOf (drop at s) ≡ drop 1 (linesOf (drop at s))
   past-none h = rw (found-none h)

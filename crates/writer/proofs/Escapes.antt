@@ -1,20 +1,20 @@
 -- The laws of escaping: how a byte is written, and what a loop that escapes a text keeps. Assumes nothing.
 use mathlib.Core.Path.{_≡_, refl, sym, ap, _∙_}
-use mathlib.Core.Bool.{Bool, true, false, cond}
+use mathlib.Core.Bool.{Bool, true, false}
 use mathlib.Core.List.{List, [], _∷_, _++_}
-use mathlib.Core.Option.{Option, none, some}
-use Prim.Native.Nat.{ℕ, zero, suc, _+_, _≤_, _<_}
+use mathlib.Core.Option.{none, some}
+use Prim.Native.Nat.{ℕ, _+_, _≤_, _<_}
 use native.Mathlib.Omega.{arith}
-use borrow.Author.Tests.{eq-eqb, ne-eqb, eqb-true}
+use borrow.Author.Tests.{eq-eqb, ne-eqb}
 use lib.Dec.{eqb}
 use lib.ListN.{length, drop, getD, length-append}
 use Rattle.rules.specs.declared.Delims.{Delims}
 use Rattle.rules.specs.declared.Mode.{Mode}
 use Rattle.rules.specs.declared.Mode.the-variants.{One}
-use Rattle.rules.specs.Shift.{step, isOne, mark, marks, met, byteOf}
-use Rattle.rules.specs.Escape.{Letter, letters, letterFor, escapeMet, escape}
-use Rattle.rules.proofs.Logic.{cases, optionCases}
-use Rattle.rules.proofs.Modes.{one-is, byte-met, marks-here, marks-over}
+use Rattle.rules.specs.Shift.{step, isOne, mark, marks, met}
+use Rattle.rules.specs.Escape.{letters, letterFor, escapeMet, escape}
+use Rattle.rules.proofs.Logic.{cases, optionCases, nothing-some}
+use Rattle.rules.proofs.Modes.{byte-met, marks-here, marks-over}
 use Rattle.rules.proofs.Escaped.{byte-far}
 use Rattle.scan.specs.Scan.{between, hidden, Units}
 use Rattle.writer.specs.Over.{Wrote, Put}
@@ -74,7 +74,7 @@ letter-some d x l h z =
     (λ e2. cases (eqb x (d .sub)) (λ e. let q : some 84 ≡ some l = rw (e1, e2, e, letterFor) at h in far 84 (λ w. omega arith) q)
     (λ e3. cases (eqb x (d .repetition)) (λ e. let q : some 82 ≡ some l = rw (e1, e2, e3, e, letterFor) at h in far 82 (λ w. omega arith) q)
     (λ e4. cases (eqb x (d .escape)) (λ e. let q : some 69 ≡ some l = rw (e1, e2, e3, e4, e, letterFor) at h in far 69 (λ w. omega arith) q)
-    (λ e5. let q : none ≡ some l = rw (e1, e2, e3, e4, e5, letterFor) at h in let w : _≡_ {A = ℕ} 0 1 = cc in omega arith)))))
+    (λ e5. let q : none ≡ some l = rw (e1, e2, e3, e4, e5, letterFor) at h in nothing-some q)))))
   where
     far : (n : ℕ) → (n ≡ 0 → ⊥) → some n ≡ some l → ⊥
     far n k q = k (let w : n ≡ l = cc in w ∙ z)

@@ -1,12 +1,12 @@
 -- The laws of a segment by its pattern. Assumes nothing.
-use mathlib.Core.Path.{_≡_, refl, sym, ap, _∙_}
-use mathlib.Core.Bool.{Bool, true, false, cond}
-use mathlib.Core.List.{List, [], _∷_, _++_}
+use mathlib.Core.Path.{_≡_, refl, ap, _∙_}
+use mathlib.Core.Bool.{cond}
+use mathlib.Core.List.{List, [], _∷_}
 use Prim.Native.Nat.{ℕ, zero, suc, _+_, _*_, _≤_, _<_}
 use Prim.Native.Char.{code}
 use native.Mathlib.Omega.{arith}
 use borrow.Author.Tests.{eq-eqb, ne-eqb, le-leb, lt-leb}
-use lib.Dec.{eqb, leb}
+use lib.Dec.{eqb}
 use lib.ListN.{length, drop, getD, length-append}
 use lib.Seq.{drop-drop}
 use denote.Ref.{RefT}
@@ -35,19 +35,6 @@ module _ (b : ℕ) where
   pub takes-plain : (b ≡ code "$" → ⊥) → b ≡ code "#" → taken b ≡ 1
   unfolding taken
   takes-plain n e = rw (ne-eqb b 36 n, eq-eqb b 35 e)
-
-  pub takes-none : (b ≡ code "$" → ⊥) → (b ≡ code "#" → ⊥) → taken b ≡ 0
-  unfolding taken
-  takes-none n m = rw (ne-eqb b 36 n, ne-eqb b 35 m)
-
-  pub takes-few : taken b ≤ 1
-  unfolding taken
-  takes-few = few (eqb b 36) (eqb b 35)
-    where
-      few : (t u : Bool) → cond t 1 (cond u 1 0) ≤ 1
-      few true u = omega arith
-      few false true = omega arith
-      few false false = omega arith
 
   module _ (d : Delims) (t : List ℕ) where
     slot-text : b ≡ code "$" → slotText d b t ≡ escape d t

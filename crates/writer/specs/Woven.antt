@@ -1,6 +1,6 @@
 -- A segment by its pattern: `|^~\&` stand for the five delimiters, `$` for the next text, escaped, `#` for the next as it is, and any
 -- other byte for itself.
-use mathlib.Core.Bool.{Bool, true, false, cond, _||_}
+use mathlib.Core.Bool.{cond}
 use mathlib.Core.List.{List, [], _∷_, _++_}
 use Prim.Native.Nat.{ℕ, _+_}
 use Prim.Native.Char.{code}

@@ -2,7 +2,8 @@
 use borrow.Author.Needs.{needs}
 use Prim.Native.Nat.{_-_, _≤_}
 use lib.ListN.{length}
-use Rattle.closed.proofs.Laws.{Looking, looking-ends, looking-finds, looking-on, looking-starts, past-less, past-within, rest-fits}
+use Rattle.rules.proofs.Lists.{rest-within}
+use Rattle.closed.proofs.Laws.{Looking, looking-ends, looking-finds, looking-on, looking-starts, past-less, rest-fits}
 use Rattle.closed.proofs.repetition.Statement.{statement}
 use Rattle.closed.proofs.repetition.Tie as tie
 
@@ -34,13 +35,13 @@ past-requires : tie.Need-past-requires Inv-loop μ-loop
 past-requires c κs = search needs
 
 add-at : tie.Need-add-at Inv-loop μ-loop
-add-at c = search (past-within, needs)
+add-at c = search (rest-within, needs)
 
 loop-less : tie.Need-loop-less Inv-loop μ-loop
 loop-less c = search (past-less, needs)
 
 loop-again : tie.Need-loop-again Inv-loop μ-loop
-loop-again c = search (looking-on, past-within, needs)
+loop-again c = search (looking-on, rest-within, needs)
 
 sub-result : tie.Need-sub-result Inv-loop μ-loop
 sub-result c = search needs
