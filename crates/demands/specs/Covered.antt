@@ -7,7 +7,7 @@ use mathlib.Core.Option.{some}
 use Prim.Native.Nat.{ℕ, suc, _+_, _-_, _<_, _≤_}
 use lib.ListN.{length, getElem?}
 use Rattle.rules.specs.declared.Delims.{Delims}
-use Rattle.rules.specs.Lists.{all, split, last, ended}
+use Rattle.rules.specs.Lists.{all, split, ended}
 use Rattle.rules.specs.Shift.{met}
 use Rattle.rules.specs.Frame.{delimsOf, Known, segments, known}
 use Rattle.rules.specs.Places.{isClosed, unreadField}

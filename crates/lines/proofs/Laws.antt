@@ -14,7 +14,7 @@ use Rattle.rules.specs.Lists.{bytes, empty, filled, nth, same, starts, split, a
 use Rattle.rules.specs.Value.{Rule, fault, fits, holds, tooLong, words, text}
 use Rattle.rules.specs.Places.{Four, valueRules, entryOf, entryIn, places}
 use Rattle.rules.specs.Judge.{beside, unjoined, agrees}
-use Rattle.rules.specs.Row.{line, lines, fourAt}
+use Rattle.rules.specs.Row.{line, lines, fourAt, kanaFits, joined}
 use Rattle.rules.specs.Sheet.{keyOf, linesOf}
 use Rattle.rules.proofs.Logic.{cases, never, and-false, not-true, not-false}
 use Rattle.rules.proofs.Lists.{over, rest-is, rest-inside, take-own, same-eq, empty-zero, filled-some}
@@ -32,7 +32,7 @@ use Rattle.value.specs.Rules.{faultNo, fineOf, ruleOf, rulesOf, textOf}
 use Rattle.value.proofs.Laws.{split-last, split-more, fine-zero, fault-some}
 use Rattle.lines.specs.declared.Verdict.{Verdict}
 use Rattle.lines.specs.declared.Verdict.the-variants.{Fine, Key, Value}
-use Rattle.lines.specs.Lines.{behind, Cut, fitsPlace, fourOf, joinedOk, andThen, isFine, lineAs, lineVerdict, verdict, groupVerdict, nextGroup}
+use Rattle.lines.specs.Lines.{behind, Cut, fitsPlace, fourOf, andThen, isFine, lineAs, lineVerdict, verdict, groupVerdict, nextGroup}
 
 -- ---- lines by their 0A
 none : (s : List ℕ) → length (until (is 0x0A) s) ≡ length s → linesOf s ≡ []
@@ -316,7 +316,7 @@ blank s =
     (λ e. e ∙ sym (empty-zero s (eqb-true (length s) 0 e)))
     (λ e. e ∙ sym (filled-some s (λ z. never (sym (eq-eqb (length s) 0 z) ∙ e))))
 
-pub kana-is : (a b : List ℕ) → (not (eqb (length a) 0) || eqb (length b) 0) ≡ (filled a || empty b)
+pub kana-is : (a b : List ℕ) → (not (eqb (length a) 0) || eqb (length b) 0) ≡ kanaFits a b
 kana-is a b = rw (blank a, blank b)
 
 -- the four parts of OBX-5, by which are filled
@@ -326,8 +326,7 @@ module _ (c v j s : List ℕ) (q : Bool)
   beside-is = e (fourOf c v j s) (ap not (blank c)) (ap not (blank j)) (ap not (blank s))
 
   pub joined-is : (u : Bool) → ((k : Four (List ℕ)) → not (eqb (length j) 0) ≡ filled (k .join) → not (eqb (length s) 0) ≡ filled (k .second) → u ≡ unjoined k)
-      → (not u && (not (eqb (length v) 0) || not q)) ≡ joinedOk (fourOf c v j s)
-  unfolding joinedOk
+      → (not u && (not (eqb (length v) 0) || not q)) ≡ joined (fourOf c v j s)
   joined-is u f = rw (beside-is, f (fourOf c v j s) (ap not (blank j)) (ap not (blank s)), blank v)
 
   pub agrees-is : (t : List ℕ) (r : Bool) → ((k : Four (List ℕ)) → not (eqb (length v) 0) ≡ filled (k .value) → q ≡ beside k → r ≡ agrees t k) → r ≡ agrees t (fourOf c v j s)
@@ -336,7 +335,7 @@ module _ (c v j s : List ℕ) (q : Bool)
 -- ---- the groups
 -- to unfold this name is to unfold the table of lines
 unfoldable pub table : Unit {0}
-unfolding verdict lineVerdict lines line entryOf entryIn places keyOf bytes ruleOf rulesOf textOf fourAt joinedOk
+unfolding verdict lineVerdict lines line entryOf entryIn places keyOf bytes ruleOf rulesOf textOf fourAt
 table = tt
 
 pub group-is : (n x : Name) (ts : List (List ℕ)) (r : Verdict) → n ≡ x → r ≡ groupVerdict x ts → r ≡ groupVerdict n ts
@@ -419,7 +418,7 @@ module _ (ts : List (List ℕ)) where
 
   pub result-is : (kind c v j s t : List ℕ) (met also : Bool) (rules : Parts)
       → kind ≡ drop 5 (nth ts 2) → c ≡ drop 8 (nth ts 3) → v ≡ drop 6 (nth ts 4) → j ≡ drop 5 (nth ts 5) → s ≡ drop 7 (nth ts 6) → t ≡ drop 7 (nth ts 9)
-      → met ≡ agrees t (fourOf c v j s) → also ≡ joinedOk (fourOf c v j s)
+      → met ≡ agrees t (fourOf c v j s) → also ≡ joined (fourOf c v j s)
       → rulesOf rules ≡ valueRules kind
       → (v0 v1 v2 v3 v4 v5 v6 v7 v8 r : Verdict) → v0 ≡ andThen Fine (judge 0 (105 ∷ 116 ∷ 101 ∷ 109 ∷ 61 ∷ []) true (Capitals 17))
       → v1 ≡ andThen v0 (judge 1 (110 ∷ 97 ∷ 109 ∷ 101 ∷ 61 ∷ []) false (Text 48))
@@ -434,7 +433,7 @@ module _ (ts : List (List ℕ)) where
   unfolding table
   result-is kind c v j s t met also rules ek ec ev ej es et em ea er v0 v1 v2 v3 v4 v5 v6 v7 v8 r e0 e1 e2 e3 e4 e5 e6 e7 e8 e9 =
       let four : fourOf c v j s ≡ fourOf (drop 8 (nth ts 3)) (drop 6 (nth ts 4)) (drop 5 (nth ts 5)) (drop 7 (nth ts 6)) = rw (ec, ev, ej, es) in
-      let ok : also ≡ joinedOk (fourOf (drop 8 (nth ts 3)) (drop 6 (nth ts 4)) (drop 5 (nth ts 5)) (drop 7 (nth ts 6))) = ea ∙ ap joinedOk four in
+      let ok : also ≡ joined (fourOf (drop 8 (nth ts 3)) (drop 6 (nth ts 4)) (drop 5 (nth ts 5)) (drop 7 (nth ts 6))) = ea ∙ ap joined four in
       let fit : met ≡ agrees (drop 7 (nth ts 9)) (fourOf (drop 8 (nth ts 3)) (drop 6 (nth ts 4)) (drop 5 (nth ts 5)) (drop 7 (nth ts 6))) = em ∙ ap (agrees t) four ∙ ap (λ (u : List ℕ). agrees u (fourOf (drop 8 (nth ts 3)) (drop 6 (nth ts 4)) (drop 5 (nth ts 5)) (drop 7 (nth ts 6)))) et in
       let own : rulesOf rules ≡ valueRules (drop 5 (nth ts 2)) = er ∙ ap valueRules ek in
       let w3 = swap v3 v2 3 (99 ∷ 111 ∷ 109 ∷ 112 ∷ 97 ∷ 114 ∷ 101 ∷ 61 ∷ []) (drop 8 (nth ts 3)) (nth ts 3) (rules .compare) _ true (ap (λ (f : Four Rule). f .compare) own) e3 in

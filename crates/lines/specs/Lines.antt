@@ -1,5 +1,5 @@
 -- A group of a sheet, read line by line: the verdict on its lines, its values, and the group that may come next.
-use mathlib.Core.Bool.{Bool, true, false, cond, not, _&&_, _||_}
+use mathlib.Core.Bool.{Bool, true, false, cond, not, _&&_}
 use mathlib.Core.List.{List, [], _∷_, _++_}
 use mathlib.Core.Path.{_≡_}
 use Prim.Native.Nat.{ℕ, suc, _+_, _≤_, _<_}
@@ -7,10 +7,9 @@ use lib.ListN.{length, drop, getD}
 use Rattle.rules.specs.declared.Name.{Name}
 use Rattle.rules.specs.declared.Name.the-variants.{Msh, Pid, Pv1, Spm, Obr, Orc, Obx, Other}
 use Rattle.rules.specs.Told.{Told, refused}
-use Rattle.rules.specs.Lists.{bytes, filled, nth, same, starts}
+use Rattle.rules.specs.Lists.{bytes, nth, same, starts}
 use Rattle.rules.specs.Value.{fits}
 use Rattle.rules.specs.Places.{Four}
-use Rattle.rules.specs.Judge.{beside, unjoined}
 use Rattle.rules.specs.Row.{Line, lines}
 use Rattle.rules.specs.Sheet.{keyOf, lineOk, linesOf}
 use Rattle.value.specs.declared.Place.{Place}
@@ -86,12 +85,9 @@ valuesFrom (l ∷ ls) k ts = drop (length (keyOf l)) (nth ts k) ∷ valuesFrom l
 abbrev pub groupValues : Name → List (List ℕ) → List (List ℕ)
 groupValues g ts = valuesFrom (lines g) 0 ts
 
--- the four parts of OBX-5; at second, "a missing joiner, and an SN whose value is blank beside a filled compare, join or second"
+-- the four parts of OBX-5
 abbrev pub fourOf : List ℕ → List ℕ → List ℕ → List ℕ → Four (List ℕ)
 fourOf c v j s = record { compare = c; value = v; join = j; second = s }
-
-unfoldable pub joinedOk : Four (List ℕ) → Bool
-joinedOk c = not (unjoined c) && (filled (c .value) || not (beside c))
 
 -- the group to try after g, where t is the next line: only after a result is there a choice
 unfoldable pub nextGroup : Name → List ℕ → Name

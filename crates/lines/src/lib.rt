@@ -6,17 +6,18 @@ use value::Place::Must;
 use value::Rule;
 use value::table;
 ghost use mathlib.Core.Path.{_≡_};
-ghost use mathlib.Core.Bool.{_&&_, _||_};
+ghost use mathlib.Core.Bool.{_&&_};
 ghost use Prim.Native.Nat.{_+_, _≤_, _<_};
 ghost use lib.ListN.{length, drop};
 ghost use Rattle.rules.specs.Lists.{nth, empty, filled};
 ghost use Rattle.rules.specs.Lists as Lists;
 ghost use Rattle.rules.specs.Value.{fits};
 ghost use Rattle.rules.specs.Judge as Judge;
+ghost use Rattle.rules.specs.Row as Row;
 ghost use Rattle.rules.specs.Row.{lines};
 ghost use Rattle.rules.specs.Sheet.{linesOf};
 ghost use Rattle.value.specs.Rules.{ruleOf};
-ghost use Rattle.lines.specs.Lines.{fitsPlace, fourOf, joinedOk, andThen, isFine, lineAs, groupVerdict, nextGroup, behind, Cut};
+ghost use Rattle.lines.specs.Lines.{fitsPlace, fourOf, andThen, isFine, lineAs, groupVerdict, nextGroup, behind, Cut};
 
 // On the lines of a group, by their place in it, from 0.
 pub enum Verdict {
@@ -249,7 +250,7 @@ fn header(s: &[u8], at: &[usize; 11]) -> Verdict
 
 // "A blank kanafamily needs a blank kanagiven".
 fn kana_fits(family: &[u8], given: &[u8]) -> bool
-    ensures { λ r. ⌜ r ≡ (filled (now (family .entry)) || empty (now (given .entry))) ⌝ }
+    ensures { λ r. ⌜ r ≡ Row.kanaFits (now (family .entry)) (now (given .entry)) ⌝ }
 {
     (family.len() != 0) | (given.len() == 0)
 }
@@ -272,7 +273,7 @@ fn patient(s: &[u8], at: &[usize; 11]) -> Verdict
 
 // "a missing joiner, and an SN whose value is blank beside a filled compare, join or second"
 fn joined(compare: &[u8], value: &[u8], join: &[u8], second: &[u8]) -> bool
-    ensures { λ r. ⌜ r ≡ joinedOk (fourOf (now (compare .entry)) (now (value .entry)) (now (join .entry)) (now (second .entry))) ⌝ }
+    ensures { λ r. ⌜ r ≡ Row.joined (fourOf (now (compare .entry)) (now (value .entry)) (now (join .entry)) (now (second .entry))) ⌝ }
 {
     let beside = value::beside(compare.len() != 0, join.len() != 0, second.len() != 0);
     let unjoined = value::unjoined(join.len() != 0, second.len() != 0);

@@ -13,7 +13,7 @@ use Rattle.rules.specs.declared.Mode.the-variants.{One}
 use Rattle.rules.specs.declared.Name.{Name}
 use Rattle.rules.specs.declared.Name.the-variants.{Msh, Pid, Pv1, Spm, Obr, Orc, Obx, Other}
 use Rattle.rules.specs.Told.{gives, accepted}
-use Rattle.rules.specs.Lists.{bytes, nth, any, count, has, split, ended}
+use Rattle.rules.specs.Lists.{nth, any, count, split, ended}
 use Rattle.rules.specs.Shift.{met}
 use Rattle.rules.specs.Frame.{delimsOf, segments, spelling, nameOf, is, knownFrom, known, after, orderFault}
 use Rattle.rules.specs.Proper.{Delim, Proper}

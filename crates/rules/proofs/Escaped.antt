@@ -96,11 +96,16 @@ record Coded (d : Delims) (b l : ℕ) : Type 0 where
   delim : Delim b
   fine : plainByte l ≡ true
 
+-- a byte that is none of the five has no letter
+pub no-letter : (d : Delims) (y : ℕ) → eqb y (d .field) ≡ false → eqb y (d .component) ≡ false → eqb y (d .sub) ≡ false
+    → eqb y (d .repetition) ≡ false → eqb y (d .escape) ≡ false → letterFor (letters d) y ≡ none
+unfolding letterFor letters
+no-letter d y f c s r e = cc
+
 module _ (d : Delims) (p : Proper d) where
-  -- a byte other than the twelve, or outside one-byte mode, has no letter
-  no-letter : (y : ℕ) → ((x : ℕ) → Delim x → eqb y x ≡ false) → letterFor (letters d) y ≡ none
-  unfolding letterFor letters
-  no-letter y n = cc (n (d .field) (p .field), n (d .component) (p .component), n (d .sub) (p .sub), n (d .repetition) (p .repetition), n (d .escape) (p .escape))
+  -- so one other than the twelve, or outside one-byte mode
+  unlettered : (y : ℕ) → ((x : ℕ) → Delim x → eqb y x ≡ false) → letterFor (letters d) y ≡ none
+  unlettered y n = no-letter d y (n (d .field) (p .field)) (n (d .component) (p .component)) (n (d .sub) (p .sub)) (n (d .repetition) (p .repetition)) (n (d .escape) (p .escape))
 
   coded-is : (b l : ℕ) → letterFor (letters d) b ≡ some l → Coded d b l
   unfolding letterFor letters meaning plainByte bytes has any isOne step
@@ -135,11 +140,12 @@ byte-far b = let e : 256 + b - 256 ≡ b = omega arith in rw (le-ltb (256 + b) 2
 pub byte-near : (b : ℕ) → b < 256 → byteOf b ≡ b
 byte-near b h = rw (lt-ltb b 256 h)
 
-module _ (d : Delims) (p : Proper d) where
-  escape-far : (b : ℕ) (t : List ℕ) → escapeMet d ((256 + b) ∷ t) ≡ b ∷ escapeMet d t
-  unfolding escapeMet
-  escape-far b t = cc (no-letter d p (256 + b) (λ x h. delim-far x h b), byte-far b)
+-- a byte met outside one-byte mode is written as it is
+pub escape-far : (d : Delims) (b : ℕ) (t : List ℕ) → letterFor (letters d) (256 + b) ≡ none → escapeMet d ((256 + b) ∷ t) ≡ b ∷ escapeMet d t
+unfolding escapeMet
+escape-far d b t h = cc (byte-far b)
 
+module _ (d : Delims) (p : Proper d) where
   escape-near : (b : ℕ) (t : List ℕ) → letterFor (letters d) b ≡ none → b < 256 → escapeMet d (b ∷ t) ≡ b ∷ escapeMet d t
   unfolding escapeMet
   escape-near b t h l = cc (byte-near b l)
@@ -201,7 +207,7 @@ module _ (d : Delims) (p : Proper d) where
   far-shape : (m : Mode) (b : ℕ) (v : List ℕ) → isOne m ≡ false → (step 0x20 m b ≡ Bad → ⊥) → Shape (step 0x20 m b) v → Shape m (b ∷ v)
   far-shape m b v o n s =
       let k : mark m b ≡ 256 + b = unfold mark in rw o in
-      itself m b v n (wrote-step m b v n ∙ (rw k (escape-far b (marks 0x0D (step 0x20 m b) v)))) s (rw k (far (s .esc)))
+      itself m b v n (wrote-step m b v n ∙ (rw k (escape-far d b (marks 0x0D (step 0x20 m b) v) (unlettered d p (256 + b) (λ x h. delim-far x h b))))) s (rw k (far (s .esc)))
 
   shape : (m : Mode) (v : List ℕ) → walk 0x20 m v ≡ One → Shape m v
   unfolding walk
@@ -274,7 +280,7 @@ module _ (d : Delims) (p : Proper d) where
   word-on b v h r =
       let q = plain-one b h in
       let l = small-one b (λ e. let z : _≡_ {A = ℕ} 0 1 = cc in omega arith) in
-      (rw (met-cons b (q .0) v) (escape-near b (met v) (no-letter d p b (λ x i. delim-ne x i b (q .1))) l ∙ (rw (r .0))), clean-cons b (q .0) v (r .1))
+      (rw (met-cons b (q .0) v) (escape-near b (met v) (unlettered d p b (λ x i. delim-ne x i b (q .1))) l ∙ (rw (r .0))), clean-cons b (q .0) v (r .1))
 
   pub word : (v : List ℕ) → all plainByte v ≡ true → (escape d v ≡ v) × Clean v
   word [] h = (unfold escape escapeMet met marks in refl, unfold walk in refl)

@@ -1,7 +1,7 @@
 -- Going by cases, and the laws of tests: what every proof of the library stands on. Assumes nothing.
 use mathlib.Core.Path.{_≡_, refl, sym}
 use mathlib.Core.Bool.{Bool, true, false, cond, _&&_, _||_, false≢true, and-assoc as and-right, or-assoc as or-right}
-pub use mathlib.Core.Bool.{and-true, and-false, and-comm, or-true, or-false}
+pub use mathlib.Core.Bool.{and-true, and-false, or-true, or-false}
 use mathlib.Core.List.{List, [], _∷_}
 use mathlib.Core.Option.{Option, none, some}
 use Prim.Native.Nat.{ℕ, zero, suc}

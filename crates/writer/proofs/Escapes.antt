@@ -15,7 +15,7 @@ use Rattle.rules.specs.Shift.{step, isOne, mark, marks, met}
 use Rattle.rules.specs.Escape.{letters, letterFor, escapeMet, escape}
 use Rattle.rules.proofs.Logic.{cases, optionCases, nothing-some}
 use Rattle.rules.proofs.Modes.{byte-met, marks-here, marks-over}
-use Rattle.rules.proofs.Escaped.{byte-far}
+use Rattle.rules.proofs.Escaped.{no-letter, escape-far}
 use Rattle.scan.specs.Scan.{between, hidden, Units}
 use Rattle.writer.specs.Over.{Wrote, Put}
 use Rattle.writer.specs.Escaping.{unitAs, unitOf, letterOrZero, letterOf}
@@ -49,9 +49,9 @@ module _ (d : Delims) (b : ℕ) where
               cc (ne-eqb b (d .field) n1, ne-eqb b (d .component) n2, ne-eqb b (d .sub) n3, ne-eqb b (d .repetition) n4, eq-eqb b (d .escape) e)
 
           pub letter-none : (b ≡ d .escape → ⊥) → 0 ≡ letterOf d b
-          unfolding letterOf letterFor letters letterOrZero
+          unfolding letterOf letterOrZero
           letter-none n5 =
-              cc (ne-eqb b (d .field) n1, ne-eqb b (d .component) n2, ne-eqb b (d .sub) n3, ne-eqb b (d .repetition) n4, ne-eqb b (d .escape) n5)
+              cc (no-letter d b (ne-eqb b (d .field) n1) (ne-eqb b (d .component) n2) (ne-eqb b (d .sub) n3) (ne-eqb b (d .repetition) n4) (ne-eqb b (d .escape) n5))
 
 -- in one-byte mode, and in any other
 pub letter-acts : (d : Delims) (m : Mode) (b r : ℕ) (t : Bool) → t ≡ isOne m → t ≡ true → r ≡ letterOf d b → r ≡ letterOf d (mark m b)
@@ -129,21 +129,19 @@ escape-end d m t i h = rw (marks-over 0x0D t i m h)
 
 -- ---- a run of two-byte units
 module _ (d : Delims) (f : d .field < 256) (c : d .component < 256) (s : d .sub < 256) (r : d .repetition < 256) (x : d .escape < 256) where
-  escape-far : (b : ℕ) (t : List ℕ) → escapeMet d ((256 + b) ∷ t) ≡ b ∷ escapeMet d t
-  unfolding escapeMet letterFor letters
-  escape-far b t = cc (
-    ne-eqb (256 + b) (d .field) (λ q. omega arith),
-    ne-eqb (256 + b) (d .component) (λ q. omega arith),
-    ne-eqb (256 + b) (d .sub) (λ q. omega arith),
-    ne-eqb (256 + b) (d .repetition) (λ q. omega arith),
-    ne-eqb (256 + b) (d .escape) (λ q. omega arith),
-    byte-far b,
-  )
+  unlettered : (b : ℕ) → letterFor (letters d) (256 + b) ≡ none
+  unlettered b =
+      no-letter d (256 + b)
+      (ne-eqb (256 + b) (d .field) (λ q. omega arith))
+      (ne-eqb (256 + b) (d .component) (λ q. omega arith))
+      (ne-eqb (256 + b) (d .sub) (λ q. omega arith))
+      (ne-eqb (256 + b) (d .repetition) (λ q. omega arith))
+      (ne-eqb (256 + b) (d .escape) (λ q. omega arith))
 
   escape-hidden : (w t : List ℕ) → escapeMet d (hidden w ++ t) ≡ w ++ escapeMet d t
   unfolding hidden
   escape-hidden [] t = refl
-  escape-hidden (b ∷ w) t = escape-far b (hidden w ++ t) ∙ ap (λ (l : List ℕ). b ∷ l) (escape-hidden w t)
+  escape-hidden (b ∷ w) t = escape-far d b (hidden w ++ t) (unlettered b) ∙ ap (λ (l : List ℕ). b ∷ l) (escape-hidden w t)
 
   escape-units : (m : Mode) (t : List ℕ) (i j : ℕ) → Units t m i j → Splits (escapeMet d (marks 0x0D m (drop i t))) (between i j t) (escapeMet d (marks 0x0D m (drop j t)))
   escape-units m t i j u = record { eq = ap (escapeMet d) (u .hides 0x0D .met) ∙ escape-hidden (between i j t) (marks 0x0D m (drop j t)) }
