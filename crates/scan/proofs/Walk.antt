@@ -147,6 +147,10 @@ bytes-on end s i j k r =
     ap (λ x. x ∷ map byteOf (hidden (between (i + 1) j s))) (byte-met One (getD s i 0) (r .byte))
     ∙ ap (λ l. getD s i 0 ∷ l) (hidden-bytes (between (i + 1) j s)) ∙ sym (between-first s i j (r .later) (r .inside))
 
+-- ---- next_byte
+pub next-plain : (end : ℕ) (s : List ℕ) (i : ℕ) (t : Bool) → i < length s → t ≡ within 0x20 0x7E (getD s i 0) → t ≡ true → Reaches end s i (i + 1) true
+next-plain end s i t h e y = plain-on end s i h (sym e ∙ y)
+
 -- ---- keeps
 pub keeps-on : (end : ℕ) (s : List ℕ) (i j : ℕ) (k : Bool) → keeps end s ≡ keeps end (drop i s) → Reaches end s i j k → not k ≡ false → keeps end s ≡ keeps end (drop j s)
 keeps-on end s i j k inv r e = inv ∙ r .keeps ∙ rw (not-false k e)

@@ -1,4 +1,5 @@
 -- How one byte of a text is written, by the byte as it is met.
+use mathlib.Core.Bool.{Bool, true, false}
 use mathlib.Core.List.{List, [], _∷_}
 use mathlib.Core.Option.{Option, none, some}
 use Prim.Native.Nat.{ℕ}
@@ -21,3 +22,11 @@ letterOrZero (some l) = l
 
 unfoldable pub letterOf : Delims → ℕ → ℕ
 letterOf d x = letterOrZero (letterFor (letters d) x)
+
+-- whether one does: the five delimiters have letters
+unfoldable pub lettered : Option ℕ → Bool
+lettered none = false
+lettered (some l) = true
+
+unfoldable pub isDelimiter : Delims → ℕ → Bool
+isDelimiter d x = lettered (letterFor (letters d) x)

@@ -1,16 +1,13 @@
 // Writing into a lent buffer: bytes, numbers and escaped texts, each over the front of what remains of it, and the rest stays.
 use rules::Delims;
-use rules::Mode;
 ghost use mathlib.Core.Path.{_≡_};
-ghost use mathlib.Core.List.{[]};
-ghost use Prim.Native.Nat.{_+_, _*_, _≤_, _<_};
+ghost use Prim.Native.Nat.{_+_, _*_, _≤_};
 ghost use lib.ListN.{length, drop};
 ghost use Rattle.rules.specs.Escape.{escape};
 ghost use Rattle.rules.specs.Message.{decimal};
-ghost use Rattle.rules.specs.Shift.{mark};
 ghost use Rattle.writer.specs.Over.{Wrote, Put, Fit};
 ghost use Rattle.writer.specs.Woven.{delimiterOf, taken, slotText, firstText, woven, holes, sizes};
-ghost use Rattle.writer.specs.Escaping.{unitOf, letterOf};
+ghost use Rattle.writer.specs.Escaping.{unitOf, letterOf, isDelimiter};
 
 // Copies bytes to the front of the lent tail.
 pub fn put(out: &mut [u8], bytes: &[u8]) -> usize
@@ -87,39 +84,34 @@ fn letter_for(b: u8, d: Delims) -> u8
     0
 }
 
-// The same for a byte of a text in some mode: only in one-byte mode does a delimiter act.
-fn letter(mode: Mode, b: u8, d: Delims) -> u8
-    ensures { λ r. ⌜ r ≡ letterOf d (mark mode b) ⌝ }
-    ensures byte { λ r. ⌜ b < 256 ⌝ }
+// Whether b is one of the five delimiters.
+fn is_delimiter(b: u8, d: Delims) -> bool
+    ensures { λ r. ⌜ r ≡ isDelimiter d b ⌝ }
 {
-    if scan::one(mode) {
-        return letter_for(b, d);
-    }
-    0
+    (b == d.field) | (b == d.component) | (b == d.sub) | (b == d.repetition) | (b == d.escape)
 }
 
-// One byte, escaped where it is a delimiter that acts.
-fn put_unit(out: &mut [u8], at: usize, mode: Mode, b: u8, d: Delims) -> usize
-    requires { ⌜ at + length (unitOf d (mark mode b)) ≤ length (now out) ⌝ }
-    ensures { λ r. ⌜ Put at (now (out .entry)) (unitOf d (mark mode b)) r (now (out .exit)) ⌝ }
+// A byte of one-byte mode, escaped where it is a delimiter.
+fn put_unit(out: &mut [u8], at: usize, b: u8, d: Delims) -> usize
+    requires { ⌜ at + length (unitOf d b) ≤ length (now out) ⌝ }
+    ensures { λ r. ⌜ Put at (now (out .entry)) (unitOf d b) r (now (out .exit)) ⌝ }
 {
-    let l = letter(mode, b, d);
-    if l == 0 {
+    if !is_delimiter(b, d) {
         return put_at(out, at, &[b]);
     }
     let e = d.escape;
+    let l = letter_for(b, d);
     put_at(out, at, &[e, l, e])
 }
 
 // How many bytes it takes.
-fn unit_len(mode: Mode, b: u8, d: Delims) -> usize
-    ensures { λ r. ⌜ (r ≡ length (unitOf d (mark mode b))) × (r ≤ 3) ⌝ }
+fn unit_len(b: u8, d: Delims) -> usize
+    ensures { λ r. ⌜ (r ≡ length (unitOf d b)) × (r ≤ 3) ⌝ }
 {
-    let l = letter(mode, b, d);
-    if l == 0 {
-        return 1;
+    if is_delimiter(b, d) {
+        return 3;
     }
-    3
+    1
 }
 
 // How many bytes a text takes, escaped.
@@ -130,31 +122,30 @@ pub fn escaped_len(text: &[u8], d: Delims) -> usize
 {
     let mut n: usize = 0;
     let mut i = 0;
-    let mut mode = Mode::One;
     while i < text.len() {
         let b = text[i];
-        n += unit_len(mode, b, d);
-        mode = scan::step(mode, b, 0x0D);
-        i += 1;
+        let next = scan::next_byte(text, i, 0x0D);
+        let to = next.at;
+        n += unit_len(b, d) + (to - (i + 1));
+        i = to;
     }
     n
 }
 
-// A text, with the delimiters of its one-byte stretches escaped; a run of two-byte units is copied as it stands.
+// A text, with the delimiters of its one-byte stretches escaped; what stands between two bytes of one-byte mode is copied as it is.
 pub fn put_escaped(out: &mut [u8], text: &[u8], d: Delims) -> usize
     requires { ⌜ length (escape d (now text)) ≤ length (now out) ⌝ }
     ensures { λ r. ⌜ Wrote r (now (out .exit)) (escape d (now (text .entry))) (now (out .entry)) ⌝ }
 {
     let mut at = 0;
     let mut i = 0;
-    let mut mode = Mode::One;
     while i < text.len() {
         let b = text[i];
-        at = put_unit(out, at, mode, b, d);
-        mode = scan::step(mode, b, 0x0D);
-        i += 1;
-        let to = scan::units(text, i, mode);
-        at = put_at(out, at, &text[i..to]);
+        let next = scan::next_byte(text, i, 0x0D);
+        let to = next.at;
+        let after = i + 1;
+        at = put_unit(out, at, b, d);
+        at = put_at(out, at, &text[after..to]);
         i = to;
     }
     at

@@ -1,18 +1,20 @@
-use Prim.Native.Nat.{ℕ, _-_, _≤_}
+-- `put_escaped` meets its contract. Assumes nothing.
+use borrow.Author.Needs.{needs}
+use Prim.Native.Nat.{_-_, _≤_}
 use lib.ListN.{length, drop}
+use Rattle.rules.specs.declared.Mode.the-variants.{One}
 use Rattle.rules.specs.Shift.{marks}
 use Rattle.rules.specs.Escape.{escape, escapeMet}
 use Rattle.writer.proofs.Laws.{Running}
-use Rattle.writer.proofs.Escapes.{escape-begins, escape-ends, escape-goes, escape-room, units-room}
-use borrow.Author.Needs.{needs}
+use Rattle.writer.proofs.Escapes.{escape-begins, byte-room, stretch-room, escape-goes, escape-ends}
 use Rattle.writer.proofs.put_escaped.Statement.{statement}
 use Rattle.writer.proofs.put_escaped.Tie as tie
 
 abbrev Inv-loop : tie.InvT-loop
-Inv-loop out₀ text d at₀ i₀ mode₀ out at i mode = (i ≤ length text) × Running (escape d text) (escapeMet d (marks 0x0D mode (drop i text))) out₀ out at
+Inv-loop out₀ text d at₀ i₀ out at i = (i ≤ length text) × Running (escape d text) (escapeMet d (marks 0x0D One (drop i text))) out₀ out at
 
 abbrev μ-loop : tie.MeasureT-loop
-μ-loop out₀ text d at₀ i₀ mode₀ out at i mode = length text - i
+μ-loop out₀ text d at₀ i₀ out at i = length text - i
 
 loop-holds : tie.Need-loop-holds Inv-loop μ-loop
 loop-holds c = search (escape-begins, needs)
@@ -20,17 +22,14 @@ loop-holds c = search (escape-begins, needs)
 shared-slice-read-b : tie.Need-shared-slice-read-b Inv-loop μ-loop
 shared-slice-read-b c = search needs
 
+next-byte-requires : tie.Need-next-byte-requires Inv-loop μ-loop
+next-byte-requires c κs = search needs
+
+add-after : tie.Need-add-after Inv-loop μ-loop
+add-after c = search needs
+
 put-unit-requires : tie.Need-put-unit-requires Inv-loop μ-loop
-put-unit-requires c κs = search (escape-room, needs)
-
-step-requires : tie.Need-step-requires Inv-loop μ-loop
-step-requires c κs = search needs
-
-add-i : tie.Need-add-i Inv-loop μ-loop
-add-i c = search needs
-
-units-requires : tie.Need-units-requires Inv-loop μ-loop
-units-requires c κs = search needs
+put-unit-requires c κs = search (byte-room, needs)
 
 sub-put-at : tie.Need-sub-put-at Inv-loop μ-loop
 sub-put-at c = search needs
@@ -42,7 +41,7 @@ part-put-at-end : tie.Need-part-put-at-end Inv-loop μ-loop
 part-put-at-end c = search needs
 
 put-at-requires : tie.Need-put-at-requires Inv-loop μ-loop
-put-at-requires c κs = search (units-room, needs)
+put-at-requires c κs = search (stretch-room, needs)
 
 loop-less : tie.Need-loop-less Inv-loop μ-loop
 loop-less c = search needs
@@ -64,10 +63,9 @@ put-escaped-spec =
     μ-loop
     loop-holds
     shared-slice-read-b
+    next-byte-requires
+    add-after
     put-unit-requires
-    step-requires
-    add-i
-    units-requires
     sub-put-at
     part-put-at-start
     part-put-at-end
