@@ -17,7 +17,7 @@ use Rattle.rules.specs.Frame.{is}
 use Rattle.rules.specs.Row.{lines, Row, rowOf}
 use Rattle.rules.specs.Sheet.{rowsTold, linesOf}
 use Rattle.rules.specs.Message.{written, messageOf}
-use Rattle.rules.proofs.Logic.{never, not-true, not-false, zeroCases}
+use Rattle.rules.proofs.Logic.{never, not-true, not-false, not-given, zeroCases}
 use Rattle.rules.proofs.Lists.{here, rest-is, rest-shorter, rest-within, empty-is, empty-zero}
 use Rattle.writer.specs.Over.{over, Wrote, Put}
 use Rattle.writer.proofs.Laws.{then}
@@ -28,14 +28,16 @@ use Rattle.lines.proofs.Groups.{verdict-told, next-told, group-index}
 use Rattle.compose.specs.declared.Size.{Size}
 use Rattle.compose.specs.declared.Passed.{Passed}
 use Rattle.compose.specs.declared.Passed.the-variants.{All, Not}
-use Rattle.compose.specs.Compose.{rowsText, groupText, specimensWith, resultsWith, segmentsOf, isValue, Added, toldSize, refusalAt, rowsIn, Pass}
+use Rattle.compose.specs.Compose.{rowsText, groupText, specimensWith, resultsWith, segmentsOf, isValue, Added, toldSize, refusalAt, rowsIn, Right, Pass}
 use Rattle.compose.proofs.Messages.{specimensIn, resultsIn, message-append, segments-append, segments-in, message-none, segments-none, specimens-append, results-append, specimens-in, results-in}
 
--- behind the group g at the place at, whose next line has the number line: what is done, and what is still to be told
-pub record Passing (d : Delims) (s out₀ : List ℕ) (g : Name) (at line bytes segments specimens results : ℕ) (out : List ℕ) : Type 0 where
+-- behind the group g at the place at, from where the next lines have these places, and whose next line has the number line: what is done, and what is still to be told
+pub record Passing (d : Delims) (s : List ℕ) (known : Bool) (out₀ : List ℕ) (g : Name) (at line bytes segments specimens results : ℕ) (places out : List ℕ) : Type 0 where
   pub rows : List Row
   pub vs : List (List ℕ)
   pub small : length s ≤ 65536
+  pub right : known ≡ true → Right s
+  pub cut : Cut 10 (take (length s - at) (drop at s)) places
   pub within : at ≤ length s
   pub lines-few : line ≤ 10 * at + 1
   pub bytes-few : bytes ≤ 300000000 * at
@@ -73,6 +75,10 @@ module _ (v : Verdict) (line i : ℕ) (t : Bool) (r : Refusal) (e : i ≡ indexO
   pub unread-key : t ≡ false → r ≡ refusalAt Key (line + i) → toldSize (Not r) ≡ toldOf v line (refused 42 line 0)
   unread-key h g = ap (λ (x : Refusal). toldSize (Not x)) (g ∙ ap (λ (k : ℕ). refusalAt Key (line + k)) e) ∙ rw (← f, h) at (unread-any v line)
 
+-- ---- a verdict that is known
+pub unjudged : (known : Bool) (h : Name) (ts : List (List ℕ)) → (known ≡ true → groupVerdict h ts ≡ Fine) → known ≡ true → Fine ≡ groupVerdict h ts
+unjudged known h ts f k = sym (f k)
+
 -- ---- general
 bind-none : (x : Told (List Row)) → x ≡ (x >>= λ rs. gives ([] ++ rs))
 bind-none (gives a) = refl
@@ -92,6 +98,12 @@ fine-told : (line : ℕ) (t : Told (List Row)) → toldOf Fine line t ≡ t
 unfolding toldOf
 fine-told line t = refl
 
+right-fine : (v : Verdict) (line : ℕ) (after : Told (List Row)) (done rows : List Row) → gives rows ≡ (toldOf v line after >>= λ rs. gives (done ++ rs)) → v ≡ Fine
+unfolding toldOf
+right-fine Fine line after done rows a = refl
+right-fine (WrongKey k) line after done rows a = not-given (sym a)
+right-fine (Value k) line after done rows a = not-given (sym a)
+
 wrong : (d : Delims) (s x y : List ℕ) (line : ℕ) (after : Told (List Row)) (done : List Row) (r : Passed) (v : Verdict) → isFine v ≡ false
     → rowsIn s ≡ (toldOf v line after >>= λ rs. gives (done ++ rs)) → toldSize r ≡ toldOf v line (refused 42 line 0) → Pass d s x r y
 unfolding isFine toldOf
@@ -102,12 +114,15 @@ wrong d s x y line after done r (Value k) q a b = record { told = b ∙ rw a; wr
 pub index-low : (v : Verdict) (h : Name) (ts : List (List ℕ)) → v ≡ groupVerdict h ts → indexOf v ≤ 10
 index-low v h ts e = rw e (group-index h ts)
 
-pub begins : (d : Delims) (s out : List ℕ) → length s ≤ 65536 → Passing d s out Other 0 1 0 0 0 0 out
+pub begins : (d : Delims) (s : List ℕ) (known : Bool) (out places : List ℕ) → (length s ≤ 65536) × (known ≡ true → Right s) → Cut 10 s places
+    → Passing d s known out Other 0 1 0 0 0 0 places out
 unfolding rowOf specimensIn resultsIn over
-begins d s out h = record {
+begins d s known out places h cut = record {
   rows = [];
   vs = [];
-  small = h;
+  small = h .0;
+  right = h .1;
+  cut = rw (rest-is s 0) cut;
   within = omega arith;
   lines-few = omega arith;
   bytes-few = omega arith;
@@ -123,8 +138,8 @@ begins d s out h = record {
   wrote = λ room. rw (message-none d) refl;
 }
 
-module _ {d : Delims} {s out₀ : List ℕ} {g : Name} {at line bytes segments specimens results : ℕ} {out : List ℕ}
-    (inv : Passing d s out₀ g at line bytes segments specimens results out) where
+module _ {d : Delims} {s : List ℕ} {known : Bool} {out₀ : List ℕ} {g : Name} {at line bytes segments specimens results : ℕ} {places out : List ℕ}
+    (inv : Passing d s known out₀ g at line bytes segments specimens results places out) where
   abbrev rest : List ℕ
   rest = take (length s - at) (drop at s)
 
@@ -140,32 +155,36 @@ module _ {d : Delims} {s out₀ : List ℕ} {g : Name} {at line bytes segments s
   pub rest-low : length rest ≤ 65536
   rest-low = rest-shorter s at 65536 (inv .small)
 
+  -- a line is left
+  line-left : {q : Bool} → ((t : List ℕ) → Cut 10 t places → q ≡ filled (linesOf t)) → q ≡ filled ts
+  line-left there = there rest (inv .cut) ∙ ap filled lines-same
+
   -- ---- the place behind n lines
-  module _ {places : List ℕ} (cut : Cut 10 rest places) {n : ℕ} (low : n ≤ 10) where
+  module _ {n : ℕ} (low : n ≤ 10) where
     pub ahead : at + getD places n 0 ≤ length s
-    ahead = rest-within s at (getD places n 0) (inv .within) (cut .within n low)
+    ahead = rest-within s at (getD places n 0) (inv .within) (inv .cut .within n low)
 
     on : linesOf (drop (at + getD places n 0) s) ≡ drop n ts
-    on = ap linesOf (sym (drop-drop (getD places n 0) at s)) ∙ ap (λ (l : List ℕ). linesOf (drop (getD places n 0) l)) (sym (rest-is s at)) ∙ cut .from n low
+    on = ap linesOf (sym (drop-drop (getD places n 0) at s)) ∙ ap (λ (l : List ℕ). linesOf (drop (getD places n 0) l)) (sym (rest-is s at)) ∙ inv .cut .from n low
         ∙ ap (λ (l : List (List ℕ)). drop n l) lines-same
 
   -- ---- a line more, and the group that it begins
-  module _ {q : Bool} (there : q ≡ filled ts) (yes : q ≡ true) {h : Name} (next : (h ≡ nextGroup g (nth (linesOf rest) 0)) × (1 ≤ length (lines h))) where
+  module _ {q : Bool} (there : (t : List ℕ) → Cut 10 t places → q ≡ filled (linesOf t)) (yes : q ≡ true) {h : Name} (next : (h ≡ nextGroup g (nth (linesOf rest) 0)) × (1 ≤ length (lines h))) where
     some : 0 < length ts
-    some = zeroCases (length ts) (λ z. never (sym yes ∙ there ∙ ap not (empty-zero ts z))) (λ k e. omega arith)
+    some = zeroCases (length ts) (λ z. never (sym yes ∙ line-left there ∙ ap not (empty-zero ts z))) (λ k e. omega arith)
 
-    module _ {places : List ℕ} (cut : Cut 10 rest places) {n : ℕ} (count : (n ≡ length (lines h)) × (n ≤ 10)) where
+    module _ {n : ℕ} (count : (n ≡ length (lines h)) × (n ≤ 10)) where
       forward : 1 ≤ getD places n 0
       forward = zeroCases (getD places n 0) (λ z. absurd (stuck z)) (λ k e. omega arith)
         where
           stuck : getD places n 0 ≡ 0 → ⊥
           stuck z =
               let a : at + getD places n 0 ≡ at = omega arith in
-              let e : length ts ≡ length ts - n = ap (λ (k : ℕ). length (linesOf (drop k s))) (sym a) ∙ ap length (on cut (count .1)) ∙ length-drop n ts in
+              let e : length ts ≡ length ts - n = ap (λ (k : ℕ). length (linesOf (drop k s))) (sym a) ∙ ap length (on (count .1)) ∙ length-drop n ts in
               omega (arith, some, next .1, count .0)
 
       pub nearer : length s - (at + getD places n 0) < length s - at
-      nearer = omega (arith, forward, ahead cut (count .1))
+      nearer = omega (arith, forward, ahead (count .1))
 
     -- ---- the verdict on its lines
     module _ {v : Verdict} (says : v ≡ groupVerdict h (linesOf rest)) where
@@ -191,7 +210,7 @@ module _ {d : Delims} {s out₀ : List ℕ} {g : Name} {at line bytes segments s
       unread-told {f} e n {r} t {y} = wrong d s out₀ y line after done r v (sym e ∙ not-true f n) told-on t
 
       -- ---- its lines are right
-      module _ {places : List ℕ} (cut : Cut 10 rest places) {n : ℕ} (count : (n ≡ length (lines h)) × (n ≤ 10)) where
+      module _ {n : ℕ} (count : (n ≡ length (lines h)) × (n ≤ 10)) where
         abbrev ws : List (List ℕ)
         ws = groupValues h ts
 
@@ -201,10 +220,11 @@ module _ {d : Delims} {s out₀ : List ℕ} {g : Name} {at line bytes segments s
         pub goes : {f : Bool} → f ≡ isFine v → not f ≡ false
             → {r u a b : ℕ} {y : List ℕ} → Added bytes out text r y × (r ≤ bytes + 300000000) → (u ≡ segmentsOf h) × (u ≤ 2)
             → (a ≡ specimensWith specimens h) × (a ≤ specimens + 1) → (b ≡ resultsWith results h) × (b ≤ results + 1)
-            → Passing d s out₀ h (at + getD places n 0) (line + n) r (segments + u) a b y
+            → {next-places : List ℕ} → Cut 10 (take (length s - (at + getD places n 0)) (drop (at + getD places n 0) s)) next-places
+            → Passing d s known out₀ h (at + getD places n 0) (line + n) r (segments + u) a b next-places y
         unfolding groupText
-        goes {f} e q {r} {u} {a} {b} {y} w us ss rs =
-            let p = forward cut count in
+        goes {f} e q {r} {u} {a} {b} {y} w us ss rs {next-places} next-cut =
+            let p = forward count in
             let fine : v ≡ Fine = fine-only v (sym e ∙ not-false f q) in
             let same-text : text ≡ rowsText d (specimensIn 0 done) (resultsIn 0 done) (rowOf h ws)
             = ap (λ (l : List (List ℕ)). groupText d specimens results h l) lines-same ∙ rw (inv .specimens-are, inv .results-are) in
@@ -216,7 +236,9 @@ module _ {d : Delims} {s out₀ : List ℕ} {g : Name} {at line bytes segments s
               rows = done;
               vs = ws;
               small = inv .small;
-              within = ahead cut (count .1);
+              right = inv .right;
+              cut = next-cut;
+              within = ahead (count .1);
               lines-few = omega (arith, inv .lines-few, count .1);
               bytes-few = omega (arith, inv .bytes-few, w .1);
               segments-few = omega (arith, inv .segments-few, us .1);
@@ -235,12 +257,16 @@ module _ {d : Delims} {s out₀ : List ℕ} {g : Name} {at line bytes segments s
             }
           where
             told-fine : v ≡ Fine → toldOf v line after ≡ rowsTold h [] ws (line + n) (linesOf (drop (at + getD places n 0) s))
-            told-fine i = ap (λ (x : Verdict). toldOf x line after) i ∙ fine-told line after ∙ rw (on cut (count .1), count .0)
+            told-fine i = ap (λ (x : Verdict). toldOf x line after) i ∙ fine-told line after ∙ rw (on (count .1), count .0)
+
+    -- ---- a sheet that is known to be right has only right lines
+    pub known-fine : known ≡ true → groupVerdict h (linesOf rest) ≡ Fine
+    known-fine k = right-fine (groupVerdict h (linesOf rest)) line _ done (inv .right k .rows) (sym (inv .right k .told) ∙ told-on refl)
 
   -- ---- no line more
-  module _ {q : Bool} (there : q ≡ filled ts) (last : q ≡ false) where
+  module _ {q : Bool} (there : (t : List ℕ) → Cut 10 t places → q ≡ filled (linesOf t)) (last : q ≡ false) where
     over-all : ts ≡ []
-    over-all = empty-is ts (not-false (empty ts) (sym there ∙ last))
+    over-all = empty-is ts (not-false (empty ts) (sym (line-left there) ∙ last))
 
     told-last : rowsIn s ≡ (cond (is g Obx) (gives (rowOf g (inv .vs))) (refused 42 line 0) >>= λ rs. gives (inv .rows ++ rs))
     unfolding rowsTold

@@ -75,7 +75,7 @@ pub record Added (at : ℕ) (x b : List ℕ) (r : ℕ) (y : List ℕ) : Type 0 w
   pub same : length y ≡ length x
   pub is : r ≤ length x → y ≡ overAt at b x
 
--- how many bytes and segments the rows of a sheet make, or its refusal
+-- what a pass answers
 abbrev pub toldSize : Passed → Told Size
 toldSize (All n) = gives n
 toldSize (Not r) = refusal r
@@ -89,7 +89,16 @@ sizeOf d rows = record { bytes = length (messageOf d rows); segments = length (w
 abbrev pub rowsIn : List ℕ → Told (List Row)
 rowsIn s = rowsTold Other [] [] 1 (linesOf s)
 
+-- how many bytes and segments the message of the sheet s has, or its refusal
+abbrev pub sizeTold : Delims → List ℕ → Told Size
+sizeTold d s = rowsIn s >>= λ rows. gives (sizeOf d rows)
+
+-- the sheet s has no fault
+pub record Right (s : List ℕ) : Type 0 where
+  pub rows : List Row
+  pub told : rowsIn s ≡ gives rows
+
 -- a pass over the sheet s: what it tells, and that where there is room for the message, it is written
 pub record Pass (d : Delims) (s x : List ℕ) (r : Passed) (y : List ℕ) : Type 0 where
-  pub told : toldSize r ≡ (rowsIn s >>= λ rows. gives (sizeOf d rows))
+  pub told : toldSize r ≡ sizeTold d s
   pub wrote : (rows : List Row) → rowsIn s ≡ gives rows → length (messageOf d rows) ≤ length x → y ≡ over (messageOf d rows) x

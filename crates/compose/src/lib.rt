@@ -1,19 +1,20 @@
-// Sheet to message. One pass over the sheet's groups judges them, measures the message and writes it, each group into what remains of
-// the lent buffer.
+// Sheet to message. A pass over the sheet's groups judges them, unless they are known to be right, measures the message, and writes each group
+// into what remains of the lent buffer, as far as there is room.
 use lines::Verdict;
 use rules::Delims;
 use rules::Kind;
 use rules::Name;
 use rules::Refusal;
 ghost use mathlib.Core.Path.{_≡_};
+ghost use mathlib.Core.Bool.{true};
 ghost use Prim.Native.Nat.{_+_, _≤_};
 ghost use lib.ListN.{length};
 ghost use Rattle.rules.specs.Told as Told;
 ghost use Rattle.rules.specs.Sheet.{linesOf};
 ghost use Rattle.rules.specs.Frame.{is};
 ghost use Rattle.writer.specs.Over.{Fit};
-ghost use Rattle.lines.specs.Lines.{toldOf, indexOf, Cut};
-ghost use Rattle.compose.specs.Compose.{Named, groupText, specimenText, resultText, specimensWith, resultsWith, segmentsOf, isValue, Added, toldSize, refusalAt, Pass};
+ghost use Rattle.lines.specs.Lines.{toldOf, indexOf, groupVerdict, Cut};
+ghost use Rattle.compose.specs.Compose.{Named, groupText, specimenText, resultText, specimensWith, resultsWith, segmentsOf, isValue, Added, toldSize, refusalAt, Right, Pass};
 
 // ---- the groups written, each where there is room, from the places of its lines; the reader compares with the same names
 
@@ -396,9 +397,20 @@ fn unread(v: Verdict, line: usize) -> Passed
     Passed::Not(refused(Kind::Key, at))
 }
 
-// One pass: a buffer too short for the message is left in any state, and one with room has the message over its front.
-pub fn pass(out: &mut [u8], sheet: &[u8], d: Delims) -> Passed
-    requires { ⌜ length (now sheet) ≤ 65536 ⌝ }
+// The verdict on a group; no group of a sheet that is known to be right is judged again.
+fn verdict(known: bool, name: Name, s: &[u8], places: &[usize; 11]) -> Verdict
+    requires { ⌜ Cut 10 (now s) (now places) × (known ≡ true → groupVerdict name (linesOf (now s)) ≡ Verdict.Fine) ⌝ }
+    ensures { λ r. ⌜ r ≡ groupVerdict name (linesOf (now (s .entry))) ⌝ }
+{
+    if known {
+        return Verdict::Fine;
+    }
+    lines::group(name, s, places)
+}
+
+// A pass over the groups of a sheet. A buffer too short for the message is left in any state, and one with room has the message over its front.
+pub fn pass(out: &mut [u8], sheet: &[u8], d: Delims, known: bool) -> Passed
+    requires { ⌜ (length (now sheet) ≤ 65536) × (known ≡ true → Right (now sheet)) ⌝ }
     ensures { λ r. ⌜ Pass d (now (sheet .entry)) (now (out .entry)) r (now (out .exit)) ⌝ }
 {
     let mut group = Name::Other;
@@ -408,11 +420,11 @@ pub fn pass(out: &mut [u8], sheet: &[u8], d: Delims) -> Passed
     let mut segments = 0;
     let mut specimens = 0;
     let mut results = 0;
-    while lines::has_line(sheet, at) {
+    let mut places = lines::cut(sheet);
+    while lines::has_line(&places) {
         let rest = &sheet[at..];
-        let next = lines::next_group(group, rest);
-        let places = lines::cut(rest);
-        let v = lines::group(next, rest, &places);
+        let next = lines::next_group(group, rest, &places);
+        let v = verdict(known, next, rest, &places);
         if !lines::fine(v) {
             return unread(v, line);
         }
@@ -424,6 +436,7 @@ pub fn pass(out: &mut [u8], sheet: &[u8], d: Delims) -> Passed
         line += n;
         at += places[n];
         group = next;
+        places = lines::cut(&sheet[at..]);
     }
     if !is_result(group) {
         return Passed::Not(refused(Kind::Key, line));

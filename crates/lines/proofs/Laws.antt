@@ -87,26 +87,6 @@ module _ (s : List ℕ) (at n : ℕ) (e : n ≡ length (until (is 0x0A) (take (l
   unfolding behind
   behind-some h = rw (found-some h) (let z : length (take n (drop at s)) ≡ n = simp (length-take) (omega (arith, size)) in omega (arith, z))
 
-  pub none-there : n ≡ length (take (length s - at) (drop at s)) → not (eqb n (length (take (length s - at) (drop at s)))) ≡ filled (linesOf (drop at s))
-  unfolding empty
-  none-there h = rw (found-none h, eq-eqb n (length (take (length s - at) (drop at s))) h)
-
-  pub some-there : (n ≡ length (take (length s - at) (drop at s)) → ⊥) → not (eqb n (length (take (length s - at) (drop at s)))) ≡ filled (linesOf (drop at s))
-  unfolding empty
-  some-there h = rw (found-some h, ne-eqb n (length (take (length s - at) (drop at s))) h)
-
-  -- a test of a loop
-  pub line-there : not (eqb n (length (take (length s - at) (drop at s)))) ≡ filled (linesOf (drop at s))
-  line-there = cases (eqb n (length (take (length s - at) (drop at s)))) (λ q. none-there (eqb-true n _ q)) (λ q. some-there (λ h. never (sym (eq-eqb n _ h) ∙ q)))
-
--- the first line
-module _ (s : List ℕ) (n : ℕ) (e : n ≡ length (until (is 0x0A) s)) where
-  pub first-none : n ≡ length s → take (length s - n) (drop n s) ≡ nth (linesOf s) 0
-  first-none h = rw (none s (sym e ∙ h)) (rest-is s n ∙ over s n (omega arith))
-
-  pub first-some : n ≤ length s → (n ≡ length s → ⊥) → take n s ≡ nth (linesOf s) 0
-  first-some w h = rw (some s (omega (arith, e)), ← e)
-
 -- ---- the places of a group's lines
 -- none found yet
 pub cut-start : (s at : List ℕ) → length at ≡ 11 → getD at 0 0 ≡ 0 → Cut 0 s at
@@ -170,6 +150,15 @@ cut-place s at i c = c .within i (omega arith)
 
 pub cut-ends : (s at : List ℕ) (i : ℕ) → Cut i s at → i ≤ 10 → 10 ≤ i → Cut 10 s at
 cut-ends s at i c h g = let z : i ≡ 10 = omega arith in subst (λ (m : ℕ). Cut m s at) z c
+
+-- the place behind a first line is not the start
+behind-zero : (ls : List (List ℕ)) (p : ℕ) → p ≡ behind ls 0 → not (eqb p 0) ≡ filled ls
+unfolding behind empty
+behind-zero [] p e = rw (eq-eqb p 0 e)
+behind-zero (l ∷ ls) p e = rw (ne-eqb p 0 (λ z. omega arith))
+
+pub places-line : (at s : List ℕ) → Cut 10 s at → not (eqb (getD at 1 0) 0) ≡ filled (linesOf s)
+places-line at s c = behind-zero (linesOf s) (getD at 1 0) (c .next 0 (omega arith) ∙ ap (behind (linesOf s)) (c .start))
 
 -- the k-th line, between its place and its 0A
 module _ (s at : List ℕ) (k : ℕ) (c : Cut 10 s at) (h : k < 10) where

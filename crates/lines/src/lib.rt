@@ -7,7 +7,8 @@ use value::Rule;
 use value::table;
 ghost use mathlib.Core.Path.{_≡_};
 ghost use mathlib.Core.Bool.{_&&_};
-ghost use Prim.Native.Nat.{_+_, _≤_, _<_};
+ghost use mathlib.Core.List.{List};
+ghost use Prim.Native.Nat.{ℕ, _+_, _≤_, _<_};
 ghost use lib.ListN.{length, drop};
 ghost use Rattle.rules.specs.Lists.{nth, empty, filled};
 ghost use Rattle.rules.specs.Lists as Lists;
@@ -76,25 +77,11 @@ pub fn cut(s: &[u8]) -> [usize; 11]
     at
 }
 
-// Whether a line stands at a place.
-pub fn has_line(s: &[u8], at: usize) -> bool
-    requires { ⌜ at ≤ length (now s) ⌝ }
-    ensures { λ r. ⌜ r ≡ filled (linesOf (drop at (now (s .entry)))) ⌝ }
+// Whether a text whose lines have these places has a line.
+pub fn has_line(at: &[usize; 11]) -> bool
+    ensures { λ r. ⌜ ((s : List ℕ) → Cut 10 s (now (at .entry)) → r ≡ filled (linesOf s)) ⌝ }
 {
-    let rest = &s[at..];
-    let n = value::before(rest, 0x0A);
-    n != rest.len()
-}
-
-// The first line; empty where there is none.
-fn first_line(s: &[u8]) -> &[u8]
-    ensures { λ r. ⌜ now r ≡ nth (linesOf (now (s .entry))) 0 ⌝ }
-{
-    let n = value::before(s, 0x0A);
-    if n == s.len() {
-        return &s[n..];
-    }
-    &s[..n]
+    at[1] != 0
 }
 
 // The k-th line of a group, from 0; empty where there are fewer.
@@ -341,7 +328,8 @@ pub fn group(name: Name, s: &[u8], at: &[usize; 11]) -> Verdict
 
 // ---- what comes next
 
-pub fn next_group(name: Name, s: &[u8]) -> Name
+pub fn next_group(name: Name, s: &[u8], at: &[usize; 11]) -> Name
+    requires { ⌜ Cut 10 (now s) (now at) ⌝ }
     ensures { λ r. ⌜ (r ≡ nextGroup name (nth (linesOf (now (s .entry))) 0)) × (1 ≤ length (lines r)) ⌝ }
 {
     match name {
@@ -352,7 +340,7 @@ pub fn next_group(name: Name, s: &[u8]) -> Name
         Name::Spm => Name::Obr,
         Name::Obr => Name::Obx,
         Name::Orc => Name::Obx,
-        Name::Obx => after_result(first_line(s)),
+        Name::Obx => after_result(line_at(s, at, 0)),
     }
 }
 

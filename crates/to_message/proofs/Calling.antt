@@ -6,83 +6,68 @@ use Prim.Native.Nat.{ℕ, suc, _-_, _≤_, _<_}
 use native.Mathlib.Omega.{arith}
 use borrow.Author.Tests.{lt-ltb, le-ltb, ltb-false}
 use lib.Dec.{eqb, ltb}
-use lib.ListN.{length, take, getD}
-use lib.Seq.{length-take-le}
+use lib.ListN.{length, getD}
 use Rattle.rules.specs.declared.Delims.{Delims}
 use Rattle.rules.specs.declared.Kind.the-variants.{SheetTooLong, SheetBytes, Overflow, Room}
 use Rattle.rules.specs.declared.Refusal.{Refusal}
 use Rattle.rules.specs.declared.Written.{Written}
 use Rattle.rules.specs.declared.Written.the-variants.{Wrote, NotWritten}
-use Rattle.rules.specs.Told.{Told, gives, refused, refusal, over, toldLength, lengthOf, Call, _>>=_}
+use Rattle.rules.specs.Told.{Told, gives, refused, refusal, over, toldLength, lengthOf, Call}
 use Rattle.rules.specs.Lists.{empty, split, onto, last}
 use Rattle.rules.specs.Shift.{keeps}
 use Rattle.rules.specs.Row.{Row}
 use Rattle.rules.specs.Sheet.{readSheet}
 use Rattle.rules.specs.Message.{base, written, messageOf, messageTold, toMessage}
-use Rattle.rules.proofs.Logic.{cases, not-true, not-false, not-given, neither, toldCases, guard, called-as}
+use Rattle.rules.proofs.Logic.{cases, not-true, not-false, not-given, toldCases, guard, called-as}
 use Rattle.rules.proofs.Split.{split-here, split-there, split-cons, front, later, last-split}
 use Rattle.writer.specs.Over as Over
-use Rattle.writer.proofs.Laws.{front as begins}
 use Rattle.compose.specs.declared.Size.{Size}
 use Rattle.compose.specs.declared.Passed.{Passed}
 use Rattle.compose.specs.declared.Passed.the-variants.{All, Not}
-use Rattle.compose.specs.Compose.{refusalAt, sizeOf, rowsIn, Pass}
-use Rattle.to_message.specs.Call.{madeTold}
+use Rattle.compose.specs.Compose.{toldSize, refusalAt, sizeOf, rowsIn, sizeTold, Right, Pass}
+use Rattle.to_message.specs.Call.{composedTold}
 
 -- a refusal leaves the buffer as it was
 kept : (x : List ℕ) (k : Refusal) → Call (refusal k) x (NotWritten k) x
 kept x k = record { told = refl; buffer = refl }
 
--- ---- 44, 45, and the message of this size that was made
-module _ (size : Size) (made : List ℕ) (h : (ltb 32768 (size .bytes) || ltb 512 (size .segments)) ≡ false) (m : length made ≡ 32768) where
-  pub made-length : size .bytes ≡ length (take (size .bytes) made)
-  made-length = sym (length-take-le (size .bytes) made (omega (arith, ltb-false 32768 (size .bytes) (neither _ _ h .0))))
+-- ---- 44, 45, and the message, where the sheet s gives one of this size
+module _ (d : Delims) (s : List ℕ) (size : Size) (g : gives size ≡ sizeTold d s) where
+  -- its rows
+  measured : {P : Type 0} → ((rows : List Row) → rowsIn s ≡ gives rows → size ≡ sizeOf d rows → P) → P
+  measured f = toldCases (rowsIn s) (λ rows e. f rows e (cc (rw e at g))) (λ n a b e. not-given (sym (rw e at g)))
 
-  pub lent-room : (x : List ℕ) → size .bytes ≤ length x → length (take (size .bytes) made) ≤ length x
-  lent-room x l = rw (← made-length) l
+  pub measured-right : Right s
+  measured-right = measured (λ rows e z. record { rows = rows; told = e })
 
-  pub write-all : (x : List ℕ) → size .bytes ≤ length x → (n : ℕ) (y : List ℕ) → Over.Wrote n y (take (size .bytes) made) x
-      → Call (madeTold size made (length x)) x (Wrote (size .bytes)) y
-  unfolding madeTold Over.over
-  write-all x l n y p =
-      called-as {u = gives (take (size .bytes) made)} (rw (h, le-ltb (length x) (size .bytes) l)) (record { told = ap gives made-length; buffer = p .is })
+  module _ (x : List ℕ) where
+    module _ (k : Refusal) where
+      pub write-44 : (ltb 32768 (size .bytes) || ltb 512 (size .segments)) ≡ true → k ≡ refusalAt Overflow 0 → Call (composedTold d s (length x)) x (NotWritten k) x
+      unfolding composedTold messageTold
+      write-44 h f = measured (λ rows e z. called-as {u = refusal k} (rw (e, rw z at h) (ap refusal (sym f))) (kept x k))
 
-module _ (size : Size) (made x : List ℕ) (k : Refusal) where
-  pub write-44 : (ltb 32768 (size .bytes) || ltb 512 (size .segments)) ≡ true → k ≡ refusalAt Overflow 0 → Call (madeTold size made (length x)) x (NotWritten k) x
-  unfolding madeTold
-  write-44 h f = called-as {u = refusal k} (rw h (ap refusal (sym f))) (kept x k)
+    module _ (h : (ltb 32768 (size .bytes) || ltb 512 (size .segments)) ≡ false) where
+      pub write-45 : (k : Refusal) → length x < size .bytes → k ≡ refusalAt Room 0 → Call (composedTold d s (length x)) x (NotWritten k) x
+      unfolding composedTold messageTold
+      write-45 k l f = measured (λ rows e z. called-as {u = refusal k} (rw (e, rw z at h, lt-ltb (length x) _ (rw z at l)) (ap refusal (sym f))) (kept x k))
 
-  pub write-45 : (ltb 32768 (size .bytes) || ltb 512 (size .segments)) ≡ false → length x < size .bytes → k ≡ refusalAt Room 0
-      → Call (madeTold size made (length x)) x (NotWritten k) x
-  unfolding madeTold
-  write-45 h l f = called-as {u = refusal k} (rw (h, lt-ltb (length x) (size .bytes) l) (ap refusal (sym f))) (kept x k)
+      pub write-all : size .bytes ≤ length x → (p : Passed) (y : List ℕ) → Pass d s x p y → Call (composedTold d s (length x)) x (Wrote (size .bytes)) y
+      unfolding composedTold messageTold Over.over
+      write-all l p y t =
+          measured (λ rows e z. called-as {u = gives (messageOf d rows)} (rw (e, rw z at h, le-ltb (length x) _ (rw z at l)))
+          (record { told = ap (λ (v : Size). gives (v .bytes)) z; buffer = t .wrote rows e (rw z at l) }))
 
--- ---- the pass over the sheet's groups: p is what it tells, and made what it leaves of the room z
-made-is : (d : Delims) (rows : List Row) (z made : List ℕ) (room : ℕ) → length z ≡ 32768 → (length (messageOf d rows) ≤ length z → made ≡ Over.over (messageOf d rows) z)
-    → messageTold d rows room ≡ madeTold (sizeOf d rows) made room
-unfolding messageTold madeTold
-made-is d rows z made room m w =
-    cases (ltb 32768 (length (messageOf d rows)) || ltb 512 (length (written d rows)))
-    (λ e. rw e)
-    (λ e. let l : length (messageOf d rows) ≤ length z = omega (arith, ltb-false 32768 (length (messageOf d rows)) (neither _ _ e .0)) in
-    let p : Over.Wrote (length (messageOf d rows)) made (messageOf d rows) z = record { ends = refl; is = w l } in
-    rw (e, begins p))
+-- ---- the first pass over the sheet's groups: p is what it tells
+module _ (d : Delims) (s z : List ℕ) (p : Passed) (y : List ℕ) (t : Pass d s z p y) where
+  pub pass-all : (size : Size) → p ≡ All size → gives size ≡ sizeTold d s
+  pass-all size f = sym (ap toldSize f) ∙ t .told
 
-module _ (d : Delims) (s z : List ℕ) (p : Passed) (made : List ℕ) (t : Pass d s z p made) (room : ℕ) where
-  pass-refused : (k : Refusal) → p ≡ Not k → (rowsIn s >>= λ rows. messageTold d rows room) ≡ refusal k
-  pass-refused k f = toldCases (rowsIn s) (λ rows e. not-given (rw (f, e) at (t .told))) (λ n a b e. rw e (same n a b (rw (f, e) at (t .told))))
+  pass-refused : (room : ℕ) (k : Refusal) → p ≡ Not k → composedTold d s room ≡ refusal k
+  unfolding composedTold
+  pass-refused room k f = toldCases (rowsIn s) (λ rows e. not-given (rw (f, e) at (t .told))) (λ n a b e. rw e (same n a b (rw (f, e) at (t .told))))
     where
       same : (n a b : ℕ) → _≡_ {A = Told Size} (refusal k) (refused n a b) → _≡_ {A = Told (List ℕ)} (refused n a b) (refusal k)
       same n a b h = cc
-
-  pass-all : (size : Size) → p ≡ All size → length z ≡ 32768 → (rowsIn s >>= λ rows. messageTold d rows room) ≡ madeTold size made room
-  pass-all size f m =
-      toldCases (rowsIn s)
-      (λ rows e. rw (e, same rows (rw (f, e) at (t .told))) (made-is d rows z made room m (t .wrote rows e)))
-      (λ n a b e. not-given (sym (rw (f, e) at (t .told))))
-    where
-      same : (rows : List Row) → gives size ≡ gives (sizeOf d rows) → size ≡ sizeOf d rows
-      same rows h = cc
 
 -- ---- what is written has room
 has-room : (d : Delims) (rows : List Row) (room : ℕ) (m : List ℕ) → messageTold d rows room ≡ gives m → length m ≤ room
@@ -128,16 +113,13 @@ module _ (s : List ℕ) (room : ℕ) where
       unfolding toMessage readSheet
       call-41-end k w f = rw (le-ltb 65536 (length s) l, ← e, not-false q h, ← g, not-true u w) (ap refusal (sym f))
 
-      module _ (w : not u ≡ false) (d : Delims) (b : d ≡ base) (z : List ℕ) (p : Passed) (made : List ℕ) (t : Pass d s z p made) where
-        call-on : toMessage s room ≡ (rowsIn s >>= λ rows. messageTold d rows room)
-        unfolding toMessage readSheet
-        call-on = rw (le-ltb 65536 (length s) l, ← e, not-false q h, ← g, not-false u w, b)
+      module _ (w : not u ≡ false) (d : Delims) (b : d ≡ base) where
+        pub call-all : toMessage s room ≡ composedTold d s room
+        unfolding toMessage readSheet composedTold
+        call-all = rw (le-ltb 65536 (length s) l, ← e, not-false q h, ← g, not-false u w, b)
 
-        pub call-refused : (k : Refusal) → p ≡ Not k → toMessage s room ≡ refusal k
-        call-refused k f = call-on ∙ pass-refused d s z p made t room k f
-
-        pub call-all : (size : Size) → p ≡ All size → length z ≡ 32768 → toMessage s room ≡ madeTold size made room
-        call-all size f m = call-on ∙ pass-all d s z p made t room size f m
+        pub call-refused : (z : List ℕ) (p : Passed) (y : List ℕ) → Pass d s z p y → (k : Refusal) → p ≡ Not k → toMessage s room ≡ refusal k
+        call-refused z p y t k f = call-all ∙ pass-refused d s z p y t room k f
 
 -- ---- the end of a sheet
 last-more : (x y : ℕ) (p q : List ℕ) (ps : List (List ℕ)) → empty (last ((x ∷ p) ∷ ps)) ≡ empty (last ((y ∷ q) ∷ ps))

@@ -1,5 +1,5 @@
-// A sheet turned into a message. One pass over the sheet's groups judges them and makes the message in a room of its own; the lent
-// buffer is written only once it is known that there is room.
+// A sheet turned into a message. The first pass over the sheet's groups has nothing to write into: it judges them and measures the message.
+// The second writes each segment into what remains of the lent buffer, once it is known that there is room.
 use compose::Passed;
 use compose::Size;
 use rules::Delims;
@@ -8,10 +8,11 @@ use rules::Written;
 ghost use mathlib.Core.Path.{_≡_};
 ghost use Prim.Native.Nat.{ℕ, _≤_};
 ghost use lib.ListN.{length};
-ghost use Rattle.rules.specs.Told.{over, toldLength, lengthOf, Call};
+ghost use Rattle.rules.specs.Told.{gives, over, toldLength, lengthOf, Call};
 ghost use Rattle.rules.specs.Lists.{empty, last, split};
 ghost use Rattle.rules.specs.Message.{base, toMessage};
-ghost use Rattle.to_message.specs.Call.{madeTold};
+ghost use Rattle.compose.specs.Compose.{sizeTold};
+ghost use Rattle.to_message.specs.Call.{composedTold};
 
 // Whether a sheet is empty or ends in 0A.
 fn ends(s: &[u8]) -> bool
@@ -37,17 +38,10 @@ fn delimiters() -> Delims
     }
 }
 
-// Room for the longest message.
-fn room() -> [u8; 32768]
-    ensures { λ r. ⌜ length r ≡ 32768 ⌝ }
-{
-    [0; 32768]
-}
-
-// 44, 45, or the message of this size, which stands at the front of the room where it was made.
-fn write(out: &mut [u8], made: &[u8], size: Size) -> Written
-    requires { ⌜ length (now made) ≡ 32768 ⌝ }
-    ensures { λ r. ⌜ Call (madeTold size (now (made .entry)) (length (now (out .entry)))) (now (out .entry)) r (now (out .exit)) ⌝ }
+// 44, 45, or the message of a sheet that was judged and whose message has this size.
+fn write(out: &mut [u8], sheet: &[u8], d: Delims, size: Size) -> Written
+    requires { ⌜ (length (now sheet) ≤ 65536) × (gives size ≡ sizeTold d (now sheet)) ⌝ }
+    ensures { λ r. ⌜ Call (composedTold d (now (sheet .entry)) (length (now (out .entry)))) (now (out .entry)) r (now (out .exit)) ⌝ }
 {
     let bytes = size.bytes;
     let segments = size.segments;
@@ -57,7 +51,7 @@ fn write(out: &mut [u8], made: &[u8], size: Size) -> Written
     if out.len() < bytes {
         return Written::NotWritten(compose::refused(Kind::Room, 0));
     }
-    writer::put(out, &made[..bytes]);
+    compose::pass(out, sheet, d, true);
     Written::Wrote(bytes)
 }
 
@@ -77,9 +71,9 @@ pub fn to_message(sheet: &[u8], out: &mut [u8]) -> Written
         return Written::NotWritten(compose::refused(Kind::SheetBytes, 0));
     }
     let d = delimiters();
-    let mut made = room();
-    match compose::pass(&mut made, sheet, d) {
+    let mut nothing = [0u8; 0];
+    match compose::pass(&mut nothing, sheet, d, false) {
         Passed::Not(r) => Written::NotWritten(r),
-        Passed::All(size) => write(out, &made, size),
+        Passed::All(size) => write(out, sheet, d, size),
     }
 }

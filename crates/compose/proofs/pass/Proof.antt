@@ -2,27 +2,30 @@ use borrow.Author.Needs.{needs}
 use native.Mathlib.Omega.{arith}
 use Prim.Native.Nat.{_-_}
 use lib.ListN.{length}
-use Rattle.compose.proofs.Passing.{Passing, begins, index-low, rest-low, ahead, unread-told, nearer, goes, ends-refused, ends-all}
+use Rattle.compose.proofs.Passing.{Passing, begins, index-low, rest-low, ahead, known-fine, unread-told, nearer, goes, ends-refused, ends-all}
 use Rattle.compose.proofs.pass.Statement.{statement}
 use Rattle.compose.proofs.pass.Tie as tie
 
 abbrev Inv-loop : tie.InvT-loop
-Inv-loop out₀ sheet d group₀ at₀ line₀ bytes₀ segments₀ specimens₀ results₀ out group at line bytes segments specimens results =
-    Passing d sheet out₀ group at line bytes segments specimens results out
+Inv-loop out₀ sheet d known group₀ at₀ line₀ bytes₀ segments₀ specimens₀ results₀ places₀ out group at line bytes segments specimens results places =
+    Passing d sheet known out₀ group at line bytes segments specimens results places out
 
 abbrev μ-loop : tie.MeasureT-loop
-μ-loop out₀ sheet d group₀ at₀ line₀ bytes₀ segments₀ specimens₀ results₀ out group at line bytes segments specimens results =
+μ-loop out₀ sheet d known group₀ at₀ line₀ bytes₀ segments₀ specimens₀ results₀ places₀ out group at line bytes segments specimens results places =
     length sheet - at
 
 -- the turn of a verdict, and the verdict on a group whose segments are counted
 abbrev turn : tie.After-fine Inv-loop μ-loop → tie.At-loop Inv-loop μ-loop
-turn c = c .before .before .before .before .before .before .before .before
+turn c = c .before .before .before .before .before .before .before .before .before
 
 abbrev verdict : tie.After-segments-of Inv-loop μ-loop → tie.After-fine Inv-loop μ-loop
 verdict c = c .before .before .before .before .before .before .before
 
+cut-requires : tie.Need-cut-requires Inv-loop μ-loop
+cut-requires c κs = search needs
+
 loop-holds : tie.Need-loop-holds Inv-loop μ-loop
-loop-holds c = begins _ _ _ (c .before .before .pre)
+loop-holds c = search (begins, needs)
 
 has-line-requires : tie.Need-has-line-requires Inv-loop μ-loop
 has-line-requires c κs = search needs
@@ -39,17 +42,18 @@ part-rest-end c = search needs
 next-group-requires : tie.Need-next-group-requires Inv-loop μ-loop
 next-group-requires c κs = search needs
 
-cut-requires : tie.Need-cut-requires Inv-loop μ-loop
-cut-requires c κs = search needs
-
-group-requires : tie.Need-group-requires Inv-loop μ-loop
-group-requires c κs = search needs
+verdict-requires : tie.Need-verdict-requires Inv-loop μ-loop
+verdict-requires c κs =
+    let next = c .before in
+    let more = next .before .before .before in
+    let kept = more .before .before .before .loop .inv in
+    (kept .cut, known-fine kept (more .before .has-line .ensures) (more .if1 .taken) (next .next-group .ensures))
 
 fine-requires : tie.Need-fine-requires Inv-loop μ-loop
 fine-requires c κs = search needs
 
 unread-requires : tie.Need-unread-requires Inv-loop μ-loop
-unread-requires c κs = (index-low _ _ _ (c .before .before .group .ensures), omega (arith, turn (c .before) .loop .inv))
+unread-requires c κs = (index-low _ _ _ (c .before .before .verdict .ensures), omega (arith, turn (c .before) .loop .inv))
 
 same-length : tie.Need-same-length Inv-loop μ-loop
 same-length c = search needs
@@ -58,14 +62,14 @@ returns : tie.Need-returns Inv-loop μ-loop
 returns c =
     let fine = c .before .before in
     let judged = fine .before in
-    let next = judged .before .before .before in
-    let more = next .before .before in
-    unread-told (turn fine .loop .inv) (more .before .has-line .ensures) (more .if1 .taken) (next .next-group .ensures) (judged .group .ensures) (fine .fine .ensures) (c .before .if2 .taken) (c .unread .ensures)
+    let next = judged .before .before in
+    let more = next .before .before .before in
+    unread-told (turn fine .loop .inv) (more .before .has-line .ensures) (more .if1 .taken) (next .next-group .ensures) (judged .verdict .ensures) (fine .fine .ensures) (c .before .if2 .taken) (c .unread .ensures)
 
 put-next-requires : tie.Need-put-next-requires Inv-loop μ-loop
 put-next-requires c κs =
     let kept = turn (c .before .before .before) .loop .inv in
-    (rest-low kept, c .before .before .before .before .before .before .cut .ensures, omega (arith, kept), omega (arith, kept), omega (arith, kept))
+    (rest-low kept, kept .cut, omega (arith, kept), omega (arith, kept), omega (arith, kept))
 
 segments-of-requires : tie.Need-segments-of-requires Inv-loop μ-loop
 segments-of-requires c κs = search needs
@@ -93,29 +97,40 @@ array-read-at c = search needs
 
 add-at : tie.Need-add-at Inv-loop μ-loop
 add-at c =
-    let fine = verdict (c .before .before .before) in
-    let kept = turn fine .loop .inv in
-    omega (arith, kept .small, ahead kept (fine .before .before .before .cut .ensures) (c .lines-in .ensures .1))
+    let kept = turn (verdict (c .before .before .before)) .loop .inv in
+    omega (arith, kept .small, ahead kept (c .lines-in .ensures .1))
+
+sub-cut : tie.Need-sub-cut Inv-loop μ-loop
+sub-cut c = ahead (turn (verdict (c .before .before .before)) .loop .inv) (c .lines-in .ensures .1)
+
+part-cut-start : tie.Need-part-cut-start Inv-loop μ-loop
+part-cut-start c = ahead (turn (verdict (c .before .before .before)) .loop .inv) (c .lines-in .ensures .1)
+
+part-cut-end : tie.Need-part-cut-end Inv-loop μ-loop
+part-cut-end c = search needs
+
+cut-requires-2 : tie.Need-cut-requires-2 Inv-loop μ-loop
+cut-requires-2 c κs = search needs
 
 loop-less : tie.Need-loop-less Inv-loop μ-loop
 loop-less c =
-    let cut = verdict (c .before .before .before) .before .before .before in
-    let next = cut .before in
-    let more = next .before .before in
-    nearer (more .before .before .loop .inv) (more .before .has-line .ensures) (more .if1 .taken) (next .next-group .ensures) (cut .cut .ensures) (c .lines-in .ensures)
+    let count = c .before .before in
+    let next = verdict (count .before .before .before) .before .before .before in
+    let more = next .before .before .before in
+    nearer (more .before .before .before .loop .inv) (more .before .has-line .ensures) (more .if1 .taken) (next .next-group .ensures) (count .lines-in .ensures)
 
 loop-again : tie.Need-loop-again Inv-loop μ-loop
 loop-again c =
-    let results = c .before in
+    let count = c .before .before in
+    let results = count .before in
     let specimens = results .before in
     let segments = specimens .before in
     let put = segments .before .before .before in
     let fine = verdict segments in
     let judged = fine .before in
-    let cut = judged .before .before in
-    let next = cut .before in
-    let more = next .before .before in
-    goes (turn fine .loop .inv) (more .before .has-line .ensures) (more .if1 .taken) (next .next-group .ensures) (judged .group .ensures) (cut .cut .ensures) (c .lines-in .ensures) (fine .fine .ensures) (put .before .before .before .if2 .left) (put .put-next .ensures) (segments .segments-of .ensures) (specimens .specimens-with .ensures) (results .results-with .ensures)
+    let next = judged .before .before in
+    let more = next .before .before .before in
+    goes (turn fine .loop .inv) (more .before .has-line .ensures) (more .if1 .taken) (next .next-group .ensures) (judged .verdict .ensures) (count .lines-in .ensures) (fine .fine .ensures) (put .before .before .before .if2 .left) (put .put-next .ensures) (segments .segments-of .ensures) (specimens .specimens-with .ensures) (results .results-with .ensures) (c .cut2 .ensures)
 
 is-result-requires : tie.Need-is-result-requires Inv-loop μ-loop
 is-result-requires c κs = search needs
@@ -130,7 +145,7 @@ returns-2 : tie.Need-returns-2 Inv-loop μ-loop
 returns-2 c =
     let ended = c .before .before in
     let line = ended .before .before in
-    ends-refused (line .before .loop .inv) (line .has-line .ensures) (ended .before .if1 .left) (ended .is-result .ensures) (c .before .if3 .taken) (c .refused .ensures)
+    ends-refused (line .before .before .loop .inv) (line .has-line .ensures) (ended .before .if1 .left) (ended .is-result .ensures) (c .before .if3 .taken) (c .refused .ensures)
 
 same-length-3 : tie.Need-same-length-3 Inv-loop μ-loop
 same-length-3 c = search needs
@@ -139,7 +154,7 @@ returns-3 : tie.Need-returns-3 Inv-loop μ-loop
 returns-3 c =
     let ended = c .before in
     let line = ended .before .before in
-    ends-all (line .before .loop .inv) (line .has-line .ensures) (ended .before .if1 .left) (ended .is-result .ensures) (c .if3 .left)
+    ends-all (line .before .before .loop .inv) (line .has-line .ensures) (ended .before .if1 .left) (ended .is-result .ensures) (c .if3 .left)
 
 pub pass-spec : {M : Type 1} → statement M
 pass-spec =
@@ -147,14 +162,14 @@ pass-spec =
     (tie.spec
     Inv-loop
     μ-loop
+    cut-requires
     loop-holds
     has-line-requires
     sub-rest
     part-rest-start
     part-rest-end
     next-group-requires
-    cut-requires
-    group-requires
+    verdict-requires
     fine-requires
     unread-requires
     same-length
@@ -169,6 +184,10 @@ pass-spec =
     mul-at
     array-read-at
     add-at
+    sub-cut
+    part-cut-start
+    part-cut-end
+    cut-requires-2
     loop-less
     loop-again
     is-result-requires

@@ -1,22 +1,13 @@
-use Rattle.lines.proofs.Laws.{line-there}
 use borrow.Author.Needs.{needs}
+use Rattle.lines.proofs.Laws.{places-line}
 use Rattle.lines.proofs.has_line.Statement.{statement}
 use Rattle.lines.proofs.has_line.Tie as tie
 
-sub-rest : tie.Need-sub-rest
-sub-rest c = search needs
-
-part-rest-start : tie.Need-part-rest-start
-part-rest-start c = search needs
-
-part-rest-end : tie.Need-part-rest-end
-part-rest-end c = search needs
-
-before-requires : tie.Need-before-requires
-before-requires c κs = search needs
+element-copy-out-result : tie.Need-element-copy-out-result
+element-copy-out-result c = search needs
 
 returns : tie.Need-returns
-returns c = search (line-there, needs)
+returns c = search (places-line, needs)
 
 pub has-line-spec : {M : Type 1} → statement M
-has-line-spec = tie.close (tie.spec sub-rest part-rest-start part-rest-end before-requires returns)
+has-line-spec = tie.close (tie.spec element-copy-out-result returns)

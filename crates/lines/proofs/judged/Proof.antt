@@ -19,7 +19,7 @@ part-equal-start : tie.Need-part-equal-start
 part-equal-start c = search (key-room, needs)
 
 part-equal-end : tie.Need-part-equal-end
-part-equal-end c = search (key-room, needs)
+part-equal-end c = search needs
 
 slice-aggregate-equal : tie.Need-slice-aggregate-equal
 slice-aggregate-equal c = search needs

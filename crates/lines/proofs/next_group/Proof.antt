@@ -29,8 +29,8 @@ enum-told-7 c = search needs
 enum-told-8 : tie.Need-enum-told-8
 enum-told-8 c = search needs
 
-first-line-requires : tie.Need-first-line-requires
-first-line-requires c κs = search needs
+line-at-requires : tie.Need-line-at-requires
+line-at-requires c κs = search needs
 
 after-result-requires : tie.Need-after-result-requires
 after-result-requires c κs = search needs
@@ -79,7 +79,7 @@ next-group-spec =
     enum-told-6
     enum-told-7
     enum-told-8
-    first-line-requires
+    line-at-requires
     after-result-requires
     returns
     returns-2

@@ -1,5 +1,7 @@
-use Rattle.to_message.proofs.Calling.{call-40, call-41, call-41-end, call-refused, call-all, refuses, answers}
+use Rattle.to_message.proofs.Calling.{call-40, call-41, call-41-end, pass-all, call-refused, call-all, refuses, answers}
+use mathlib.Core.Path.{sym}
 use borrow.Author.Needs.{needs}
+use Rattle.rules.proofs.Logic.{never}
 use Rattle.to_message.proofs.to_message.Statement.{statement}
 use Rattle.to_message.proofs.to_message.Tie as tie
 
@@ -30,14 +32,11 @@ returns-3 c = refuses _ (search (call-41-end, needs))
 delimiters-requires : tie.Need-delimiters-requires
 delimiters-requires c κs = search needs
 
-room-requires : tie.Need-room-requires
-room-requires c κs = search needs
-
 slice-aggregate-pass : tie.Need-slice-aggregate-pass
 slice-aggregate-pass c = search needs
 
 pass-requires : tie.Need-pass-requires
-pass-requires c κs = search needs
+pass-requires c κs = (search needs, λ k. never (sym k))
 
 enum-known-r : tie.Need-enum-known-r
 enum-known-r c = search needs
@@ -45,11 +44,8 @@ enum-known-r c = search needs
 enum-known-size : tie.Need-enum-known-size
 enum-known-size c = search needs
 
-slice-aggregate-write : tie.Need-slice-aggregate-write
-slice-aggregate-write c = search needs
-
 write-requires : tie.Need-write-requires
-write-requires c κs = search needs
+write-requires c κs = search (pass-all, needs)
 
 returns-4 : tie.Need-returns-4
 returns-4 c = refuses _ (search (call-refused, needs))
@@ -73,12 +69,10 @@ to-message-spec =
     refused-requires-3
     returns-3
     delimiters-requires
-    room-requires
     slice-aggregate-pass
     pass-requires
     enum-known-r
     enum-known-size
-    slice-aggregate-write
     write-requires
     returns-4
     same-length

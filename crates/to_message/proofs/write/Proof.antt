@@ -1,4 +1,4 @@
-use Rattle.to_message.proofs.Calling.{write-44, write-45, made-length, lent-room, write-all}
+use Rattle.to_message.proofs.Calling.{measured-right, write-44, write-45, write-all}
 use borrow.Author.Needs.{needs}
 use Rattle.to_message.proofs.write.Statement.{statement}
 use Rattle.to_message.proofs.write.Tie as tie
@@ -15,11 +15,8 @@ refused-requires-2 c κs = search needs
 returns-2 : tie.Need-returns-2
 returns-2 c = search (write-45, needs)
 
-slice-aggregate-put : tie.Need-slice-aggregate-put
-slice-aggregate-put c = search (made-length, needs)
-
-put-requires : tie.Need-put-requires
-put-requires c κs = search (lent-room, needs)
+pass-requires : tie.Need-pass-requires
+pass-requires c κs = search (measured-right, needs)
 
 same-length : tie.Need-same-length
 same-length c = search needs
@@ -35,7 +32,6 @@ write-spec =
     returns
     refused-requires-2
     returns-2
-    slice-aggregate-put
-    put-requires
+    pass-requires
     same-length
     returns-3)
