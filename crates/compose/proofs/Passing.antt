@@ -23,7 +23,7 @@ use Rattle.writer.specs.Over.{over, Wrote, Put}
 use Rattle.writer.proofs.Laws.{then}
 use Rattle.lines.specs.declared.Verdict.{Verdict}
 use Rattle.lines.specs.declared.Verdict.the-variants.{Fine, Key as WrongKey, Value}
-use Rattle.lines.specs.Lines.{Cut, isFine, indexOf, toldOf, verdict, groupVerdict, groupValues, nextGroup}
+use Rattle.lines.specs.Lines.{Cut, HasLine, isFine, indexOf, toldOf, verdict, groupVerdict, groupValues, nextGroup}
 use Rattle.lines.proofs.Groups.{verdict-told, next-told, group-index}
 use Rattle.compose.specs.declared.Size.{Size}
 use Rattle.compose.specs.declared.Passed.{Passed}
@@ -156,7 +156,7 @@ module _ {d : Delims} {s : List ℕ} {known : Bool} {out₀ : List ℕ} {g : Nam
   rest-low = rest-shorter s at 65536 (inv .small)
 
   -- a line is left
-  line-left : {q : Bool} → ((t : List ℕ) → Cut 10 t places → q ≡ filled (linesOf t)) → q ≡ filled ts
+  line-left : {q : Bool} → HasLine q places → q ≡ filled ts
   line-left there = there rest (inv .cut) ∙ ap filled lines-same
 
   -- ---- the place behind n lines
@@ -169,7 +169,7 @@ module _ {d : Delims} {s : List ℕ} {known : Bool} {out₀ : List ℕ} {g : Nam
         ∙ ap (λ (l : List (List ℕ)). drop n l) lines-same
 
   -- ---- a line more, and the group that it begins
-  module _ {q : Bool} (there : (t : List ℕ) → Cut 10 t places → q ≡ filled (linesOf t)) (yes : q ≡ true) {h : Name} (next : (h ≡ nextGroup g (nth (linesOf rest) 0)) × (1 ≤ length (lines h))) where
+  module _ {q : Bool} (there : HasLine q places) (yes : q ≡ true) {h : Name} (next : (h ≡ nextGroup g (nth (linesOf rest) 0)) × (1 ≤ length (lines h))) where
     some : 0 < length ts
     some = zeroCases (length ts) (λ z. never (sym yes ∙ line-left there ∙ ap not (empty-zero ts z))) (λ k e. omega arith)
 
@@ -264,7 +264,7 @@ module _ {d : Delims} {s : List ℕ} {known : Bool} {out₀ : List ℕ} {g : Nam
     known-fine k = right-fine (groupVerdict h (linesOf rest)) line _ done (inv .right k .rows) (sym (inv .right k .told) ∙ told-on refl)
 
   -- ---- no line more
-  module _ {q : Bool} (there : (t : List ℕ) → Cut 10 t places → q ≡ filled (linesOf t)) (last : q ≡ false) where
+  module _ {q : Bool} (there : HasLine q places) (last : q ≡ false) where
     over-all : ts ≡ []
     over-all = empty-is ts (not-false (empty ts) (sym (line-left there) ∙ last))
 

@@ -7,7 +7,7 @@ use lib.ListN.{length, drop, getD}
 use Rattle.rules.specs.declared.Name.{Name}
 use Rattle.rules.specs.declared.Name.the-variants.{Msh, Pid, Pv1, Spm, Obr, Orc, Obx, Other}
 use Rattle.rules.specs.Told.{Told, refused}
-use Rattle.rules.specs.Lists.{bytes, nth, same, starts}
+use Rattle.rules.specs.Lists.{bytes, nth, same, starts, filled}
 use Rattle.rules.specs.Value.{fits}
 use Rattle.rules.specs.Places.{Four}
 use Rattle.rules.specs.Row.{Line, lines}
@@ -30,6 +30,10 @@ pub record Cut (n : ℕ) (s at : List ℕ) : Type 0 where
   pub within : (k : ℕ) → k ≤ n → getD at k 0 ≤ length s
   pub from : (k : ℕ) → k ≤ n → linesOf (drop (getD at k 0) s) ≡ drop k (linesOf s)
   pub next : (k : ℕ) → k < n → getD at (k + 1) 0 ≡ behind (drop k (linesOf s)) (getD at k 0)
+
+-- q says of any text whose lines have these places whether it has a line
+abbrev pub HasLine : Bool → List ℕ → Type 0
+HasLine q at = (s : List ℕ) → Cut 10 s at → q ≡ filled (linesOf s)
 
 -- the first fault counts
 unfoldable pub andThen : Verdict → Verdict → Verdict

@@ -7,10 +7,9 @@ use value::Rule;
 use value::table;
 ghost use mathlib.Core.Path.{_≡_};
 ghost use mathlib.Core.Bool.{_&&_};
-ghost use mathlib.Core.List.{List};
-ghost use Prim.Native.Nat.{ℕ, _+_, _≤_, _<_};
+ghost use Prim.Native.Nat.{_+_, _≤_, _<_};
 ghost use lib.ListN.{length, drop};
-ghost use Rattle.rules.specs.Lists.{nth, empty, filled};
+ghost use Rattle.rules.specs.Lists.{nth};
 ghost use Rattle.rules.specs.Lists as Lists;
 ghost use Rattle.rules.specs.Value.{fits};
 ghost use Rattle.rules.specs.Judge as Judge;
@@ -18,7 +17,7 @@ ghost use Rattle.rules.specs.Row as Row;
 ghost use Rattle.rules.specs.Row.{lines};
 ghost use Rattle.rules.specs.Sheet.{linesOf};
 ghost use Rattle.value.specs.Rules.{ruleOf};
-ghost use Rattle.lines.specs.Lines.{fitsPlace, fourOf, andThen, isFine, lineAs, groupVerdict, nextGroup, behind, Cut};
+ghost use Rattle.lines.specs.Lines.{fitsPlace, fourOf, andThen, isFine, lineAs, groupVerdict, nextGroup, behind, Cut, HasLine};
 
 // On the lines of a group, by their place in it, from 0.
 pub enum Verdict {
@@ -79,7 +78,7 @@ pub fn cut(s: &[u8]) -> [usize; 11]
 
 // Whether a text whose lines have these places has a line.
 pub fn has_line(at: &[usize; 11]) -> bool
-    ensures { λ r. ⌜ ((s : List ℕ) → Cut 10 s (now (at .entry)) → r ≡ filled (linesOf s)) ⌝ }
+    ensures { λ r. ⌜ HasLine r (now (at .entry)) ⌝ }
 {
     at[1] != 0
 }

@@ -160,7 +160,16 @@ keeps-not end s i j k inv r e = sym (inv ∙ r .keeps ∙ rw (not-true k e))
 
 pub keeps-plain : (end : ℕ) (s : List ℕ) (i : ℕ) (t : Bool) → keeps end s ≡ keeps end (drop i s) → i < length s → t ≡ within 0x20 0x7E (getD s i 0) → t ≡ true
     → keeps end s ≡ keeps end (drop (i + 1) s)
-keeps-plain end s i t inv h e y = keeps-on end s i (i + 1) true inv (plain-on end s i h (sym e ∙ y)) refl
+keeps-plain end s i t inv h e y = keeps-on end s i (i + 1) true inv (next-plain end s i t h e y) refl
+
+pub line-ends : (end b : ℕ) → (eqb b end && not (eqb b 0x1B)) ≡ true → step end One b ≡ One
+unfolding step
+line-ends end b y = let q = both (eqb b end) _ y in rw (not-true (eqb b 0x1B) (q .1), q .0)
+
+pub keeps-line : (end : ℕ) (s : List ℕ) (i : ℕ) (t : Bool) → keeps end s ≡ keeps end (drop i s) → i < length s → (t ≡ true → step end One (getD s i 0) ≡ One) → t ≡ true
+    → keeps end s ≡ keeps end (drop (i + 1) s)
+unfolding keeps walk
+keeps-line end s i t inv h f y = inv ∙ ap (λ l. isOne (walk end One l)) (here 0 s i h) ∙ ap (λ m. isOne (walk end m (drop (i + 1) s))) (f y)
 
 pub keeps-over : (end : ℕ) (s : List ℕ) (i : ℕ) → keeps end s ≡ keeps end (drop i s) → length s ≤ i → true ≡ keeps end s
 unfolding keeps walk isOne
