@@ -9,7 +9,7 @@ finish-requires : tie.Need-finish-requires
 finish-requires c κs = search needs
 
 slice-aggregate-led : tie.Need-slice-aggregate-led
-slice-aggregate-led c = search (charset-right, charset-wrong, part-length, needs)
+slice-aggregate-led c = search (part-length, needs)
 
 slice-aggregate-led-2 : tie.Need-slice-aggregate-led-2
 slice-aggregate-led-2 c = search needs
@@ -18,10 +18,10 @@ led-requires : tie.Need-led-requires
 led-requires c κs = search needs
 
 returns : tie.Need-returns
-returns c = search (charset-right, charset-wrong, part-length, needs)
+returns c = search (charset-right, needs)
 
 returns-2 : tie.Need-returns-2
-returns-2 c = search (charset-right, charset-wrong, part-length, needs)
+returns-2 c = search (charset-wrong, needs)
 
 pub charset-spec : {M : Type 1} → statement M
 charset-spec =

@@ -14,13 +14,13 @@ abbrev μ-loop : tie.MeasureT-loop
 μ-loop t d n rest₀ left₀ rest left = left
 
 loop-holds : tie.Need-loop-holds Inv-loop μ-loop
-loop-holds c = search (step-on, steps-done, needs)
+loop-holds c = search needs
 
 first-requires : tie.Need-first-requires Inv-loop μ-loop
 first-requires c κs = search needs
 
 behind-requires : tie.Need-behind-requires Inv-loop μ-loop
-behind-requires c κs = search (step-on, steps-done, needs)
+behind-requires c κs = search needs
 
 sub-left : tie.Need-sub-left Inv-loop μ-loop
 sub-left c = search needs
@@ -32,7 +32,7 @@ loop-again : tie.Need-loop-again Inv-loop μ-loop
 loop-again c = search (step-on, steps-done, needs)
 
 returns : tie.Need-returns Inv-loop μ-loop
-returns c = search (step-on, steps-done, needs)
+returns c = search (steps-done, needs)
 
 pub component-spec : {M : Type 1} → statement M
 component-spec =

@@ -5,7 +5,7 @@ use Rattle.closed.proofs.led.Statement.{statement}
 use Rattle.closed.proofs.led.Tie as tie
 
 returns : tie.Need-returns
-returns c = search (led-none, led-some, needs)
+returns c = search (led-none, needs)
 
 shared-slice-read-result : tie.Need-shared-slice-read-result
 shared-slice-read-result c = search needs
@@ -23,7 +23,7 @@ equal-requires : tie.Need-equal-requires
 equal-requires c κs = search needs
 
 returns-2 : tie.Need-returns-2
-returns-2 c = search (led-none, led-some, needs)
+returns-2 c = search (led-some, needs)
 
 pub led-spec : {M : Type 1} → statement M
 led-spec =

@@ -12,7 +12,7 @@ first-requires : tie.Need-first-requires
 first-requires c κs = search needs
 
 slice-aggregate-led : tie.Need-slice-aggregate-led
-slice-aggregate-led c = search (marked-is, part-length, needs)
+slice-aggregate-led c = search (part-length, needs)
 
 slice-aggregate-led-2 : tie.Need-slice-aggregate-led-2
 slice-aggregate-led-2 c = search needs
@@ -21,7 +21,7 @@ led-requires : tie.Need-led-requires
 led-requires c κs = search needs
 
 returns : tie.Need-returns
-returns c = search (marked-is, part-length, needs)
+returns c = search (marked-is, needs)
 
 pub marked-spec : {M : Type 1} → statement M
 marked-spec =

@@ -9,13 +9,13 @@ finish-requires : tie.Need-finish-requires
 finish-requires c κs = search needs
 
 slice-aggregate-both : tie.Need-slice-aggregate-both
-slice-aggregate-both c = search (names-are, field-free, part-length, needs)
+slice-aggregate-both c = search (part-length, needs)
 
 both-requires : tie.Need-both-requires
-both-requires c κs = search (names-are, field-free, part-length, needs)
+both-requires c κs = search (field-free, needs)
 
 returns : tie.Need-returns
-returns c = search (names-are, field-free, part-length, needs)
+returns c = search (names-are, needs)
 
 pub names-spec : {M : Type 1} → statement M
 names-spec = tie.close (tie.spec finish-requires slice-aggregate-both both-requires returns)

@@ -23,7 +23,7 @@ finish-requires : tie.Need-finish-requires
 finish-requires c κs = search needs
 
 sub-len : tie.Need-sub-len
-sub-len c = search (shape-repeats, shape-excess, shape-right, shape-within, last-within, needs)
+sub-len c = search (last-within, needs)
 
 add-len : tie.Need-add-len
 add-len c = search needs
@@ -32,13 +32,13 @@ add-len-2 : tie.Need-add-len-2
 add-len-2 c = search needs
 
 returns : tie.Need-returns
-returns c = search (shape-repeats, shape-excess, shape-right, shape-within, last-within, needs)
+returns c = search (shape-repeats, shape-within, needs)
 
 returns-2 : tie.Need-returns-2
-returns-2 c = search (shape-repeats, shape-excess, shape-right, shape-within, last-within, needs)
+returns-2 c = search (shape-excess, shape-within, needs)
 
 returns-3 : tie.Need-returns-3
-returns-3 c = search (shape-repeats, shape-excess, shape-right, shape-within, last-within, needs)
+returns-3 c = search (shape-right, shape-within, needs)
 
 pub shape-spec : {M : Type 1} → statement M
 shape-spec =

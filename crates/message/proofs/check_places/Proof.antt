@@ -13,7 +13,7 @@ abbrev μ-loop : tie.MeasureT-loop
 μ-loop m d counts order₀ ordinal₀ at₀ order ordinal at = length m - at
 
 slice-aggregate-order : tie.Need-slice-aggregate-order Inv-loop μ-loop
-slice-aggregate-order c = search (part-length, needs)
+slice-aggregate-order c = search needs
 
 loop-holds : tie.Need-loop-holds Inv-loop μ-loop
 loop-holds c = search (starts, needs)

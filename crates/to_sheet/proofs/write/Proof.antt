@@ -1,6 +1,5 @@
 -- `write` meets its contract. Assumes nothing.
 use Rattle.to_sheet.proofs.Laws.{write-at-once, write-measured, write-short}
-use Rattle.rules.proofs.Lists.{part-length}
 use borrow.Author.Needs.{needs}
 use Rattle.to_sheet.proofs.write.Statement.{statement}
 use Rattle.to_sheet.proofs.write.Tie as tie
@@ -19,7 +18,7 @@ slice-relend-prefix-pass c = search needs
 
 -- whatever length is lent: a wrong one is refused for what it writes
 slice-aggregate-pass : tie.Need-slice-aggregate-pass
-slice-aggregate-pass c = search (part-length, needs)
+slice-aggregate-pass c = search needs
 
 pass-requires-2 : tie.Need-pass-requires-2
 pass-requires-2 c κs = search needs

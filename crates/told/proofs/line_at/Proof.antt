@@ -1,5 +1,4 @@
 use Rattle.writer.proofs.Laws.{back}
-use native.Mathlib.Omega.{arith}
 use borrow.Author.Needs.{needs}
 use Rattle.told.proofs.line_at.Statement.{statement}
 use Rattle.told.proofs.line_at.Tie as tie

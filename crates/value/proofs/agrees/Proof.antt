@@ -11,7 +11,7 @@ one-of-requires : tie.Need-one-of-requires
 one-of-requires c κs = search needs
 
 returns : tie.Need-returns
-returns c = search (agrees-filled, agrees-empty, needs)
+returns c = search (agrees-filled, needs)
 
 returns-2 : tie.Need-returns-2
 returns-2 c = search (agrees-filled, agrees-empty, needs)

@@ -1,8 +1,5 @@
 use borrow.Author.Needs.{needs}
-use native.Mathlib.Omega.{arith}
-use Prim.Native.Nat.{ℕ, _+_, _-_, _≤_, _<_}
-use mathlib.Core.Path.{_≡_}
-use lib.ListN.{length, take, drop}
+use Prim.Native.Nat.{_-_}
 use Rattle.writer.specs.Woven.{delimiterOf}
 use Rattle.writer.proofs.Weaving.{hit, miss}
 use Rattle.writer.proofs.delimiter.Statement.{statement}
@@ -30,7 +27,7 @@ returns-5 c = search (hit, miss, needs)
 
 returns-6 : tie.Need-returns-6
 unfolding delimiterOf
-returns-6 c = search (hit, miss, needs)
+returns-6 c = search (miss, needs)
 
 pub delimiter-spec : {M : Type 1} → statement M
 delimiter-spec = tie.close (tie.spec returns returns-2 returns-3 returns-4 returns-5 returns-6)

@@ -1,7 +1,4 @@
-use native.Mathlib.Omega.{arith}
-use Prim.Native.Nat.{ℕ, _+_, _-_, _≤_, _<_}
-use mathlib.Core.Path.{_≡_}
-use lib.ListN.{length, take, drop}
+use Prim.Native.Nat.{_-_}
 use Rattle.writer.proofs.Weaving.{put-itself, put-plain, put-text, room-itself, room-plain, room-text, there-plain, there-text}
 use borrow.Author.Needs.{needs}
 use Rattle.writer.proofs.put_slot.Statement.{statement}
@@ -11,31 +8,31 @@ mul-put-escaped-at : tie.Need-mul-put-escaped-at
 mul-put-escaped-at c = search needs
 
 shared-slice-copy-out-put-escaped-at : tie.Need-shared-slice-copy-out-put-escaped-at
-shared-slice-copy-out-put-escaped-at c = search (there-text, there-plain, room-text, room-plain, room-itself, put-text, put-plain, put-itself, needs)
+shared-slice-copy-out-put-escaped-at c = search (there-text, there-plain, needs)
 
 put-escaped-at-requires : tie.Need-put-escaped-at-requires
-put-escaped-at-requires c κs = search (there-text, there-plain, room-text, room-plain, room-itself, put-text, put-plain, put-itself, needs)
+put-escaped-at-requires c κs = search (room-text, needs)
 
 same-length : tie.Need-same-length
 same-length c = search needs
 
 returns : tie.Need-returns
-returns c = search (there-text, there-plain, room-text, room-plain, room-itself, put-text, put-plain, put-itself, needs)
+returns c = search (put-text, put-plain, put-itself, needs)
 
 mul-put-at : tie.Need-mul-put-at
 mul-put-at c = search needs
 
 shared-slice-copy-out-put-at : tie.Need-shared-slice-copy-out-put-at
-shared-slice-copy-out-put-at c = search (there-text, there-plain, room-text, room-plain, room-itself, put-text, put-plain, put-itself, needs)
+shared-slice-copy-out-put-at c = search (there-text, there-plain, needs)
 
 put-at-requires : tie.Need-put-at-requires
-put-at-requires c κs = search (there-text, there-plain, room-text, room-plain, room-itself, put-text, put-plain, put-itself, needs)
+put-at-requires c κs = search (room-plain, needs)
 
 same-length-2 : tie.Need-same-length-2
 same-length-2 c = search needs
 
 returns-2 : tie.Need-returns-2
-returns-2 c = search (there-text, there-plain, room-text, room-plain, room-itself, put-text, put-plain, put-itself, needs)
+returns-2 c = search (put-text, put-plain, put-itself, needs)
 
 delimiter-requires : tie.Need-delimiter-requires
 delimiter-requires c κs = search needs
@@ -44,13 +41,13 @@ slice-aggregate-put-at : tie.Need-slice-aggregate-put-at
 slice-aggregate-put-at c = search needs
 
 put-at-requires-2 : tie.Need-put-at-requires-2
-put-at-requires-2 c κs = search (there-text, there-plain, room-text, room-plain, room-itself, put-text, put-plain, put-itself, needs)
+put-at-requires-2 c κs = search (room-itself, needs)
 
 same-length-3 : tie.Need-same-length-3
 same-length-3 c = search needs
 
 returns-3 : tie.Need-returns-3
-returns-3 c = search (there-text, there-plain, room-text, room-plain, room-itself, put-text, put-plain, put-itself, needs)
+returns-3 c = search (put-text, put-plain, put-itself, needs)
 
 pub put-slot-spec : {M : Type 1} → statement M
 put-slot-spec =

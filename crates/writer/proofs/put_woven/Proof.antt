@@ -1,8 +1,6 @@
 use borrow.Author.Needs.{needs}
-use native.Mathlib.Omega.{arith}
-use Prim.Native.Nat.{ℕ, _+_, _-_, _≤_, _<_}
-use mathlib.Core.Path.{_≡_}
-use lib.ListN.{length, take, drop}
+use Prim.Native.Nat.{_+_, _-_, _≤_}
+use lib.ListN.{length, drop}
 use Rattle.writer.specs.Woven.{woven, holes}
 use Rattle.writer.proofs.Laws.{Running}
 use Rattle.writer.proofs.Weaving.{holes-go, one-hole, woven-begins, woven-ends, woven-goes, woven-room}
@@ -22,7 +20,7 @@ shared-slice-read-slot : tie.Need-shared-slice-read-slot Inv-loop μ-loop
 shared-slice-read-slot c = search needs
 
 put-slot-requires : tie.Need-put-slot-requires Inv-loop μ-loop
-put-slot-requires c κs = search (woven-begins, woven-room, woven-goes, woven-ends, one-hole, holes-go, needs)
+put-slot-requires c κs = search (woven-room, one-hole, needs)
 
 texts-for-requires : tie.Need-texts-for-requires Inv-loop μ-loop
 texts-for-requires c κs = search needs
@@ -43,7 +41,7 @@ same-length : tie.Need-same-length Inv-loop μ-loop
 same-length c = search needs
 
 returns : tie.Need-returns Inv-loop μ-loop
-returns c = search (woven-begins, woven-room, woven-goes, woven-ends, one-hole, holes-go, needs)
+returns c = search (woven-ends, needs)
 
 pub put-woven-spec : {M : Type 1} → statement M
 put-woven-spec =

@@ -1,7 +1,4 @@
-use native.Mathlib.Omega.{arith}
-use Prim.Native.Nat.{ℕ, _+_, _-_, _≤_, _<_}
-use mathlib.Core.Path.{_≡_}
-use lib.ListN.{length, take, drop}
+use Prim.Native.Nat.{_-_}
 use Rattle.writer.proofs.Weaving.{len-itself, len-plain, len-text, small-text, there-plain, there-text}
 use borrow.Author.Needs.{needs}
 use Rattle.writer.proofs.slot_len.Statement.{statement}
@@ -11,28 +8,28 @@ mul-escaped-len : tie.Need-mul-escaped-len
 mul-escaped-len c = search needs
 
 shared-slice-copy-out-escaped-len : tie.Need-shared-slice-copy-out-escaped-len
-shared-slice-copy-out-escaped-len c = search (there-text, there-plain, small-text, len-text, len-plain, len-itself, needs)
+shared-slice-copy-out-escaped-len c = search (there-text, there-plain, needs)
 
 escaped-len-requires : tie.Need-escaped-len-requires
-escaped-len-requires c κs = search (there-text, there-plain, small-text, len-text, len-plain, len-itself, needs)
+escaped-len-requires c κs = search (small-text, needs)
 
 returns : tie.Need-returns
-returns c = search (there-text, there-plain, small-text, len-text, len-plain, len-itself, needs)
+returns c = search (len-text, len-plain, needs)
 
 mul-length-of : tie.Need-mul-length-of
 mul-length-of c = search needs
 
 shared-slice-copy-out-length-of : tie.Need-shared-slice-copy-out-length-of
-shared-slice-copy-out-length-of c = search (there-text, there-plain, small-text, len-text, len-plain, len-itself, needs)
+shared-slice-copy-out-length-of c = search (there-text, there-plain, needs)
 
 length-of-requires : tie.Need-length-of-requires
 length-of-requires c κs = search needs
 
 returns-2 : tie.Need-returns-2
-returns-2 c = search (there-text, there-plain, small-text, len-text, len-plain, len-itself, needs)
+returns-2 c = search (len-text, len-plain, needs)
 
 returns-3 : tie.Need-returns-3
-returns-3 c = search (there-text, there-plain, small-text, len-text, len-plain, len-itself, needs)
+returns-3 c = search (len-text, len-plain, len-itself, needs)
 
 pub slot-len-spec : {M : Type 1} → statement M
 slot-len-spec =

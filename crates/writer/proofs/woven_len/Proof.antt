@@ -1,8 +1,7 @@
 use borrow.Author.Needs.{needs}
-use native.Mathlib.Omega.{arith}
-use Prim.Native.Nat.{ℕ, _+_, _-_, _≤_, _<_}
+use Prim.Native.Nat.{_+_, _-_, _≤_}
 use mathlib.Core.Path.{_≡_}
-use lib.ListN.{length, take, drop}
+use lib.ListN.{length, drop}
 use Rattle.writer.specs.Woven.{woven, holes}
 use Rattle.writer.proofs.Weaving.{holes-go, one-hole, sum-begins, sum-ends, sum-few, sum-goes}
 use Rattle.writer.proofs.woven_len.Statement.{statement}
@@ -21,7 +20,7 @@ shared-slice-read-slot : tie.Need-shared-slice-read-slot Inv-loop μ-loop
 shared-slice-read-slot c = search needs
 
 slot-len-requires : tie.Need-slot-len-requires Inv-loop μ-loop
-slot-len-requires c κs = search (sum-begins, sum-goes, sum-ends, one-hole, holes-go, needs)
+slot-len-requires c κs = search (one-hole, needs)
 
 add-n : tie.Need-add-n Inv-loop μ-loop
 add-n c = search (sum-few, needs)
@@ -42,7 +41,7 @@ loop-again : tie.Need-loop-again Inv-loop μ-loop
 loop-again c = search (sum-begins, sum-goes, sum-ends, one-hole, holes-go, needs)
 
 returns : tie.Need-returns Inv-loop μ-loop
-returns c = search (sum-begins, sum-goes, sum-ends, one-hole, holes-go, needs)
+returns c = search (sum-ends, needs)
 
 pub woven-len-spec : {M : Type 1} → statement M
 woven-len-spec =
