@@ -5,7 +5,7 @@ use mathlib.Core.List.{List, [], _∷_, _++_, append-assoc, append-nil}
 use Prim.Native.Nat.{ℕ, _+_, _-_, _*_, _≤_, _<_}
 use native.Mathlib.Omega.{arith}
 use borrow.Author.Tests.{leb-true, lt-ltb, le-ltb}
-use lib.Dec.{leb, ltb}
+use lib.Dec.{leb}
 use lib.ListN.{length, take, drop, length-append}
 use Rattle.rules.specs.declared.Delims.{Delims}
 use Rattle.rules.specs.declared.Counts.{Counts}
@@ -25,13 +25,12 @@ use Rattle.rules.specs.View.{view}
 use Rattle.rules.specs.Row.{lines, rowsOf}
 use Rattle.rules.specs.Check.{checkTold}
 use Rattle.rules.specs.Sheet.{linesText, sheetOf, sheetTold, toSheet}
-use Rattle.rules.proofs.Logic.{both, guard, not-given, toldCases, called-as}
+use Rattle.rules.proofs.Logic.{both, not-given, toldCases, called-as}
 use Rattle.rules.proofs.Lists as Lists
 use Rattle.rules.proofs.Lists.{rest-is, rest-further}
 use Rattle.rules.proofs.Split.{ended-append}
 use Rattle.rules.proofs.Header.{header}
 use Rattle.rules.proofs.Where.{accepted-passes}
-use Rattle.returns.proofs.Demand2.{message-returns}
 use Rattle.scan.specs.Scan.{until}
 use Rattle.scan.specs.Scan as Scan
 use Rattle.judge.specs.Judge.{fill}
@@ -179,16 +178,6 @@ module _ (m : List ℕ) (d : Delims) (s : Sound m d) (room : ℕ) where
   unfolding sheetTold
   told-whole h = rw (text-is, le-ltb room (length text) h)
 
--- a sheet that fits is written
-write-fitting : (m : List ℕ) (d : Delims) (s : Sound m d) (x y : List ℕ) (n : ℕ) → length (sections d (segments m)) ≤ length x
-    → Filled n y (sections d (segments m)) x → Call (sheetTold (view m) (length x)) x (Wrote n) y
-write-fitting m d s x y n room f = called-as (told-whole m d s (length x) room) (record { told = ap gives (f .ends); buffer = f .is ∙ fits (sections d (segments m)) x room })
-
--- at once, where the buffer has the k bytes that the sheet stays under
-pub write-at-once : (m : List ℕ) (d : Delims) (s : Sound m d) (x y : List ℕ) (n k : ℕ) → length (sections d (segments m)) < k → k ≤ length x
-    → Filled n y (sections d (segments m)) x → Call (sheetTold (view m) (length x)) x (Wrote n) y
-write-at-once m d s x y n k under room = write-fitting m d s x y n (omega arith)
-
 -- measured where nothing is lent, z, so the buffer is x still
 module _ (m : List ℕ) (d : Delims) (s : Sound m d) (x z : List ℕ) (n : ℕ) (measured : Filled n z (sections d (segments m)) []) where
   still : z ++ x ≡ x
@@ -198,9 +187,11 @@ module _ (m : List ℕ) (d : Delims) (s : Sound m d) (x z : List ℕ) (n : ℕ) 
       → Call (sheetTold (view m) (length x)) x (NotWritten k) (z ++ x)
   write-short k h e = called-as (told-short m d s (length x) (omega (arith, measured .ends, ap length still))) (rw e (record { told = refl; buffer = still }))
 
-  pub write-measured : (r : ℕ) (y : List ℕ) → n ≤ length (z ++ x) → Filled r y (sections d (segments m)) (z ++ x) → Call (sheetTold (view m) (length x)) x (Wrote n) y
-  write-measured r y h f =
-      write-fitting m d s x y n (omega (arith, measured .ends, ap length still)) (record { ends = measured .ends; is = f .is ∙ ap (fill (sections d (segments m))) still })
+  pub write-whole : (r : ℕ) (y : List ℕ) → n ≤ length (z ++ x) → Filled r y (sections d (segments m)) (z ++ x) → Call (sheetTold (view m) (length x)) x (Wrote n) y
+  write-whole r y h f =
+      let room : length (sections d (segments m)) ≤ length x = omega (arith, measured .ends, ap length still) in
+      called-as (told-whole m d s (length x) room)
+      (record { told = ap gives (measured .ends); buffer = f .is ∙ ap (fill (sections d (segments m))) still ∙ fits (sections d (segments m)) x room })
 
 -- ---- the check first
 module _ (m : List ℕ) (a : Answer) (e : told a ≡ checkTold m) where
@@ -220,16 +211,6 @@ module _ (m : List ℕ) (a : Answer) (e : told a ≡ checkTold m) where
     sheet-told : (room : ℕ) → toSheet m room ≡ sheetTold (view m) room
     unfolding toSheet
     sheet-told room = rw accepted
-
-    -- by demand 2: its sheet is the one of `Turned`
-    pub accepted-under57000 : (d : Delims) → d ≡ delimsOf m → length (sections d (segments m)) < 57000
-    accepted-under57000 d g =
-        let T = message-returns m c accepted in
-        let w : List ℕ = sections d (segments m) in
-        let t : toSheet m (length w) ≡ gives w = sheet-told (length w) ∙ told-whole m d (accepted-sound d g) (length w) (omega arith) in
-        let q = guard 45 0 0 (ltb (length w) (length (T .sheet))) (gives (T .sheet)) w (sym (T .given (length w)) ∙ t) in
-        let p : T .sheet ≡ w = cc (q .1) in
-        omega (arith, T .under57000, ap length p)
 
     pub wrote-told : (x : List ℕ) (r : Written) (y : List ℕ) → Call (sheetTold (view m) (length x)) x r y → toldLength r ≡ lengthOf (toSheet m (length x))
     wrote-told x r y w = w .told ∙ ap lengthOf (sym (sheet-told (length x)))

@@ -1,4 +1,4 @@
-// Message to sheet: the message is checked, then its sheet is written, measured first where the buffer could be too short.
+// Message to sheet: the message is checked, its sheet is measured, then written.
 use frame::header;
 use frame::names;
 use report::fill;
@@ -10,7 +10,7 @@ use rules::Name;
 use rules::Refusal;
 use rules::Written;
 ghost use mathlib.Core.Path.{_≡_};
-ghost use Prim.Native.Nat.{_+_, _≤_, _<_};
+ghost use Prim.Native.Nat.{_+_, _≤_};
 ghost use lib.ListN.{length};
 ghost use Rattle.rules.specs.Told.{toldLength, lengthOf, over, Call};
 ghost use Rattle.rules.specs.Shift.{met};
@@ -36,16 +36,11 @@ pub fn to_sheet(m: &[u8], out: &mut [u8]) -> Written
     }
 }
 
-// 45, or the sheet. That of an accepted message has under 57,000 bytes (demand 2, `Turned.under57000`): a buffer of so many takes it at once.
-// For a shorter one it is measured first, where nothing of the buffer is lent.
+// 45, or the sheet. It is measured first, where nothing of the buffer is lent.
 fn write(out: &mut [u8], m: &[u8], d: Delims) -> Written
-    requires { ⌜ Sound (now m) d × (length (sections d (segments (now m))) < 57000) ⌝ }
+    requires { ⌜ Sound (now m) d ⌝ }
     ensures { λ r. ⌜ Call (sheetTold (view (now (m .entry))) (length (now (out .entry)))) (now (out .entry)) r (now (out .exit)) ⌝ }
 {
-    if 57000 <= out.len() {
-        let n = pass(out, m, d);
-        return Written::Wrote(n);
-    }
     let lent = 0;
     let n = pass(&mut out[..lent], m, d);
     if out.len() < n {

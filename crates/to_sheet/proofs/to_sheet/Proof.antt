@@ -1,5 +1,5 @@
 -- `to_sheet` meets its contract. Assumes nothing.
-use Rattle.to_sheet.proofs.Laws.{accepted-long, accepted-sound, accepted-under57000, refused-buffer, refused-told, wrote-buffer, wrote-told}
+use Rattle.to_sheet.proofs.Laws.{accepted-long, accepted-sound, refused-buffer, refused-told, wrote-buffer, wrote-told}
 use borrow.Author.Needs.{needs}
 use Rattle.to_sheet.proofs.to_sheet.Statement.{statement}
 use Rattle.to_sheet.proofs.to_sheet.Tie as tie
@@ -17,7 +17,7 @@ delims-requires : tie.Need-delims-requires
 delims-requires c κs = search (accepted-long, needs)
 
 write-requires : tie.Need-write-requires
-write-requires c κs = search (accepted-sound, accepted-under57000, needs)
+write-requires c κs = search (accepted-sound, needs)
 
 returns : tie.Need-returns
 returns c = search (refused-told, refused-buffer, needs)
