@@ -40,7 +40,7 @@ pub record Passing (d : Delims) (s : List ℕ) (known : Bool) (out₀ : List ℕ
   pub cut : Cut 10 (take (length s - at) (drop at s)) places
   pub within : at ≤ length s
   pub lines-few : line ≤ 10 * at + 1
-  pub bytes-few : bytes ≤ 300000000 * at
+  pub bytes-few : bytes ≤ 600000000 * at
   pub segments-few : segments ≤ 2 * at
   pub specimens-few : specimens ≤ at
   pub results-few : results ≤ at
@@ -218,7 +218,7 @@ module _ {d : Delims} {s : List ℕ} {known : Bool} {out₀ : List ℕ} {g : Nam
         text = groupText d specimens results h (linesOf rest)
 
         pub goes : {f : Bool} → f ≡ isFine v → not f ≡ false
-            → {r u a b : ℕ} {y : List ℕ} → Added bytes out text r y × (r ≤ bytes + 300000000) → (u ≡ segmentsOf h) × (u ≤ 2)
+            → {r u a b : ℕ} {y : List ℕ} → Added bytes out text r y × (r ≤ bytes + 600000000) → (u ≡ segmentsOf h) × (u ≤ 2)
             → (a ≡ specimensWith specimens h) × (a ≤ specimens + 1) → (b ≡ resultsWith results h) × (b ≤ results + 1)
             → {next-places : List ℕ} → Cut 10 (take (length s - (at + getD places n 0)) (drop (at + getD places n 0) s)) next-places
             → Passing d s known out₀ h (at + getD places n 0) (line + n) r (segments + u) a b next-places y

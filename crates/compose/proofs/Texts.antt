@@ -21,15 +21,15 @@ use Rattle.rules.specs.Message.{decimal, composed, blanks, encoding, nameText, 
 use Rattle.rules.proofs.Logic.{both, cases, and-false, never}
 use Rattle.rules.proofs.Lists.{empty-zero, filled-some}
 use Rattle.rules.proofs.Measures.{tens, decimal-few}
-use Rattle.writer.specs.Over.{over, overAt, Wrote, fitted, Fit}
-use Rattle.writer.proofs.Laws.{back, front}
+use Rattle.writer.specs.Over.{over, overAt, Wrote, Put, fitted, Fit}
+use Rattle.writer.proofs.Laws.{back, front, then}
 use Rattle.writer.specs.Woven.{delimiterOf, taken, slotText, firstText, woven}
 use Rattle.lines.specs.Lines.{valuesFrom}
-use Rattle.compose.specs.Compose.{Named, rowsText, groupText, specimenText, resultText, specimensWith, resultsWith, segmentsOf, Added}
+use Rattle.compose.specs.Compose.{Named, rowsText, groupText, orderText, specimenText, resultText, specimensWith, resultsWith, segmentsOf, Added}
 
 -- to unfold this name is to unfold the patterns, the lines and the segments
 unfoldable pub shapes : Unit {0}
-unfolding delimiterOf taken slotText firstText woven line lines keyOf bytes valuesFrom rowOf rowsText groupText pieces piecesOf specimens results segmentText spelling join led ended composed blanks encoding nameText specimenText resultText
+unfolding delimiterOf taken slotText firstText woven line lines keyOf bytes valuesFrom rowOf rowsText groupText orderText pieces piecesOf specimens results segmentText spelling join led ended composed blanks encoding nameText specimenText resultText
 shapes = tt
 
 -- the blank value of a result has no parts
@@ -40,7 +40,7 @@ other v q h = cases (eqb (length v) 0) (λ e. rw (empty-zero v (eqb-true (length
 fit-as : {r : ℕ} {x w v old : List ℕ} → w ≡ v → Fit r x w old → Fit r x v old
 fit-as e p = rw e at p
 
-pub fit-none : (old : List ℕ) → Fit 0 old [] old
+fit-none : (old : List ℕ) → Fit 0 old [] old
 unfolding fitted over
 fit-none old = record { ends = refl; is = rw (le-leb 0 (length old) (omega arith)) }
 
@@ -51,10 +51,15 @@ module _ (d : Delims) (ts : List (List ℕ)) (r : ℕ) (x old : List ℕ) where
   unfolding shapes
   visit-is n a en ea p = fit-as (simp (en .is, ea, append-nil)) p
 
-  pub order-is : (n a b m : RefT (List ℕ)) → Named (n .now) Obr → Named (m .now) Orc → a .now ≡ drop 6 (nth ts 0) → b .now ≡ drop 6 (nth ts 1)
-      → Fit r x (woven d (35 ∷ 124 ∷ 124 ∷ 36 ∷ 124 ∷ 124 ∷ 36 ∷ 94 ∷ 94 ∷ 57 ∷ 57 ∷ 48 ∷ 48 ∷ 51 ∷ 13 ∷ 35 ∷ 124 ∷ 82 ∷ 69 ∷ 124 ∷ 36 ∷ 13 ∷ []) (n ∷ a ∷ b ∷ m ∷ a ∷ [])) old → Fit r x (groupText d 0 0 Obr ts) old
+  pub order-is : (n a b : RefT (List ℕ)) → Named (n .now) Obr → a .now ≡ drop 6 (nth ts 0) → b .now ≡ drop 6 (nth ts 1)
+      → Fit r x (woven d (35 ∷ 124 ∷ 124 ∷ 36 ∷ 124 ∷ 124 ∷ 36 ∷ 94 ∷ 94 ∷ 57 ∷ 57 ∷ 48 ∷ 48 ∷ 51 ∷ 13 ∷ []) (n ∷ a ∷ b ∷ [])) old → Fit r x (orderText d 0 ts) old
   unfolding shapes
-  order-is n a b m en em ea eb p = fit-as (simp (en .is, em .is, ea, eb, append-assoc, append-nil)) p
+  order-is n a b en ea eb p = fit-as (simp (en .is, ea, eb, append-assoc, append-nil)) p
+
+  pub control-is : (n a : RefT (List ℕ)) → Named (n .now) Orc → a .now ≡ drop 6 (nth ts 0)
+      → Fit r x (woven d (35 ∷ 124 ∷ 82 ∷ 69 ∷ 124 ∷ 36 ∷ 13 ∷ []) (n ∷ a ∷ [])) old → Fit r x (orderText d 1 ts) old
+  unfolding shapes
+  control-is n a en ea p = fit-as (simp (en .is, ea, append-assoc, append-nil)) p
 
   pub header-is : (n a b c : RefT (List ℕ)) → Named (n .now) Msh → a .now ≡ drop 5 (nth ts 2) → b .now ≡ drop 8 (nth ts 3) → c .now ≡ drop 5 (nth ts 1)
       → Fit r x (woven d (35 ∷ 124 ∷ 94 ∷ 126 ∷ 92 ∷ 38 ∷ 124 ∷ 124 ∷ 124 ∷ 124 ∷ 124 ∷ 36 ∷ 124 ∷ 124 ∷ 79 ∷ 85 ∷ 76 ∷ 94 ∷ 82 ∷ 50 ∷ 50 ∷ 94 ∷ 79 ∷ 85 ∷ 76 ∷ 95 ∷ 82 ∷ 50 ∷ 50 ∷ 124 ∷ 36 ∷ 124 ∷ 36 ∷ 124 ∷ 50 ∷ 46 ∷ 53 ∷ 124 ∷ 124 ∷ 124 ∷ 124 ∷ 124 ∷ 124 ∷ 126 ∷ 73 ∷ 83 ∷ 79 ∷ 32 ∷ 73 ∷ 82 ∷ 56 ∷ 55 ∷ 124 ∷ 124 ∷ 73 ∷ 83 ∷ 79 ∷ 32 ∷ 50 ∷ 48 ∷ 50 ∷ 50 ∷ 45 ∷ 49 ∷ 57 ∷ 57 ∷ 52 ∷ 13 ∷ []) (n ∷ a ∷ b ∷ c ∷ [])) old → Fit r x (groupText d 0 0 Msh ts) old
@@ -119,6 +124,54 @@ number-short i h = decimal-few 4 (i + 1) (omega arith)
 pub number-size : (r n : ℕ) (x old : List ℕ) → Wrote r x (decimal (n + 1)) old → n ≤ 65536 → length (take r x) ≤ 65536
 number-size r n x old p h = omega (arith, ap length (front p), number-short n h)
 
+-- ---- a write where there is room, and one behind it
+fitted-length : (w old : List ℕ) → length (fitted w old) ≡ length old
+unfolding fitted over
+fitted-length w old = cases (leb (length w) (length old)) (λ e. rw e (simp (length-append, length-drop) (omega (arith, leb-true (length w) (length old) e)))) (λ e. rw e)
+
+fit-over : {r : ℕ} {y w x : List ℕ} → Fit r y w x → r ≤ length x → Wrote r y w x
+unfolding fitted
+fit-over {r} {y} {w} {x} p h = record { ends = p .ends; is = p .is ∙ rw (le-leb (length w) (length x) (omega (arith, p .ends))) }
+
+at-front : {r : ℕ} {y w x : List ℕ} → Fit r y w x → Added 0 x w r y
+unfolding overAt
+at-front {r} {y} {w} {x} p = record { ends = omega (arith, p .ends); same = ap length (p .is) ∙ fitted-length w x; is = λ h. fit-over p h .is }
+
+pub added : (x text y : List ℕ) (at from k : ℕ) → from ≤ length x → (at ≤ length x → from ≡ at) → Added 0 (take (length x - from) (drop from x)) text k y
+    → Added at x text (at + k) (take from x ++ (y ++ drop (length x - from) (drop from x)))
+unfolding overAt
+added x text y at from k h g p =
+    let tail = take (length x - from) (drop from x) in
+    let t : length tail ≡ length x - from = simp (length-take, length-drop) (omega arith) in
+    record {
+      ends = omega (arith, p .ends);
+      same = simp (length-append, length-take-le from x h, p .same, t, length-drop) (omega arith);
+      is = λ w.
+          let f : from ≡ at = g (omega arith) in
+          let o : Wrote k y text tail = record { ends = omega (arith, p .ends); is = p .is (omega arith) } in
+          back from x o .is ∙ ap (λ (q : ℕ). overAt q text x) f;
+    }
+
+-- an order's ORC behind its OBR
+order-text : (d : Delims) (ts : List (List ℕ)) → orderText d 0 ts ++ orderText d 1 ts ≡ groupText d 0 0 Obr ts
+unfolding shapes
+order-text d ts = simp (append-assoc, append-nil)
+
+pub order-both : (d : Delims) (ts : List (List ℕ)) (x z y : List ℕ) (at from k : ℕ) → from ≤ length z → (at ≤ length z → from ≡ at) → Fit at z (orderText d 0 ts) x
+    → Fit k y (orderText d 1 ts) (take (length z - from) (drop from z))
+    → Added 0 x (groupText d 0 0 Obr ts) (at + k) (take from z ++ (y ++ drop (length z - from) (drop from z)))
+unfolding overAt
+order-both d ts x z y at from k h g p q =
+    let a = at-front p in
+    let b = added z (orderText d 1 ts) y at from k h g (at-front q) in
+    record {
+      ends = omega (arith, p .ends, q .ends, sym (ap length (order-text d ts)) ∙ length-append (orderText d 0 ts) (orderText d 1 ts));
+      same = b .same ∙ a .same;
+      is = λ w.
+          let o : Put at z (orderText d 1 ts) (at + k) (take from z ++ (y ++ drop (length z - from) (drop from z))) = record { ends = b .ends; is = b .is (omega (arith, a .same)) } in
+          then (fit-over p (omega arith)) o .is ∙ ap (λ (t : List ℕ). over t x) (order-text d ts);
+    }
+
 -- ---- a group by its name
 module _ (d : Delims) (ts : List (List ℕ)) (i j : ℕ) where
   any-msh : groupText d 0 0 Msh ts ≡ groupText d i j Msh ts
@@ -154,32 +207,35 @@ module _ (d : Delims) (ts : List (List ℕ)) (i j : ℕ) where
   any-other = refl
 
   module _ (n : Name) (r : ℕ) (x old : List ℕ) where
-    by-name : (w : List ℕ) (g : Name) → w ≡ groupText d i j g ts → n ≡ g → Fit r x w old → Fit r x (groupText d i j n ts) old
-    by-name w g e h p = fit-as (e ∙ ap (λ (m : Name). groupText d i j m ts) (sym h)) p
+    as-named : (w : List ℕ) (g : Name) → w ≡ groupText d i j g ts → n ≡ g → Added 0 old w r x → Added 0 old (groupText d i j n ts) r x
+    as-named w g e h p = rw (e ∙ ap (λ (m : Name). groupText d i j m ts) (sym h)) at p
 
-    pub put-msh : n ≡ Msh → Fit r x (groupText d 0 0 Msh ts) old → Fit r x (groupText d i j n ts) old
+    by-name : (w : List ℕ) (g : Name) → w ≡ groupText d i j g ts → n ≡ g → Fit r x w old → Added 0 old (groupText d i j n ts) r x
+    by-name w g e h p = as-named w g e h (at-front p)
+
+    pub put-msh : n ≡ Msh → Fit r x (groupText d 0 0 Msh ts) old → Added 0 old (groupText d i j n ts) r x
     put-msh = by-name (groupText d 0 0 Msh ts) Msh any-msh
 
-    pub put-pid : n ≡ Pid → Fit r x (groupText d 0 0 Pid ts) old → Fit r x (groupText d i j n ts) old
+    pub put-pid : n ≡ Pid → Fit r x (groupText d 0 0 Pid ts) old → Added 0 old (groupText d i j n ts) r x
     put-pid = by-name (groupText d 0 0 Pid ts) Pid any-pid
 
-    pub put-pv1 : n ≡ Pv1 → Fit r x (groupText d 0 0 Pv1 ts) old → Fit r x (groupText d i j n ts) old
+    pub put-pv1 : n ≡ Pv1 → Fit r x (groupText d 0 0 Pv1 ts) old → Added 0 old (groupText d i j n ts) r x
     put-pv1 = by-name (groupText d 0 0 Pv1 ts) Pv1 any-pv1
 
-    pub put-spm : n ≡ Spm → Fit r x (groupText d i 0 Spm ts) old → Fit r x (groupText d i j n ts) old
+    pub put-spm : n ≡ Spm → Fit r x (groupText d i 0 Spm ts) old → Added 0 old (groupText d i j n ts) r x
     put-spm = by-name (groupText d i 0 Spm ts) Spm any-spm
 
-    pub put-obr : n ≡ Obr → Fit r x (groupText d 0 0 Obr ts) old → Fit r x (groupText d i j n ts) old
-    put-obr = by-name (groupText d 0 0 Obr ts) Obr any-obr
+    pub put-obr : n ≡ Obr → Added 0 old (groupText d 0 0 Obr ts) r x → Added 0 old (groupText d i j n ts) r x
+    put-obr = as-named (groupText d 0 0 Obr ts) Obr any-obr
 
-    pub put-obx : n ≡ Obx → Fit r x (groupText d 0 j Obx ts) old → Fit r x (groupText d i j n ts) old
+    pub put-obx : n ≡ Obx → Fit r x (groupText d 0 j Obx ts) old → Added 0 old (groupText d i j n ts) r x
     put-obx = by-name (groupText d 0 j Obx ts) Obx any-obx
 
   module _ (n : Name) (old : List ℕ) where
-    pub put-orc : n ≡ Orc → Fit 0 old (groupText d i j n ts) old
+    pub put-orc : n ≡ Orc → Added 0 old (groupText d i j n ts) 0 old
     put-orc h = by-name n 0 old old [] Orc any-orc h (fit-none old)
 
-    pub put-other : n ≡ Other → Fit 0 old (groupText d i j n ts) old
+    pub put-other : n ≡ Other → Added 0 old (groupText d i j n ts) 0 old
     put-other h = by-name n 0 old old [] Other any-other h (fit-none old)
 
 module _ (n x : Name) (e : n ≡ x) where
@@ -194,26 +250,3 @@ module _ (n x : Name) (e : n ≡ x) where
 
   pub segments-named : (r : ℕ) → r ≡ segmentsOf x → r ≡ segmentsOf n
   segments-named r h = h ∙ ap segmentsOf (sym e)
-
--- ---- a group behind what stands already
-fitted-length : (w old : List ℕ) → length (fitted w old) ≡ length old
-unfolding fitted over
-fitted-length w old = cases (leb (length w) (length old)) (λ e. rw e (simp (length-append, length-drop) (omega (arith, leb-true (length w) (length old) e)))) (λ e. rw e)
-
-pub added : (x text y : List ℕ) (at from k : ℕ) → from ≤ length x → (at ≤ length x → from ≡ at) → Fit k y text (take (length x - from) (drop from x))
-    → Added at x text (at + k) (take from x ++ (y ++ drop (length x - from) (drop from x)))
-unfolding fitted
-added x text y at from k h g p =
-    let tail = take (length x - from) (drop from x) in
-    let n : length y ≡ length tail = ap length (p .is) ∙ fitted-length text tail in
-    let t : length tail ≡ length x - from = simp (length-take, length-drop) (omega arith) in
-    record {
-      ends = omega (arith, p .ends);
-      same = simp (length-append, length-take-le from x h, n, t, length-drop) (omega arith);
-      is = λ w.
-          let m = p .ends in
-          let f : from ≡ at = g (omega arith) in
-          let o : y ≡ over text tail = p .is ∙ rw (le-leb (length text) (length tail) (omega arith)) in
-          let b = back from x (record { ends = p .ends; is = o }) .is in
-          b ∙ ap (λ (q : ℕ). overAt q text x) f;
-    }

@@ -10,7 +10,7 @@ use Rattle.rules.specs.declared.Refusal.{Refusal}
 use Rattle.rules.specs.declared.Name.{Name}
 use Rattle.rules.specs.declared.Name.the-variants.{Msh, Pid, Pv1, Spm, Obr, Orc, Obx, Other}
 use Rattle.rules.specs.Told.{Told, gives, refusal, _>>=_}
-use Rattle.rules.specs.Lists.{bytes, ended}
+use Rattle.rules.specs.Lists.{bytes, nth, ended}
 use Rattle.rules.specs.Escape.{escape}
 use Rattle.rules.specs.Frame.{is, spelling}
 use Rattle.rules.specs.Row.{Row, rowOf}
@@ -36,6 +36,10 @@ rowsText d i j rows = ended 0x0D (map (segmentText d) (pieces d i j rows))
 -- the text of the group g that the lines ts begin with
 unfoldable pub groupText : Delims → ℕ → ℕ → Name → List (List ℕ) → List ℕ
 groupText d i j g ts = rowsText d i j (rowOf g (groupValues g ts))
+
+-- the text of the k-th segment, from 0, of the order that the lines ts begin with: its OBR, its ORC
+unfoldable pub orderText : Delims → ℕ → List (List ℕ) → List ℕ
+orderText d k ts = ended 0x0D (nth (map (segmentText d) (pieces d 0 0 (rowOf Obr (groupValues Obr ts)))) k ∷ [])
 
 -- the texts of a specimen and of a result, by their numbers and values
 unfoldable pub specimenText : Delims → List ℕ → List ℕ → List ℕ → List ℕ

@@ -1,4 +1,4 @@
-// Sheet to message. A pass over the sheet's groups judges them, unless they are known to be right, measures the message, and writes each group
+// Sheet to message. A pass over the sheet's groups judges them, unless they are known to be right, measures the message, and writes each segment
 // into what remains of the lent buffer, as far as there is room.
 use lines::Verdict;
 use rules::Delims;
@@ -14,9 +14,18 @@ ghost use Rattle.rules.specs.Sheet.{linesOf};
 ghost use Rattle.rules.specs.Frame.{is};
 ghost use Rattle.writer.specs.Over.{Fit};
 ghost use Rattle.lines.specs.Lines.{toldOf, indexOf, groupVerdict, Cut};
-ghost use Rattle.compose.specs.Compose.{Named, groupText, specimenText, resultText, specimensWith, resultsWith, segmentsOf, isValue, Added, toldSize, refusalAt, Right, Pass};
+ghost use Rattle.compose.specs.Compose.{Named, groupText, orderText, specimenText, resultText, specimensWith, resultsWith, segmentsOf, isValue, Added, toldSize, refusalAt, Right, Pass};
 
-// ---- the groups written, each where there is room, from the places of its lines; the reader compares with the same names
+fn least(a: usize, b: usize) -> usize
+    ensures { λ r. ⌜ (r ≤ a) × (r ≤ b) × (a ≤ b → r ≡ a) ⌝ }
+{
+    if a < b {
+        return a;
+    }
+    b
+}
+
+// ---- the segments written, each where there is room, from the places of its group's lines; the reader compares with the same names
 
 fn header<'a>(out: &mut [u8], msh: &'a [u8], s: &'a [u8], places: &[usize; 11], d: Delims) -> usize
     requires { ⌜ (length (now s) ≤ 65536) × Cut 10 (now s) (now places) × Named (now msh) Name.Msh ⌝ }
@@ -43,26 +52,36 @@ fn visit<'a>(out: &mut [u8], pv1: &'a [u8], s: &'a [u8], places: &[usize; 11], d
     writer::fit_woven(out, b"#||$\r", &[pv1, class], d)
 }
 
-fn order<'a>(
-    out: &mut [u8],
-    obr: &'a [u8],
-    orc: &'a [u8],
-    s: &'a [u8],
-    places: &[usize; 11],
-    d: Delims,
-) -> usize
-    requires { ⌜ (length (now s) ≤ 65536) × Cut 10 (now s) (now places) × Named (now obr) Name.Obr × Named (now orc) Name.Orc ⌝ }
-    ensures { λ r. ⌜ Fit r (now (out .exit)) (groupText d 0 0 Name.Obr (linesOf (now (s .entry)))) (now (out .entry)) ⌝ }
+// An order's OBR.
+fn order<'a>(out: &mut [u8], obr: &'a [u8], s: &'a [u8], places: &[usize; 11], d: Delims) -> usize
+    requires { ⌜ (length (now s) ≤ 65536) × Cut 10 (now s) (now places) × Named (now obr) Name.Obr ⌝ }
+    ensures { λ r. ⌜ Fit r (now (out .exit)) (orderText d 0 (linesOf (now (s .entry)))) (now (out .entry)) ⌝ }
     ensures within { λ r. ⌜ r ≤ 300000000 ⌝ }
 {
     let id = lines::value_at(s, places, 0, 6);
     let group = lines::value_at(s, places, 1, 6);
-    writer::fit_woven(
-        out,
-        b"#||$||$^^99003\r#|RE|$\r",
-        &[obr, id, group, orc, id],
-        d,
-    )
+    writer::fit_woven(out, b"#||$||$^^99003\r", &[obr, id, group], d)
+}
+
+// Its ORC, with the same number.
+fn control<'a>(out: &mut [u8], orc: &'a [u8], s: &'a [u8], places: &[usize; 11], d: Delims) -> usize
+    requires { ⌜ (length (now s) ≤ 65536) × Cut 10 (now s) (now places) × Named (now orc) Name.Orc ⌝ }
+    ensures { λ r. ⌜ Fit r (now (out .exit)) (orderText d 1 (linesOf (now (s .entry)))) (now (out .entry)) ⌝ }
+    ensures within { λ r. ⌜ r ≤ 300000000 ⌝ }
+{
+    let id = lines::value_at(s, places, 0, 6);
+    writer::fit_woven(out, b"#|RE|$\r", &[orc, id], d)
+}
+
+// Both, the ORC in what remains of the buffer behind the OBR.
+fn put_order(out: &mut [u8], s: &[u8], places: &[usize; 11], d: Delims) -> usize
+    requires { ⌜ (length (now s) ≤ 65536) × Cut 10 (now s) (now places) ⌝ }
+    ensures { λ r. ⌜ Added 0 (now (out .entry)) (groupText d 0 0 Name.Obr (linesOf (now (s .entry)))) r (now (out .exit)) ⌝ }
+    ensures within { λ r. ⌜ r ≤ 600000000 ⌝ }
+{
+    let at = order(out, &rules::OBR, s, places, d);
+    let from = least(at, out.len());
+    at + control(&mut out[from..], &rules::ORC, s, places, d)
 }
 
 // "a kana name is a second repetition with P"
@@ -236,15 +255,15 @@ fn put_group(
     d: Delims,
 ) -> usize
     requires { ⌜ (length (now s) ≤ 65536) × Cut 10 (now s) (now places) × (i ≤ 65536) × (j ≤ 65536) ⌝ }
-    ensures { λ r. ⌜ Fit r (now (out .exit)) (groupText d i j name (linesOf (now (s .entry)))) (now (out .entry)) ⌝ }
-    ensures within { λ r. ⌜ r ≤ 300000000 ⌝ }
+    ensures { λ r. ⌜ Added 0 (now (out .entry)) (groupText d i j name (linesOf (now (s .entry)))) r (now (out .exit)) ⌝ }
+    ensures within { λ r. ⌜ r ≤ 600000000 ⌝ }
 {
     match name {
         Name::Msh => header(out, &rules::MSH, s, places, d),
         Name::Pid => patient(out, &rules::PID, s, places, d),
         Name::Pv1 => visit(out, &rules::PV1, s, places, d),
         Name::Spm => specimen(out, &rules::SPM, s, places, i, d),
-        Name::Obr => order(out, &rules::OBR, &rules::ORC, s, places, d),
+        Name::Obr => put_order(out, s, places, d),
         Name::Orc => 0,
         Name::Obx => result(out, &rules::OBX, s, places, j, d),
         Name::Other => 0,
@@ -264,15 +283,6 @@ pub enum Passed {
     Not(Refusal),
 }
 
-fn least(a: usize, b: usize) -> usize
-    ensures { λ r. ⌜ (r ≤ a) × (r ≤ b) × (a ≤ b → r ≡ a) ⌝ }
-{
-    if a < b {
-        return a;
-    }
-    b
-}
-
 // A group behind the bytes that stand already, in what remains of the buffer.
 fn put_next(
     out: &mut [u8],
@@ -286,7 +296,7 @@ fn put_next(
 ) -> usize
     requires { ⌜ (length (now s) ≤ 65536) × Cut 10 (now s) (now places) × (i ≤ 65536) × (j ≤ 65536) × (at ≤ 1000000000000000) ⌝ }
     ensures { λ r. ⌜ Added at (now (out .entry)) (groupText d i j name (linesOf (now (s .entry)))) r (now (out .exit)) ⌝ }
-    ensures within { λ r. ⌜ r ≤ at + 300000000 ⌝ }
+    ensures within { λ r. ⌜ r ≤ at + 600000000 ⌝ }
 {
     let from = least(at, out.len());
     at + put_group(&mut out[from..], name, s, places, i, j, d)

@@ -48,15 +48,8 @@ specimen-requires c κs = search needs
 enum-told-5 : tie.Need-enum-told-5
 enum-told-5 c = search needs
 
-slice-aggregate-order : tie.Need-slice-aggregate-order
-slice-aggregate-order c = search needs
-
-slice-aggregate-order-2 : tie.Need-slice-aggregate-order-2
-slice-aggregate-order-2 c = search needs
-
-order-requires : tie.Need-order-requires
-unfolding spelling bytes
-order-requires c κs = search needs
+put-order-requires : tie.Need-put-order-requires
+put-order-requires c κs = search needs
 
 enum-told-6 : tie.Need-enum-told-6
 enum-told-6 c = search needs
@@ -133,9 +126,7 @@ put-group-spec =
     slice-aggregate-specimen
     specimen-requires
     enum-told-5
-    slice-aggregate-order
-    slice-aggregate-order-2
-    order-requires
+    put-order-requires
     enum-told-6
     enum-told-7
     slice-aggregate-result
