@@ -29,8 +29,7 @@ use Rattle.scan.specs.Scan.{until, is, ends, after, next, plainText, CutOf, Tai
 use Rattle.scan.proofs.Laws.{from-met, piece-met, ends-far}
 use Rattle.value.specs.Rules.{faultNo, ruleOf, rulesOf}
 use Rattle.value.specs.declared.Fault.{Fault}
-use Rattle.rules.specs.declared.Kind.the-variants.{Repeated, Escape, Value}
-use Rattle.value.specs.declared.Fault.the-variants.{Nothing, Found}
+use Rattle.value.specs.declared.Fault.the-variants.{Nothing, Repeated, Escape, Value}
 use Rattle.value.specs.declared.Rule.{Rule}
 use Rattle.value.specs.declared.Rule.the-variants.{Time, Date, Number, Text, Digits, Capitals, OneOf}
 use Rattle.value.specs.declared.Parts.{Parts}
@@ -129,7 +128,7 @@ module _ (t : List ℕ) (d : Delims) (n : ℕ) (more y : Bool) (p : Proper d) (e
   unfolding charsetFault faultNo
   charset-right h = record { told = cc (charset-same); long = e .long }
 
-  pub charset-wrong : y ≡ false → ClosedOf (charsetFault d) (fieldAt d t) (faultNo (Found Value)) n
+  pub charset-wrong : y ≡ false → ClosedOf (charsetFault d) (fieldAt d t) (faultNo Value) n
   unfolding charsetFault faultNo
   charset-wrong h = record { told = cc (charset-same); long = e .long }
 
@@ -262,11 +261,11 @@ module _ (t last : List ℕ) (d : Delims) (n k j : ℕ) (clean more : Bool) (p :
   shape-within h g =
       omega (arith, last-within t last d n p e, ap length (rest-is last k), length-drop k last)
 
-  pub shape-repeats : more ≡ true → ClosedOf (shapeFault d n) (fieldAt d t) (faultNo (Found Repeated)) (length t - length last + k + j)
+  pub shape-repeats : more ≡ true → ClosedOf (shapeFault d n) (fieldAt d t) (faultNo Repeated) (length t - length last + k + j)
   unfolding shapeFault faultNo
   shape-repeats h = record { told = cc (shape-more); long = shape-long }
 
-  pub shape-excess : more ≡ false → 0 < j → ClosedOf (shapeFault d n) (fieldAt d t) (faultNo (Found Escape)) (length t - length last + k + j)
+  pub shape-excess : more ≡ false → 0 < j → ClosedOf (shapeFault d n) (fieldAt d t) (faultNo Escape) (length t - length last + k + j)
   unfolding shapeFault faultNo
   shape-excess h l = record { told = cc (shape-more, shape-over h, lt-ltb 0 j l); long = shape-long }
 
@@ -343,7 +342,7 @@ module _ (x y : List ℕ) (p q r : Bool) (e : p ≡ empty x) (f : q ≡ empty y)
   unjoined-is : r ≡ unjoined (lastTwo x y)
   unjoined-is = g (lastTwo x y) (ap not e) (ap not f)
 
-  pub unjoined-yes : r ≡ true → faultNo (Found Value) ≡ unjoinedFault x y
+  pub unjoined-yes : r ≡ true → faultNo Value ≡ unjoinedFault x y
   unfolding unjoinedFault faultNo
   unjoined-yes h = rw (← unjoined-is, h)
 

@@ -1,6 +1,5 @@
 // The closed fields MSH-18, PID-5 and OBX-5, judged: each at the start of what is left of its segment.
 use rules::Delims;
-use rules::Kind;
 use value::Fault;
 use value::Parts;
 use value::Rule;
@@ -94,7 +93,7 @@ pub fn charset(t: &[u8], d: Delims) -> ClosedRead
         };
     }
     ClosedRead {
-        fault: Fault::Found(Kind::Value),
+        fault: Fault::Value,
         len,
     }
 }
@@ -180,13 +179,13 @@ fn shape(t: &[u8], d: Delims, n: usize) -> ClosedRead
     let len = t.len() - last.len() + k + e.len;
     if e.repeats {
         return ClosedRead {
-            fault: Fault::Found(Kind::Repeated),
+            fault: Fault::Repeated,
             len,
         };
     }
     if 0 < e.len {
         return ClosedRead {
-            fault: Fault::Found(Kind::Escape),
+            fault: Fault::Escape,
             len,
         };
     }
@@ -238,7 +237,7 @@ fn unjoined(joiner: &[u8], second: &[u8], d: Delims) -> Fault
     ensures { λ r. ⌜ faultNo r ≡ unjoinedFault (componentAt d (now (joiner .entry))) (componentAt d (now (second .entry))) ⌝ }
 {
     if value::unjoined(!blank(joiner, d), !blank(second, d)) {
-        return Fault::Found(Kind::Value);
+        return Fault::Value;
     }
     Fault::Nothing
 }

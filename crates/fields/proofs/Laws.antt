@@ -23,8 +23,7 @@ use Rattle.scan.specs.Scan.{until, is, ends, after, next, onward, CutOf, TailOf
 use Rattle.scan.proofs.Laws.{from-met, ends-far, far-is, after-field}
 use Rattle.value.specs.Rules.{ruleOf, faultNo, fineOf}
 use Rattle.value.specs.declared.Fault.{Fault}
-use Rattle.rules.specs.declared.Kind.the-variants.{Repeated}
-use Rattle.value.specs.declared.Fault.the-variants.{Nothing, Found}
+use Rattle.value.specs.declared.Fault.the-variants.{Nothing, Repeated}
 use Rattle.value.specs.declared.Rule.{Rule}
 use Rattle.judge.specs.Judge.{Small}
 use Rattle.closed.specs.Closed.{forward, charsetFault, ClosedOf, ValueOf}
@@ -45,7 +44,7 @@ unless-holds q f h = rw h
 pub unless-not : (q : Bool) (f : Fault) → q ≡ false → faultNo f ≡ (faultNo f when not q)
 unless-not q f h = rw h
 
-pub repeated-yes : (q : Bool) (f : Fault) → q ≡ true → faultNo (Found Repeated) ≡ (22 when q then faultNo f)
+pub repeated-yes : (q : Bool) (f : Fault) → q ≡ true → faultNo Repeated ≡ (22 when q then faultNo f)
 unfolding faultNo
 repeated-yes q f h = rw h
 

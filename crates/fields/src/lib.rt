@@ -1,7 +1,6 @@
 // One read field of a segment, as the table of document 01 lists it, and on from one field to the next.
 use closed::ClosedRead;
 use rules::Delims;
-use rules::Kind;
 use value::Fault;
 use value::Place;
 ghost use mathlib.Core.Path.{_≡_};
@@ -42,7 +41,7 @@ fn repeated(repeats: bool, f: Fault) -> Fault
     ensures { λ r. ⌜ faultNo r ≡ (22 when repeats then faultNo f) ⌝ }
 {
     if repeats {
-        return Fault::Found(Kind::Repeated);
+        return Fault::Repeated;
     }
     f
 }

@@ -1,6 +1,5 @@
 // One read component, judged: 21, 23, 20, 24, 25.
 use rules::Delims;
-use rules::Kind;
 use rules::Mode;
 use value::Fault;
 use value::Rule;
@@ -149,12 +148,12 @@ fn judge_escaped(raw: &[u8], d: Delims, required: bool, rule: Rule) -> Fault
     let mut buf = [0u8; 256];
     match unescape_into(raw, d, &mut buf) {
         Unescaped::Got(n) => value::fault_of(required, rule, &buf[..n]),
-        Unescaped::Faulty => Fault::Found(Kind::Escape),
+        Unescaped::Faulty => Fault::Escape,
         Unescaped::Over(n) => {
             if value::too_long(rule, n) {
-                return Fault::Found(Kind::Long);
+                return Fault::Long;
             }
-            Fault::Found(Kind::Value)
+            Fault::Value
         }
     }
 }
@@ -165,7 +164,7 @@ pub fn judge(raw: &[u8], clean: bool, d: Delims, required: bool, rule: Rule) -> 
     ensures { λ r. ⌜ faultNo r ≡ J.judge d required (ruleOf rule) (met (now (raw .entry))) ⌝ }
 {
     if value::equal(raw, b"\"\"") {
-        return Fault::Found(Kind::Null);
+        return Fault::Null;
     }
     if clean {
         return value::fault_of(required, rule, raw);

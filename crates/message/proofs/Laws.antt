@@ -27,7 +27,7 @@ use Rattle.rules.proofs.Lists.{over, rest-is, rest-further, rest-on, rest-end, 
 use Rattle.scan.specs.Scan.{until}
 use Rattle.scan.specs.Scan as Scan
 use Rattle.value.specs.declared.Fault.{Fault}
-use Rattle.value.specs.declared.Fault.the-variants.{Nothing, Found}
+use Rattle.value.specs.declared.Fault.the-variants.{Nothing}
 use Rattle.value.specs.Rules.{faultNo, fineOf}
 use Rattle.value.proofs.Laws.{fine-zero, fault-some}
 use Rattle.places.specs.Check.{here, FoundIn, OrderAt}
@@ -195,10 +195,6 @@ faulty f u e h = sym e ∙ not-true u h
 pub kind-none : (f : Fault) (n : ℕ) → f ≡ Nothing → fineOf f ≡ false → n ≡ faultNo f
 unfolding fineOf faultNo
 kind-none f n e h = absurd (false≢true (sym h ∙ ap fineOf e))
-
-pub kind-found : (f : Fault) (k : Kind) → f ≡ Found k → number k ≡ faultNo f
-unfolding faultNo
-kind-found f k e = rw e
 
 module _ (m : List ℕ) (p : Framed) (ep : framedTold p ≡ frameOf m) where
   pub check-not : (r : Refusal) → p ≡ Not r → told (Refused r) ≡ checkTold m

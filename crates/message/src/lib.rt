@@ -75,6 +75,13 @@ fn kind_of(f: Fault) -> Kind
 {
     match f {
         Fault::Nothing => Kind::Value,
-        Fault::Found(kind) => kind,
+        Fault::Missing => Kind::Missing,
+        Fault::Null => Kind::Null,
+        Fault::Repeated => Kind::Repeated,
+        Fault::Escape => Kind::Escape,
+        Fault::Long => Kind::Long,
+        Fault::Value => Kind::Value,
+        Fault::Status => Kind::Status,
+        Fault::Differs => Kind::Differs,
     }
 }

@@ -21,8 +21,7 @@ use Rattle.rules.specs.Judge.{rawFour, beside, valueFault, agrees}
 use Rattle.rules.proofs.Logic.{never, then-zero}
 use Rattle.scan.specs.Scan.{until, is, onward}
 use Rattle.value.specs.declared.Fault.{Fault}
-use Rattle.rules.specs.declared.Kind.the-variants.{Status, Differs}
-use Rattle.value.specs.declared.Fault.the-variants.{Nothing, Found}
+use Rattle.value.specs.declared.Fault.the-variants.{Nothing, Status, Differs}
 use Rattle.value.specs.Rules.{ruleOf, textOf, faultNo, fineOf}
 use Rattle.value.specs.declared.Words.the-variants.{Oul, R22, OulR22, Modes, Version, Sexes, Classes, Jc10, Group, Re, Types, Flags, Statuses}
 use Rattle.value.specs.declared.Rule.the-variants.{Time, Date, Text, Digits, Capitals, OneOf}
@@ -84,7 +83,7 @@ module _ {d : Delims} {s : List ℕ} {a b c : Walk} where
     within = x .part;
   }
 
-  pub orc-found : (order : List ℕ) (k u : Fault) (q : Bool) → Proper d → faultNo k ≡ (faultNo (c .fault) then faultNo u) → faultNo u ≡ (faultNo (Found Differs) when not q)
+  pub orc-found : (order : List ℕ) (k u : Fault) (q : Bool) → Proper d → faultNo k ≡ (faultNo (c .fault) then faultNo u) → faultNo u ≡ (faultNo Differs when not q)
       → q ≡ same (take (c .start + c .head - c .start) (drop (c .start) s)) order
       → To d s 2 (One (Must (Digits 15))) b c → To d s 1 (One (Must (OneOf Re))) a b → Begins 0 a
       → FoundIn Orc d order (met s) (c .field) (faultNo k)
@@ -139,7 +138,7 @@ module _ {d : Delims} {s : List ℕ} {w₀ w₁ w₂ w : Walk} {number parts : B
 
 -- and from there on
 module _ {d : Delims} {s : List ℕ} {w₃ w₄ w₅ w : Walk} {number parts : Bool} where
-  pub obx-found : (k u : Fault) (q : Bool) → Proper d → faultNo k ≡ (faultNo (w .fault) then faultNo u) → faultNo u ≡ (faultNo (Found Status) when not q)
+  pub obx-found : (k u : Fault) (q : Bool) → Proper d → faultNo k ≡ (faultNo (w .fault) then faultNo u) → faultNo u ≡ (faultNo Status when not q)
       → ((c : Four (List ℕ)) → number ≡ L.filled (c .value) → parts ≡ beside c → q ≡ agrees (take (w .start + w .head - w .start) (drop (w .start) s)) c)
       → To d s 11 (One (Must (OneOf Statuses))) w₅ w → To d s 8 (One (May (OneOf Flags))) w₄ w₅ → To d s 6 (One (May (Text 20))) w₃ w₄ → ResultAt d s w₃ number parts
       → (order : List ℕ) → FoundIn Obx d order (met s) (w .field) (faultNo k)

@@ -10,7 +10,6 @@ use fields::field;
 use fields::unless;
 use fields::value_field;
 use rules::Delims;
-use rules::Kind;
 use rules::Name;
 use value::Fault;
 use value::Place::Unread;
@@ -125,7 +124,7 @@ pub fn orc(s: &[u8], d: Delims, order: &[u8]) -> Found
     let at = w.start;
     let end = at + w.head;
     let same = value::equal(&s[at..end], order);
-    let fault = value::earlier(f, unless(same, Fault::Found(Kind::Differs)));
+    let fault = value::earlier(f, unless(same, Fault::Differs));
     Found {
         fault,
         field: w.field,
@@ -162,7 +161,7 @@ pub fn obx(s: &[u8], d: Delims) -> Found
     let at = w.start;
     let end = at + w.head;
     let agrees = value::agrees(&s[at..end], v.filled, v.beside);
-    let fault = value::earlier(f, unless(agrees, Fault::Found(Kind::Status)));
+    let fault = value::earlier(f, unless(agrees, Fault::Status));
     Found {
         fault,
         field: w.field,

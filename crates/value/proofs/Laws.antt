@@ -17,8 +17,6 @@ use Rattle.rules.specs.Frame.{digit, capitalOrDigit}
 use Rattle.rules.specs.Value as Val
 use Rattle.rules.specs.Places.{Four, valueRules}
 use Rattle.rules.specs.Judge.{agrees, beside, unjoined}
-use Rattle.rules.specs.declared.Kind.{Kind}
-use Rattle.rules.proofs.Unique.{number-unique, number-some}
 use Rattle.rules.proofs.Logic.{cases, never, both, and-false, or-assoc, and-true, or-false}
 use Rattle.rules.proofs.Lists.{here, over, rest-is, rest-shorter, part-length, empty-zero, filled-some, all-cons, any-cons, any-nil}
 use Rattle.scan.specs.Scan.{until, is}
@@ -30,8 +28,7 @@ use Rattle.value.specs.declared.Rule.{Rule}
 use Rattle.value.specs.declared.Rule.the-variants.{Number, Text, OneOf}
 use Rattle.value.specs.declared.Parts.{Parts}
 use Rattle.value.specs.declared.Fault.{Fault}
-use Rattle.rules.specs.declared.Kind.the-variants.{Missing, Long, Value}
-use Rattle.value.specs.declared.Fault.the-variants.{Nothing, Found}
+use Rattle.value.specs.declared.Fault.the-variants.{Nothing, Missing, Null, Repeated, Escape, Long, Value, Status, Differs}
 use Rattle.value.specs.declared.Spelling.{Spelling}
 
 -- ---- general: a walk by an index, over the bytes that are left
@@ -124,31 +121,48 @@ split-more sep (x ∷ s) h =
     cc (split-more sep s (omega arith)))
 
 -- ---- no fault
-pub fine-yes : (f : Fault) → f ≡ Nothing → true ≡ fineOf f
-unfolding fineOf
-fine-yes f e = rw e
-
-pub fine-no : (f : Fault) (k : Kind) → f ≡ Found k → false ≡ fineOf f
-unfolding fineOf
-fine-no f k e = rw e
-
 pub fine-zero : (f : Fault) → fineOf f ≡ true → faultNo f ≡ 0
 unfolding fineOf faultNo
 fine-zero Nothing h = refl
-fine-zero (Found k) h = never (sym h)
+fine-zero Missing h = never (sym h)
+fine-zero Null h = never (sym h)
+fine-zero Repeated h = never (sym h)
+fine-zero Escape h = never (sym h)
+fine-zero Long h = never (sym h)
+fine-zero Value h = never (sym h)
+fine-zero Status h = never (sym h)
+fine-zero Differs h = never (sym h)
 
 pub fault-some : (f : Fault) → fineOf f ≡ false → faultNo f ≡ suc (faultNo f - 1)
 unfolding fineOf faultNo
 fault-some Nothing h = never h
-fault-some (Found k) h = omega (arith, number-some k)
+fault-some Missing h = refl
+fault-some Null h = refl
+fault-some Repeated h = refl
+fault-some Escape h = refl
+fault-some Long h = refl
+fault-some Value h = refl
+fault-some Status h = refl
+fault-some Differs h = refl
 
--- two faults with one number are the same
-pub fault-unique : (f g : Fault) → faultNo f ≡ faultNo g → f ≡ g
+-- the fault of a number: two faults with one number are the same
+abbrev faultWith : ℕ → Fault
+faultWith n = cond (eqb n 20) Missing (cond (eqb n 21) Null (cond (eqb n 22) Repeated (cond (eqb n 23) Escape (cond (eqb n 24) Long (cond (eqb n 25) Value (cond (eqb n 26) Status (cond (eqb n 27) Differs Nothing)))))))
+
+fault-back : (f : Fault) → faultWith (faultNo f) ≡ f
 unfolding faultNo
-fault-unique Nothing Nothing e = refl
-fault-unique Nothing (Found k) e = absurd (omega (arith, number-some k))
-fault-unique (Found k) Nothing e = absurd (omega (arith, number-some k))
-fault-unique (Found k) (Found l) e = ap Found (number-unique k l e)
+fault-back Nothing = refl
+fault-back Missing = refl
+fault-back Null = refl
+fault-back Repeated = refl
+fault-back Escape = refl
+fault-back Long = refl
+fault-back Value = refl
+fault-back Status = refl
+fault-back Differs = refl
+
+pub fault-unique : (f g : Fault) → faultNo f ≡ faultNo g → f ≡ g
+fault-unique f g e = sym (fault-back f) ∙ ap faultWith e ∙ fault-back g
 
 -- the earlier of two
 module _ (a b : Fault) (q : Bool) (e : q ≡ fineOf a) where
@@ -356,7 +370,7 @@ pub ruleset too_long·laws = (long-never, long-above)
 
 -- ---- 20, 24, 25
 module _ (required : Bool) (rule : Rule) (v : List ℕ) where
-  pub fault-missing : length v ≡ 0 → required ≡ true → faultNo (Found Missing) ≡ Val.fault required (ruleOf rule) v
+  pub fault-missing : length v ≡ 0 → required ≡ true → faultNo Missing ≡ Val.fault required (ruleOf rule) v
   unfolding faultNo Val.fault
   fault-missing h e = cc (empty-zero v h)
 
@@ -365,7 +379,7 @@ module _ (required : Bool) (rule : Rule) (v : List ℕ) where
   fault-blank h e = cc (empty-zero v h)
 
   module _ (h : length v ≡ 0 → ⊥) (t : Bool) (e : (u : List ℕ) → length u ≡ length v → t ≡ Val.tooLong (ruleOf rule) u) where
-    pub fault-long : t ≡ true → faultNo (Found Long) ≡ Val.fault required (ruleOf rule) v
+    pub fault-long : t ≡ true → faultNo Long ≡ Val.fault required (ruleOf rule) v
     unfolding faultNo Val.fault
     fault-long y = cc (filled-some v h, e v refl)
 
@@ -373,7 +387,7 @@ module _ (required : Bool) (rule : Rule) (v : List ℕ) where
     unfolding faultNo Val.fault
     fault-none q y g z = cc (filled-some v h, e v refl)
 
-    pub fault-value : (q : Bool) → t ≡ false → q ≡ Val.holds (ruleOf rule) v → q ≡ false → faultNo (Found Value) ≡ Val.fault required (ruleOf rule) v
+    pub fault-value : (q : Bool) → t ≡ false → q ≡ Val.holds (ruleOf rule) v → q ≡ false → faultNo Value ≡ Val.fault required (ruleOf rule) v
     unfolding faultNo Val.fault
     fault-value q y g z = cc (filled-some v h, e v refl)
 

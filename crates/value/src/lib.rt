@@ -1,5 +1,4 @@
 // The value rules of the read places, over plain bytes: a component that is unescaped, or a value of a sheet.
-use rules::Kind;
 ghost use mathlib.Core.Path.{_≡_};
 ghost use mathlib.Core.List.{List, foldl};
 ghost use Prim.Native.Nat.{ℕ, _+_, _-_, _<_, _≤_};
@@ -17,10 +16,17 @@ ghost use Rattle.value.specs.Number.{readByte, unread};
 
 pub mod table;
 
-// What a read place breaks: nothing, or the refusal's kind.
+// What a read place breaks: nothing, or one of the refusals 20 to 27.
 pub enum Fault {
     Nothing,
-    Found(Kind),
+    Missing,
+    Null,
+    Repeated,
+    Escape,
+    Long,
+    Value,
+    Status,
+    Differs,
 }
 
 // The words that a place may hold.
@@ -75,7 +81,14 @@ pub fn fine(f: Fault) -> bool
 {
     match f {
         Fault::Nothing => true,
-        Fault::Found(_) => false,
+        Fault::Missing => false,
+        Fault::Null => false,
+        Fault::Repeated => false,
+        Fault::Escape => false,
+        Fault::Long => false,
+        Fault::Value => false,
+        Fault::Status => false,
+        Fault::Differs => false,
     }
 }
 
@@ -408,17 +421,17 @@ pub fn fault_of(required: bool, rule: Rule, v: &[u8]) -> Fault
 {
     if v.len() == 0 {
         if required {
-            return Fault::Found(Kind::Missing);
+            return Fault::Missing;
         }
         return Fault::Nothing;
     }
     if too_long(rule, v.len()) {
-        return Fault::Found(Kind::Long);
+        return Fault::Long;
     }
     if holds(rule, v) {
         return Fault::Nothing;
     }
-    Fault::Found(Kind::Value)
+    Fault::Value
 }
 
 // ---- OBX-5: comparator, number or text, joiner, second number

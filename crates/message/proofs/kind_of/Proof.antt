@@ -1,20 +1,91 @@
 -- `message::kind_of` meets its contract. Assumes nothing.
 use borrow.Author.Needs.{needs}
-use Rattle.message.proofs.Laws.{kind-none, kind-found}
+use Rattle.value.specs.Rules.{faultNo}
+use Rattle.message.proofs.Laws.{kind-none}
 use Rattle.message.proofs.kind_of.Statement.{statement}
 use Rattle.message.proofs.kind_of.Tie as tie
 
 enum-told : tie.Need-enum-told
 enum-told c = search needs
 
-enum-known-f : tie.Need-enum-known-f
-enum-known-f c = search needs
+enum-told-2 : tie.Need-enum-told-2
+enum-told-2 c = search needs
+
+enum-told-3 : tie.Need-enum-told-3
+enum-told-3 c = search needs
+
+enum-told-4 : tie.Need-enum-told-4
+enum-told-4 c = search needs
+
+enum-told-5 : tie.Need-enum-told-5
+enum-told-5 c = search needs
+
+enum-told-6 : tie.Need-enum-told-6
+enum-told-6 c = search needs
+
+enum-told-7 : tie.Need-enum-told-7
+enum-told-7 c = search needs
+
+enum-told-8 : tie.Need-enum-told-8
+enum-told-8 c = search needs
+
+enum-told-9 : tie.Need-enum-told-9
+enum-told-9 c = search needs
 
 returns : tie.Need-returns
 returns c = search (kind-none, needs)
 
 returns-2 : tie.Need-returns-2
-returns-2 c = search (kind-found, needs)
+unfolding faultNo
+returns-2 c = search needs
+
+returns-3 : tie.Need-returns-3
+unfolding faultNo
+returns-3 c = search needs
+
+returns-4 : tie.Need-returns-4
+unfolding faultNo
+returns-4 c = search needs
+
+returns-5 : tie.Need-returns-5
+unfolding faultNo
+returns-5 c = search needs
+
+returns-6 : tie.Need-returns-6
+unfolding faultNo
+returns-6 c = search needs
+
+returns-7 : tie.Need-returns-7
+unfolding faultNo
+returns-7 c = search needs
+
+returns-8 : tie.Need-returns-8
+unfolding faultNo
+returns-8 c = search needs
+
+returns-9 : tie.Need-returns-9
+unfolding faultNo
+returns-9 c = search needs
 
 pub kind-of-spec : {M : Type 1} → statement M
-kind-of-spec = tie.close (tie.spec enum-told enum-known-f returns returns-2)
+kind-of-spec =
+    tie.close
+    (tie.spec
+    enum-told
+    enum-told-2
+    enum-told-3
+    enum-told-4
+    enum-told-5
+    enum-told-6
+    enum-told-7
+    enum-told-8
+    enum-told-9
+    returns
+    returns-2
+    returns-3
+    returns-4
+    returns-5
+    returns-6
+    returns-7
+    returns-8
+    returns-9)
