@@ -1,15 +1,14 @@
 -- Laws of the value rules, and for each function the set of those that its proof searches. Assumes nothing.
+use Prim.Native.String.{String}
 use Prim.Native.Nat.{ℕ, suc, _+_, _-_, _*_, _≤_, _<_}
 use native.Mathlib.Nat.{zero-add}
-use native.Mathlib.Numerals.{add-one}
 use native.Mathlib.Omega.{arith}
 use mathlib.Core.Path.{_≡_, refl, sym, ap, _∙_}
 use mathlib.Core.List.{List, [], _∷_, foldl}
 use mathlib.Core.Bool.{Bool, true, false, cond, not, _&&_, _||_}
-use borrow.Author.Tests.{ltb-true, ltb-false, eqb-true, ne-eqb, eq-eqb, le-leb, lt-leb, not-true, not-false}
+use borrow.Author.Tests.{eqb-true, ne-eqb, eq-eqb, le-leb, lt-leb, not-true, not-false}
 use lib.Dec.{eqb, leb, ltb}
 use lib.ListN.{length, getD, take, drop}
-use lib.Seq.{take-all}
 use Rattle.rules.specs.Lists.{bytes, empty, filled, all, any, count, same, split, onto, isOneOf}
 use Rattle.rules.specs.Shift.{within}
 use Rattle.rules.specs.Told.{_then_}
@@ -18,9 +17,9 @@ use Rattle.rules.specs.Value as Val
 use Rattle.rules.specs.Places.{Four, valueRules}
 use Rattle.rules.specs.Judge.{agrees, beside, unjoined}
 use Rattle.rules.proofs.Logic.{cases, never, both, and-false, or-assoc, and-true, or-false}
-use Rattle.rules.proofs.Lists.{here, over, rest-is, rest-shorter, part-length, empty-zero, filled-some, all-cons, any-cons, any-nil}
+use Rattle.rules.proofs.Lists.{here, over, rest-is, empty-zero, filled-some, all-cons, any-cons}
 use Rattle.scan.specs.Scan.{until, is}
-use Rattle.value.specs.Rules.{oneOf, textOf, ruleOf, rulesOf, faultNo, fineOf}
+use Rattle.value.specs.Rules.{textOf, ruleOf, rulesOf, faultNo, fineOf}
 use Rattle.value.specs.Number.{readByte, unread}
 use Rattle.value.specs.declared.Words.{Words}
 use Rattle.value.specs.declared.Words.the-variants.{Blank, Comparators, Joiners}
@@ -193,32 +192,39 @@ capitals-all v n r h e = cc (le-leb (length v) n h)
 
 pub ruleset capitals·laws = (capitals-more, capitals-all)
 
--- ---- one of some words: the rest of them, whose first has n bytes
-module _ (words v rest : List ℕ) (n : ℕ) (r : Bool) (inv : oneOf words v ≡ oneOf rest v) (en : n ≡ length (until (is 0x20) rest)) (er : r ≡ same v (take n rest)) where
-  last-word : n ≡ length rest → oneOf words v ≡ r
-  unfolding oneOf
-  last-word h =
-      inv ∙ ap (any (same v)) (split-last 0x20 rest (sym en ∙ h)) ∙ any-cons (same v) rest []
-      ∙ cc (any-nil (same v), take-all n rest (omega arith), or-false (same v rest))
+-- ---- one of some words
+or-chain : {A : Type 0} (p : A → Bool) (q : Bool) (ws : List A) → (q || any p ws) ≡ foldl (λ (r : Bool) (w : A). r || p w) q ws
+unfolding any
+or-chain p q [] = or-false q
+or-chain p q (w ∷ ws) = ap (λ (r : Bool). q || r) (any-cons p w ws) ∙ or-assoc q (p w) (any p ws) ∙ or-chain p (q || p w) ws
 
-  next-word : n < length rest → oneOf words v ≡ (r || oneOf (drop (n + 1) rest) v)
-  unfolding oneOf
-  next-word h =
-      let e : split 0x20 rest ≡ take n rest ∷ split 0x20 (drop (suc n) rest) = rw (← en) at (split-more 0x20 rest (rw en at h)) in
-      inv ∙ ap (any (same v)) e ∙ any-cons (same v) (take n rest) (split 0x20 (drop (suc n) rest)) ∙ rw (add-one, er)
+module _ (words : String) (v : List ℕ) where
+  words-are : (a : List ℕ) (more : List (List ℕ)) → split 0x20 (bytes words) ≡ a ∷ more → foldl (λ (r : Bool) (w : List ℕ). r || same v w) (same v a) more ≡ isOneOf words v
+  unfolding isOneOf
+  words-are a more e = sym (ap (any (same v)) e ∙ any-cons (same v) a more ∙ or-chain (same v) (same v a) more)
 
-  pub word-found : n ≤ length rest → r ≡ true → true ≡ oneOf words v
-  word-found h y =
-      cases (ltb n (length rest)) (λ t. cc (next-word (ltb-true n (length rest) t)))
-      (λ t. let z : length rest ≤ n = ltb-false n (length rest) t in cc (last-word (omega arith)))
+  module _ (a : List ℕ) (p : Bool) (ep : p ≡ same v a) where
+    pub one-word : split 0x20 (bytes words) ≡ a ∷ [] → p ≡ isOneOf words v
+    one-word e = rw ep (words-are a [] e)
 
-  pub word-none : r ≡ false → n ≡ length rest → false ≡ oneOf words v
-  word-none y h = cc (last-word h)
+    module _ (b : List ℕ) (q : Bool) (eq : q ≡ same v b) where
+      pub two-words : split 0x20 (bytes words) ≡ a ∷ b ∷ [] → (p || q) ≡ isOneOf words v
+      two-words e = rw (ep, eq) (words-are a (b ∷ []) e)
 
-  pub word-goes : n ≤ length rest → r ≡ false → (n ≡ length rest → ⊥) → oneOf words v ≡ oneOf (take (length rest - (n + 1)) (drop (n + 1) rest)) v
-  word-goes k y h = let z : n < length rest = omega (arith, h) in cc (next-word z, rest-is rest (n + 1))
+      module _ (c : List ℕ) (r : Bool) (er : r ≡ same v c) where
+        pub three-words : split 0x20 (bytes words) ≡ a ∷ b ∷ c ∷ [] → ((p || q) || r) ≡ isOneOf words v
+        three-words e = rw (ep, eq, er) (words-are a (b ∷ c ∷ []) e)
 
-pub ruleset one_of·laws = (word-found, word-none, word-goes, rest-shorter, part-length)
+        module _ (d : List ℕ) (s : Bool) (es : s ≡ same v d) where
+          pub four-words : split 0x20 (bytes words) ≡ a ∷ b ∷ c ∷ d ∷ [] → (((p || q) || r) || s) ≡ isOneOf words v
+          four-words e = rw (ep, eq, er, es) (words-are a (b ∷ c ∷ d ∷ []) e)
+
+          module _ (f : List ℕ) (t : Bool) (et : t ≡ same v f) where
+            pub five-words : split 0x20 (bytes words) ≡ a ∷ b ∷ c ∷ d ∷ f ∷ [] → ((((p || q) || r) || s) || t) ≡ isOneOf words v
+            five-words e = rw (ep, eq, er, es, et) (words-are a (b ∷ c ∷ d ∷ f ∷ []) e)
+
+            pub six-words : (g : List ℕ) (u : Bool) → u ≡ same v g → split 0x20 (bytes words) ≡ a ∷ b ∷ c ∷ d ∷ f ∷ g ∷ [] → (((((p || q) || r) || s) || t) || u) ≡ isOneOf words v
+            six-words g u eu e = rw (ep, eq, er, es, et, eu) (words-are a (b ∷ c ∷ d ∷ f ∷ g ∷ []) e)
 
 -- ---- NM
 pub read-is : (t : Spelling) (b : ℕ) (d : Bool) → d ≡ digit b
@@ -351,9 +357,8 @@ pub ruleset is_date·laws = (date-no, date-is, digits-length)
 pub ruleset is_time·laws = (time-no, time-is, digits-length)
 
 -- ---- words and rules by their names
-pub word-is : (w x : Words) (v l : List ℕ) (r : Bool) → w ≡ x → bytes (textOf x) ≡ l → r ≡ oneOf l v → r ≡ isOneOf (textOf w) v
-unfolding oneOf isOneOf
-word-is w x v l r e g h = cc
+pub word-is : (w x : Words) (v : List ℕ) (r : Bool) → w ≡ x → r ≡ isOneOf (textOf x) v → r ≡ isOneOf (textOf w) v
+word-is w x v r e h = cc
 
 pub holds-is : (rule x : Rule) (v : List ℕ) (r : Bool) → rule ≡ x → r ≡ Val.holds (ruleOf x) v → r ≡ Val.holds (ruleOf rule) v
 holds-is rule x v r e h = cc
@@ -423,11 +428,11 @@ unfolding unjoined
 unjoined-is y z c ey ez = rw (ey, ez) (cases (empty (c .join)) (λ q. cc) (λ q. cc))
 
 -- ---- OBX-11 against OBX-5
-module _ (status : List ℕ) (number parts y : Bool) (e : y ≡ oneOf (70 ∷ 32 ∷ 80 ∷ 32 ∷ 67 ∷ []) status) where
+module _ (status : List ℕ) (number parts y : Bool) (e : y ≡ isOneOf "F P C" status) where
   pub agrees-filled : y ≡ true → (c : Four (List ℕ)) → number ≡ filled (c .value) → parts ≡ beside c → number ≡ agrees status c
-  unfolding agrees isOneOf oneOf bytes
+  unfolding agrees
   agrees-filled h c en ep = rw (sym e ∙ h) en
 
   pub agrees-empty : y ≡ false → (c : Four (List ℕ)) → number ≡ filled (c .value) → parts ≡ beside c → (not number && not parts) ≡ agrees status c
-  unfolding agrees isOneOf oneOf bytes
+  unfolding agrees
   agrees-empty h c en ep = rw (sym e ∙ h) (cases (empty (c .value)) (λ q. cc) (λ q. cc))

@@ -11,7 +11,7 @@ ghost use Rattle.rules.specs.Value as Val;
 ghost use Rattle.rules.specs.Places.{Four, valueRules};
 ghost use Rattle.rules.specs.Judge as Judge;
 ghost use Rattle.scan.specs.Scan.{until, is};
-ghost use Rattle.value.specs.Rules.{faultNo, fineOf, textOf, ruleOf, rulesOf, oneOf};
+ghost use Rattle.value.specs.Rules.{faultNo, fineOf, textOf, ruleOf, rulesOf};
 ghost use Rattle.value.specs.Number.{readByte, unread};
 
 pub mod table;
@@ -202,44 +202,45 @@ pub fn before(s: &[u8], sep: u8) -> usize
     i
 }
 
-// Whether v is one of the words, which have a blank between each two.
-pub fn one_of(v: &[u8], words: &[u8]) -> bool
-    ensures { λ r. ⌜ r ≡ oneOf (now (words .entry)) (now (v .entry)) ⌝ }
-{
-    let mut rest = words;
-    loop {
-        let n = before(rest, 0x20);
-        if equal(v, &rest[..n]) {
-            return true;
-        }
-        if n == rest.len() {
-            return false;
-        }
-        rest = &rest[n + 1..];
-    }
-}
-
 // Whether v is one of the words of a place.
 fn is_word(words: Words, v: &[u8]) -> bool
     ensures { λ r. ⌜ r ≡ isOneOf (textOf words) (now (v .entry)) ⌝ }
 {
     match words {
-        Words::Oul => one_of(v, b"OUL"),
-        Words::R22 => one_of(v, b"R22"),
-        Words::OulR22 => one_of(v, b"OUL_R22"),
-        Words::Modes => one_of(v, b"P T D"),
-        Words::Version => one_of(v, b"2.5"),
-        Words::Sexes => one_of(v, b"M F O U"),
-        Words::Classes => one_of(v, b"I O"),
-        Words::Jc10 => one_of(v, b"JC10"),
-        Words::Group => one_of(v, b"99003"),
-        Words::Re => one_of(v, b"RE"),
-        Words::Types => one_of(v, b"NM SN ST"),
-        Words::Flags => one_of(v, b"L H LL HH N A"),
-        Words::Statuses => one_of(v, b"F P C I X"),
-        Words::Blank => one_of(v, b""),
-        Words::Comparators => one_of(v, b"> < >= <= = <>"),
-        Words::Joiners => one_of(v, b"- + / . :"),
+        Words::Oul => equal(v, b"OUL"),
+        Words::R22 => equal(v, b"R22"),
+        Words::OulR22 => equal(v, b"OUL_R22"),
+        Words::Modes => equal(v, b"P") | equal(v, b"T") | equal(v, b"D"),
+        Words::Version => equal(v, b"2.5"),
+        Words::Sexes => equal(v, b"M") | equal(v, b"F") | equal(v, b"O") | equal(v, b"U"),
+        Words::Classes => equal(v, b"I") | equal(v, b"O"),
+        Words::Jc10 => equal(v, b"JC10"),
+        Words::Group => equal(v, b"99003"),
+        Words::Re => equal(v, b"RE"),
+        Words::Types => equal(v, b"NM") | equal(v, b"SN") | equal(v, b"ST"),
+        Words::Flags => equal(v, b"L")
+            | equal(v, b"H")
+            | equal(v, b"LL")
+            | equal(v, b"HH")
+            | equal(v, b"N")
+            | equal(v, b"A"),
+        Words::Statuses => equal(v, b"F")
+            | equal(v, b"P")
+            | equal(v, b"C")
+            | equal(v, b"I")
+            | equal(v, b"X"),
+        Words::Blank => equal(v, b""),
+        Words::Comparators => equal(v, b">")
+            | equal(v, b"<")
+            | equal(v, b">=")
+            | equal(v, b"<=")
+            | equal(v, b"=")
+            | equal(v, b"<>"),
+        Words::Joiners => equal(v, b"-")
+            | equal(v, b"+")
+            | equal(v, b"/")
+            | equal(v, b".")
+            | equal(v, b":"),
     }
 }
 
@@ -467,7 +468,7 @@ pub fn unjoined(join: bool, second: bool) -> bool
 pub fn agrees(status: &[u8], number: bool, parts: bool) -> bool
     ensures { λ r. ⌜ ((c : Four (List ℕ)) → number ≡ filled (c .value) → parts ≡ Judge.beside c → r ≡ Judge.agrees (now (status .entry)) c) ⌝ }
 {
-    if one_of(status, b"F P C") {
+    if equal(status, b"F") | equal(status, b"P") | equal(status, b"C") {
         return number;
     }
     !number & !parts

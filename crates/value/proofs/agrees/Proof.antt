@@ -1,20 +1,45 @@
--- `value::agrees` meets its contract.
+-- `value::agrees` meets its contract. Assumes nothing.
 use borrow.Author.Needs.{needs}
-use Rattle.value.proofs.Laws.{agrees-empty, agrees-filled}
+use Rattle.rules.specs.Lists.{bytes, split, onto}
+use Rattle.value.proofs.Laws.{agrees-empty, agrees-filled, three-words}
 use Rattle.value.proofs.agrees.Statement.{statement}
 use Rattle.value.proofs.agrees.Tie as tie
 
-slice-aggregate-one-of : tie.Need-slice-aggregate-one-of
-slice-aggregate-one-of c = search needs
+slice-aggregate-equal : tie.Need-slice-aggregate-equal
+slice-aggregate-equal c = search needs
 
-one-of-requires : tie.Need-one-of-requires
-one-of-requires c κs = search needs
+equal-requires : tie.Need-equal-requires
+equal-requires c κs = search needs
+
+slice-aggregate-equal-2 : tie.Need-slice-aggregate-equal-2
+slice-aggregate-equal-2 c = search needs
+
+equal-requires-2 : tie.Need-equal-requires-2
+equal-requires-2 c κs = search needs
+
+slice-aggregate-equal-3 : tie.Need-slice-aggregate-equal-3
+slice-aggregate-equal-3 c = search needs
+
+equal-requires-3 : tie.Need-equal-requires-3
+equal-requires-3 c κs = search needs
 
 returns : tie.Need-returns
-returns c = search (agrees-filled, needs)
+unfolding bytes split onto
+returns c = search (agrees-filled, three-words, needs)
 
 returns-2 : tie.Need-returns-2
-returns-2 c = search (agrees-filled, agrees-empty, needs)
+unfolding bytes split onto
+returns-2 c = search (agrees-empty, three-words, needs)
 
 pub agrees-spec : {M : Type 1} → statement M
-agrees-spec = tie.close (tie.spec slice-aggregate-one-of one-of-requires returns returns-2)
+agrees-spec =
+    tie.close
+    (tie.spec
+    slice-aggregate-equal
+    equal-requires
+    slice-aggregate-equal-2
+    equal-requires-2
+    slice-aggregate-equal-3
+    equal-requires-3
+    returns
+    returns-2)
