@@ -1,12 +1,12 @@
 -- The laws of a segment's lines. Assumes nothing.
-use Prim.Native.Nat.{ℕ, suc, _+_, _-_, _≤_}
+use Prim.Native.Nat.{ℕ, zero, suc, _+_, _-_, _≤_}
 use native.Mathlib.Omega.{arith}
-use mathlib.Core.Path.{_≡_, sym, ap, _∙_}
+use mathlib.Core.Path.{_≡_, refl, sym, ap, _∙_}
 use mathlib.Core.List.{List, [], _∷_, _++_}
-use mathlib.Core.Bool.{Bool, true, false, _&&_}
+use mathlib.Core.Bool.{Bool, true, false, _&&_, _||_}
 use borrow.Author.Tests.{ne-eqb}
 use lib.Dec.{eqb}
-use lib.ListN.{length, take}
+use lib.ListN.{length, take, drop}
 use Rattle.rules.specs.declared.Delims.{Delims}
 use Rattle.rules.specs.declared.Name.the-variants.{Msh, Pid, Pv1, Spm, Obr, Obx}
 use Rattle.rules.specs.Lists.{bytes, has, nth, same, split}
@@ -18,17 +18,19 @@ use Rattle.rules.specs.Escape.{unescape, unescapeAt}
 use Rattle.rules.specs.Judge.{plainOf, unescapedOr, firstMarked, isSN, rawFour}
 use Rattle.rules.specs.Row.{line, lines}
 use Rattle.rules.specs.Sheet.{keyOf, linesText}
-use Rattle.rules.proofs.Logic.{cases}
-use Rattle.rules.proofs.Lists.{part-length}
+use Rattle.rules.proofs.Logic.{cases, neither}
+use Rattle.rules.proofs.Lists.{part-length, rest-is}
 use Rattle.rules.proofs.Modes.{length-met}
-use Rattle.scan.specs.Scan.{until, is, ends, onward, next, TailOf}
-use Rattle.scan.proofs.Laws.{piece-met, onward-add, first-piece}
+use Rattle.rules.proofs.Header.{delim-small}
+use Rattle.scan.specs.Scan.{until, is, ends, after, onward, next, CutOf, TailOf}
+use Rattle.scan.proofs.Laws.{Far, far-is, ends-far, from-met, piece-met, onward-add, first-piece}
 use Rattle.judge.specs.Judge.{fill}
 use Rattle.closed.specs.Closed.{forward, MarkedOf}
 use Rattle.closed.proofs.Pieces.{piece-at, onward-within, until-free, repetition-is, component-at}
+use Rattle.closed.proofs.Laws.{head-met}
 use Rattle.report.specs.Fill.{Filled, Lined, keyed}
 use Rattle.report.proofs.Filling.{lined-then}
-use Rattle.report.specs.Section.{linesIn, modeLines, nameLines, namesLines, birthLines, itemLines, fourLines, fourIn, statusLines}
+use Rattle.report.specs.Section.{Leads, linesIn, modeLines, nameLines, namesLines, birthLines, personLines, itemLines, observedLines, fourLines, fourIn, statusLines}
 
 -- ---- walking
 pub field-within : (sep n : ℕ) (t r : List ℕ) → met r ≡ onward sep n (met t) → length r ≤ length t
@@ -36,6 +38,41 @@ field-within sep n t r e = omega (arith, length-met r, length-met t, ap length e
 
 pub component-within : (t : List ℕ) (n : ℕ) → n ≤ length t → length (take n t) ≤ length t
 component-within t n h = omega (arith, part-length n t h)
+
+pub piece-long : (p : ℕ → Bool) (t a : List ℕ) → met a ≡ until p (met t) → length a ≡ length (until p (met t))
+piece-long p t a e = sym (length-met a) ∙ ap length e
+
+-- ---- from behind a component, or a field, the next field is the same
+after-until : (sep : ℕ) (p : ℕ → Bool) → ((b : ℕ) → p b ≡ false → eqb b sep ≡ false) → (m : List ℕ) → after sep (drop (length (until p m)) m) ≡ after sep m
+unfolding until after
+after-until sep p w [] = refl
+after-until sep p w (x ∷ m) = cases (p x) (λ e. cc) (λ e. cc (w x e, after-until sep p w m))
+
+leads : (d : Delims) (p : ℕ → Bool) → Far p → ((b : ℕ) → p b ≡ false → eqb b (d .field) ≡ false) → (t a : List ℕ) → met a ≡ until p (met t) → length a ≤ length t → Leads d (length a) t
+leads d p far w t a e h =
+    record { inside = h; on = ap (λ n. after (d .field) (met (drop n t))) (piece-long p t a e) ∙ ap (after (d .field)) (sym (from-met p far t)) ∙ after-until (d .field) p w (met t) }
+
+ends-field : (d : Delims) (b : ℕ) → ends d b ≡ false → eqb b (d .field) ≡ false
+unfolding ends
+ends-field d b e = neither (eqb b (d .field)) (eqb b (d .repetition)) (neither (eqb b (d .field) || eqb b (d .repetition)) (eqb b (d .component)) e .0) .0
+
+pub component-leads : (d : Delims) (t : List ℕ) (n : ℕ) (clean : Bool) → Proper d → CutOf d t n clean → n ≤ length t → Leads d (length (take n t)) t
+component-leads d t n clean q c h = leads d (ends d) (ends-far d q) (ends-field d) t (take n t) (head-met d t n clean c) (component-within t n h)
+
+pub field-leads : (d : Delims) (t f : List ℕ) → Proper d → met f ≡ until (is (d .field)) (met t) → length f ≤ length t → Leads d (length f) t
+field-leads d t f q = leads d (is (d .field)) (far-is (d .field) (delim-small (d .field) (q .field))) (λ b e. e) t f
+
+onward-from : (sep k : ℕ) (m l : List ℕ) → 1 ≤ k → after sep m ≡ after sep l → onward sep k m ≡ onward sep k l
+unfolding onward
+onward-from sep zero m l h e = absurd (omega arith)
+onward-from sep (suc k) m l h e = ap (onward sep k) e
+
+module _ (d : Delims) (t r : List ℕ) (n k : ℕ) (l : Leads d n t) (h : 1 ≤ k) (e : met r ≡ onward (d .field) k (met (take (length t - n) (drop n t)))) where
+  pub behind-is : met r ≡ onward (d .field) k (met t)
+  behind-is = e ∙ ap (λ m. onward (d .field) k (met m)) (rest-is t n) ∙ onward-from (d .field) k (met (drop n t)) (met t) h (l .on)
+
+  pub behind-within : length r ≤ length t
+  behind-within = field-within (d .field) k t r behind-is
 
 -- ---- what the table reads, as the walk finds it
 -- component n + 1 of the first repetition of a piece of a segment
@@ -49,10 +86,13 @@ raw-is d q body p n =
     rw (z, piece-at (d .field) p body, first-piece (d .repetition) (until (is (d .field)) (onward (d .field) p body)), repetition-is d (onward (d .field) p body))
     (component-at d q n (onward (d .field) p body))
 
+raw-first : (d : Delims) → Proper d → (body : List ℕ) (p : ℕ) → until (ends d) (onward (d .field) p body) ≡ rawIn d body p 1
+unfolding forward
+raw-first d q body p = sym (raw-is d q body p 0)
+
 -- ---- the segments
 first-at : (d : Delims) → Proper d → (s t : List ℕ) (a : ℕ) → met t ≡ onward (d .field) a (met s) → until (ends d) (met t) ≡ rawIn d (met s) a 1
-unfolding forward
-first-at d q s t a e = ap (until (ends d)) e ∙ sym (raw-is d q (met s) a 0)
+first-at d q s t a e = ap (until (ends d)) e ∙ raw-first d q (met s) a
 
 name-at : (d : Delims) → Proper d → (s t : List ℕ) (a : ℕ) → met t ≡ onward (d .field) a (met s) → until (ends d) (next d (met t)) ≡ rawIn d (met s) a 2
 unfolding forward
@@ -103,17 +143,23 @@ module _ (d : Delims) (t : List ℕ) where
     unfolding statusLines onward
     status-is e f g h i p = rw (g, h, i, fa, later u b 2 e fb, later w c 5 (on d t u w 2 3 e f) fc) at p
 
-  pub item-is : (at r : ℕ) (x y u a b kind j k l : List ℕ) → met a ≡ until (ends d) (met t) → met u ≡ next d (met t) → met b ≡ until (ends d) (met u)
-      → j ≡ bytes "item=" → k ≡ bytes "name=" → l ≡ bytes "type="
-      → Lined at x (keyed d j (met a) ∷ keyed d k (met b) ∷ keyed d l (met kind) ∷ []) r y → Lined at x (itemLines d (met t) (met kind)) r y
+  pub item-is : (at r i : ℕ) (x y z u v a b kind j k l : List ℕ) → met a ≡ until (ends d) (met t) → met u ≡ next d (met t) → met b ≡ until (ends d) (met u)
+      → met v ≡ onward (d .field) 2 (met t) → j ≡ bytes "item=" → k ≡ bytes "name=" → l ≡ bytes "type="
+      → Lined at x (keyed d j (met a) ∷ keyed d k (met b) ∷ keyed d l (met kind) ∷ []) r y → Lined r y (observedLines d (met v) (met kind)) i z
+      → Lined at x (itemLines d (met t) (met kind)) i z
   unfolding itemLines
-  item-is at r x y u a b kind j k l f e g v w o p = rw (v, w, o, f, g, e) at p
+  item-is at r i x y z u v a b kind j k l f e g n ej ek el p q = rw (ej, ek, el, f, g, e, n) at (lined-then p q)
+
+  pub observed-is : (at r i : ℕ) (x y z f u kind : List ℕ) → met f ≡ until (is (d .field)) (met t) → met u ≡ onward (d .field) 1 (met t)
+      → Lined at x (fourLines d (rawFour d (plainOf d (met kind)) (met f))) r y → Lined r y (statusLines d (met u)) i z
+      → Lined at x (observedLines d (met t) (met kind)) i z
+  unfolding observedLines
+  observed-is at r i x y z f u kind e g p q = rw (e, g) at (lined-then p q)
 
 -- ---- MSH
 -- a field from another on, as the table reads it
 field-at : (d : Delims) → Proper d → (s t : List ℕ) (a b : ℕ) → met t ≡ onward (d .field) a (met s) → until (ends d) (onward (d .field) b (met t)) ≡ rawIn d (met s) (a + b) 1
-unfolding forward
-field-at d q s t a b e = ap (λ m. until (ends d) (onward (d .field) b m)) e ∙ ap (until (ends d)) (onward-add (d .field) a b (met s)) ∙ sym (raw-is d q (met s) (a + b) 0)
+field-at d q s t a b e = ap (λ m. until (ends d) (onward (d .field) b m)) e ∙ ap (until (ends d)) (onward-add (d .field) a b (met s)) ∙ raw-first d q (met s) (a + b)
 
 pub header-is : (d : Delims) (s t x y z k e : List ℕ) (r i : ℕ) → Proper d → met t ≡ onward (d .field) 6 (met s) → k ≡ bytes "version=1" → e ≡ []
     → Lined 0 x (keyed d k (met e) ∷ []) r y → Lined r y (modeLines d (met t)) i z → Lined 0 x (linesIn d Msh (met s)) i z
@@ -149,16 +195,16 @@ module _ (d : Delims) (f : List ℕ) where
       let w3 : met w ≡ onward (d .component) 3 (met f) = skip-on u w 2 u2 ew in
       rw (fa ∙ sym (first-piece (d .component) (met f)), nth-is t b 1 et fb, nth-is u c 2 u2 fc, nth-is w e 3 w3 fe) at p
 
-  module _ (q : Bool) (kind t : List ℕ) (e : met f ≡ until (is (d .field)) (met t)) (g : q ≡ isSN (plainOf d kind)) (at r : ℕ) (x y : List ℕ) where
-    pub parts-sn : q ≡ true → Lined at x (fourLines d (fourIn d (met f))) r y → Lined at x (fourLines d (rawFour d (plainOf d kind) (until (is (d .field)) (met t)))) r y
+  module _ (q : Bool) (kind : List ℕ) (g : q ≡ isSN (plainOf d kind)) (at r : ℕ) (x y : List ℕ) where
+    pub parts-sn : q ≡ true → Lined at x (fourLines d (fourIn d (met f))) r y → Lined at x (fourLines d (rawFour d (plainOf d kind) (met f))) r y
     unfolding rawFour fourIn
-    parts-sn h p = rw (← e, ← g, h) p
+    parts-sn h p = rw (← g, h) p
 
     pub parts-one : (a n m o : List ℕ) → q ≡ false → met a ≡ until (is (d .component)) (met f) → n ≡ [] → m ≡ [] → o ≡ []
         → Lined at x (fourLines d (record { compare = met n; value = met a; join = met m; second = met o })) r y
-        → Lined at x (fourLines d (rawFour d (plainOf d kind) (until (is (d .field)) (met t)))) r y
+        → Lined at x (fourLines d (rawFour d (plainOf d kind) (met f))) r y
     unfolding rawFour met marks
-    parts-one a n m o h k u v w p = rw (← e, ← g, h, first-piece (d .component) (met f), ← k) (rw (u, v, w) at p)
+    parts-one a n m o h k u v w p = rw (← g, h, first-piece (d .component) (met f), ← k) (rw (u, v, w) at p)
 
 sn-far : (n : ℕ) (t : Bool) → (n ≡ 2 → ⊥) → (eqb n 2 && t) ≡ false
 sn-far n t h = rw (ne-eqb n 2 h)
@@ -182,13 +228,13 @@ name-is d at r mark x y f t u a b family given q m ea eu eb p =
 pub names-free : (d : Delims) (t f : List ℕ) → met f ≡ until (is (d .field)) (met t) → has (d .field) (met f) ≡ false
 names-free d t f e = ap (has (d .field)) e ∙ until-free (d .field) (met t)
 
-pub names-are : (d : Delims) (at i r : ℕ) (x y z t f j k l m : List ℕ) → met f ≡ until (is (d .field)) (met t)
+pub names-are : (d : Delims) (at i r : ℕ) (x y z f j k l m : List ℕ)
     → j ≡ bytes "family=" → k ≡ bytes "given=" → l ≡ bytes "kanafamily=" → m ≡ bytes "kanagiven="
     → Lined at x (nameLines d j k (firstMarked d (73 ∷ []) (split (d .repetition) (met f)))) i y
     → Lined i y (nameLines d l m (firstMarked d (80 ∷ []) (split (d .repetition) (met f)))) r z
-    → Lined at x (namesLines d (met t)) r z
+    → Lined at x (namesLines d (met f)) r z
 unfolding namesLines nameLines bytes
-names-are d at i r x y z t f j k l m e ej ek el em p q = rw (ej, ek, el, em, e) at (lined-then p q)
+names-are d at i r x y z f j k l m ej ek el em p q = rw (ej, ek, el, em) at (lined-then p q)
 
 -- ---- PID
 pub birth-is : (d : Delims) (at r : ℕ) (x y t u a b j k : List ℕ) → met a ≡ until (ends d) (met t) → met u ≡ onward (d .field) 1 (met t) → met b ≡ until (ends d) (met u)
@@ -196,31 +242,31 @@ pub birth-is : (d : Delims) (at r : ℕ) (x y t u a b j k : List ℕ) → met a 
 unfolding birthLines onward
 birth-is d at r x y t u a b j k f e g ej ek p = rw (ej, ek, f, later d t u b 1 e g) at p
 
--- a closed field, as the table reads it
-field-of : (d : Delims) (s v : List ℕ) (n : ℕ) → met v ≡ onward (d .field) n (met s) → until (is (d .field)) (met v) ≡ nth (split (d .field) (met s)) n
-field-of d s v n e = ap (until (is (d .field))) e ∙ sym (piece-at (d .field) n (met s))
+pub person-is : (d : Delims) (at r i : ℕ) (x y z t f u : List ℕ) → met f ≡ until (is (d .field)) (met t) → met u ≡ onward (d .field) 2 (met t)
+    → Lined at x (namesLines d (met f)) r y → Lined r y (birthLines d (met u)) i z → Lined at x (personLines d (met t)) i z
+unfolding personLines
+person-is d at r i x y z t f u e g p q = rw (e, g) at (lined-then p q)
 
-pub patient-is : (d : Delims) (s t u w id k x y z o : List ℕ) (r i j : ℕ) → Proper d → met t ≡ onward (d .field) 3 (met s) → met id ≡ until (ends d) (met t)
-    → met u ≡ onward (d .field) 2 (met t) → met w ≡ onward (d .field) 2 (met u) → k ≡ bytes "patient="
-    → Lined 0 x (keyed d k (met id) ∷ []) r y → Lined r y (namesLines d (met u)) i z → Lined i z (birthLines d (met w)) j o
-    → Lined 0 x (linesIn d Pid (met s)) j o
-unfolding tables namesLines nameLines birthLines
-patient-is d s t u w id k x y z o r i j q et ei eu ew ek p1 p2 p3 =
+-- a field in three steps, as the table reads it
+field-on : (d : Delims) → Proper d → (body : List ℕ) (a b c : ℕ) → until (ends d) (onward (d .field) c (onward (d .field) b (onward (d .field) a body))) ≡ rawIn d body (a + b + c) 1
+field-on d q body a b c =
+    ap (λ m. until (ends d) (onward (d .field) c m)) (onward-add (d .field) a b body) ∙ ap (until (ends d)) (onward-add (d .field) (a + b) c body) ∙ raw-first d q body (a + b + c)
+
+pub patient-is : (d : Delims) (s t u id k x y z : List ℕ) (r i : ℕ) → Proper d → met t ≡ onward (d .field) 3 (met s) → met id ≡ until (ends d) (met t)
+    → met u ≡ onward (d .field) 2 (met t) → k ≡ bytes "patient="
+    → Lined 0 x (keyed d k (met id) ∷ []) r y → Lined r y (personLines d (met u)) i z → Lined 0 x (linesIn d Pid (met s)) i z
+unfolding tables personLines namesLines nameLines birthLines
+patient-is d s t u id k x y z r i q et ei eu ek p1 p2 =
     let u5 : met u ≡ onward (d .field) 5 (met s) = on d s t u 3 2 et eu in
-    let w7 : met w ≡ onward (d .field) 7 (met s) = on d s u w 5 2 u5 ew in
-    rw (ek, first-is d q s t id 3 et ei, field-of d s u 5 u5, field-at d q s w 7 0 w7, field-at d q s w 7 1 w7) at (lined-then (lined-then p1 p2) p3)
+    rw (ek, first-is d q s t id 3 et ei, u5, sym (piece-at (d .field) 5 (met s)), field-on d q (met s) 5 2 0, field-on d q (met s) 5 2 1) at (lined-then p1 p2)
 
 -- ---- OBX
-pub result-is : (d : Delims) (s t u v w kind x y z o : List ℕ) (r i j : ℕ) → Proper d → met t ≡ onward (d .field) 2 (met s) → met kind ≡ until (ends d) (met t)
-    → met u ≡ onward (d .field) 1 (met t) → met v ≡ onward (d .field) 2 (met u) → met w ≡ onward (d .field) 1 (met v)
-    → Lined 0 x (itemLines d (met u) (met kind)) r y
-    → Lined r y (fourLines d (rawFour d (plainOf d (met kind)) (until (is (d .field)) (met v)))) i z
-    → Lined i z (statusLines d (met w)) j o → Lined 0 x (linesIn d Obx (met s)) j o
-unfolding tables itemLines fourLines statusLines
-result-is d s t u v w kind x y z o r i j q et ek eu ev ew p1 p2 p3 =
+pub result-is : (d : Delims) (s t u kind x y : List ℕ) (r : ℕ) → Proper d → met t ≡ onward (d .field) 2 (met s) → met kind ≡ until (ends d) (met t)
+    → met u ≡ onward (d .field) 1 (met t) → Lined 0 x (itemLines d (met u) (met kind)) r y → Lined 0 x (linesIn d Obx (met s)) r y
+unfolding tables itemLines observedLines fourLines statusLines
+result-is d s t u kind x y r q et ek eu p =
     let u3 : met u ≡ onward (d .field) 3 (met s) = on d s t u 2 1 et eu in
-    let v5 : met v ≡ onward (d .field) 5 (met s) = on d s u v 3 2 u3 ev in
-    let w6 : met w ≡ onward (d .field) 6 (met s) = on d s v w 5 1 v5 ew in
     let k2 : met kind ≡ rawIn d (met s) 2 1 = first-is d q s t kind 2 et ek in
     let i3 : until (ends d) (met u) ≡ rawIn d (met s) 3 1 = first-at d q s u 3 u3 in
-    rw (i3, name-at d q s u 3 u3, k2, field-of d s v 5 v5, field-at d q s w 6 0 w6, field-at d q s w 6 2 w6, field-at d q s w 6 5 w6) at (lined-then (lined-then p1 p2) p3)
+    let v5 : onward (d .field) 2 (met u) ≡ onward (d .field) 5 (met s) = ap (onward (d .field) 2) u3 ∙ onward-add (d .field) 3 2 (met s) in
+    rw (i3, name-at d q s u 3 u3, k2, v5, sym (piece-at (d .field) 5 (met s)), field-on d q (met s) 5 1 0, field-on d q (met s) 5 1 2, field-on d q (met s) 5 1 5) at p

@@ -13,7 +13,7 @@ ghost use Rattle.rules.specs.Proper.{Proper};
 ghost use Rattle.rules.specs.Judge.{plainOf, firstMarked, isSN, rawFour};
 ghost use Rattle.scan.specs.Scan.{until, is, ends, next, onward};
 ghost use Rattle.report.specs.Fill.{Lined};
-ghost use Rattle.report.specs.Section.{linesIn, modeLines, nameLines, namesLines, birthLines, itemLines, fourLines, fourIn, statusLines};
+ghost use Rattle.report.specs.Section.{Leads, linesIn, modeLines, nameLines, namesLines, birthLines, personLines, itemLines, observedLines, fourLines, fourIn, statusLines};
 
 // ---- walking
 
@@ -26,25 +26,33 @@ fn field(t: &[u8], d: Delims, n: usize) -> &[u8]
     scan::skip(t, d.field, n)
 }
 
+// What follows the k-th field separator from here, where the n bytes that begin here hold none and are passed over.
+fn field_behind(t: &[u8], n: usize, d: Delims, k: usize) -> &[u8]
+    requires { ⌜ Proper d × Leads d n (now t) × (1 ≤ k) ⌝ }
+    ensures { λ r. ⌜ met (now r) ≡ onward (d .field) k (met (now (t .entry))) ⌝ }
+    ensures within { λ r. ⌜ length (now r) ≤ length (now (t .entry)) ⌝ }
+{
+    scan::skip(&t[n..], d.field, k)
+}
+
 // The component here.
 fn component(t: &[u8], d: Delims) -> &[u8]
     requires { ⌜ Proper d ⌝ }
     ensures { λ r. ⌜ met (now r) ≡ until (ends d) (met (now (t .entry))) ⌝ }
     ensures within { λ r. ⌜ length (now r) ≤ length (now (t .entry)) ⌝ }
+    ensures leads { λ r. ⌜ Leads d (length (now r)) (now (t .entry)) ⌝ }
 {
     let c = scan::first(t, d);
     let n = c.len;
     &t[..n]
 }
 
-// From the next component on.
-fn behind(t: &[u8], d: Delims) -> &[u8]
-    requires { ⌜ Proper d ⌝ }
+// From the next component on, where this one has n bytes.
+fn behind(t: &[u8], n: usize, d: Delims) -> &[u8]
+    requires { ⌜ (n ≡ length (until (ends d) (met (now t)))) × (n ≤ length (now t)) × Proper d ⌝ }
     ensures { λ r. ⌜ met (now r) ≡ next d (met (now (t .entry))) ⌝ }
     ensures within { λ r. ⌜ length (now r) ≤ length (now (t .entry)) ⌝ }
 {
-    let c = scan::first(t, d);
-    let n = c.len;
     scan::behind(t, n, d)
 }
 
@@ -96,9 +104,9 @@ fn modes(out: &mut [u8], at: usize, t: &[u8], d: Delims) -> usize
     ensures within { λ r. ⌜ r ≤ at + 12339 ⌝ }
 {
     let sent = component(t, d);
-    let u = field(t, d, 3);
+    let u = field_behind(t, sent.len(), d, 3);
     let control = component(u, d);
-    let w = field(u, d, 1);
+    let w = field_behind(u, control.len(), d, 1);
     let mode = component(w, d);
     fill::three(
         out,
@@ -122,19 +130,28 @@ pub fn patient(out: &mut [u8], s: &[u8], d: Delims) -> usize
     let t = field(s, d, 3);
     let id = component(t, d);
     let at = fill::line(out, 0, b"patient=", id, d);
-    let u = field(t, d, 2);
-    let at = names(out, at, u, d);
-    let w = field(u, d, 2);
-    birth(out, at, w, d)
+    let u = field_behind(t, id.len(), d, 2);
+    person(out, at, u, d)
+}
+
+// From PID-5 on.
+fn person(out: &mut [u8], at: usize, t: &[u8], d: Delims) -> usize
+    requires { ⌜ Proper d × (length (now t) ≤ 4096) × (at ≤ 5000) ⌝ }
+    ensures { λ r. ⌜ Lined at (now (out .entry)) (personLines d (met (now (t .entry)))) r (now (out .exit)) ⌝ }
+    ensures within { λ r. ⌜ r ≤ at + 24678 ⌝ }
+{
+    let f = piece(t, d.field, d);
+    let at = names(out, at, f, d);
+    let u = field_behind(t, f.len(), d, 2);
+    birth(out, at, u, d)
 }
 
 // PID-5.
-fn names(out: &mut [u8], at: usize, t: &[u8], d: Delims) -> usize
-    requires { ⌜ Proper d × (length (now t) ≤ 4096) × (at ≤ 5000) ⌝ }
-    ensures { λ r. ⌜ Lined at (now (out .entry)) (namesLines d (met (now (t .entry)))) r (now (out .exit)) ⌝ }
+fn names(out: &mut [u8], at: usize, f: &[u8], d: Delims) -> usize
+    requires { ⌜ Proper d × (length (now f) ≤ 4096) × (has (d .field) (met (now f)) ≡ false) × (at ≤ 5000) ⌝ }
+    ensures { λ r. ⌜ Lined at (now (out .entry)) (namesLines d (met (now (f .entry)))) r (now (out .exit)) ⌝ }
     ensures within { λ r. ⌜ r ≤ at + 16452 ⌝ }
 {
-    let f = piece(t, d.field, d);
     let at = name(out, at, b"family=", b"given=", f, b'I', d);
     name(out, at, b"kanafamily=", b"kanagiven=", f, b'P', d)
 }
@@ -155,7 +172,7 @@ fn name<'a>(
 {
     let t = closed::repetition(f, d, mark);
     let a = component(t, d);
-    let u = behind(t, d);
+    let u = behind(t, a.len(), d);
     let b = component(u, d);
     fill::two(out, at, family, a, given, b, d)
 }
@@ -167,7 +184,7 @@ fn birth(out: &mut [u8], at: usize, t: &[u8], d: Delims) -> usize
     ensures within { λ r. ⌜ r ≤ at + 8226 ⌝ }
 {
     let date = component(t, d);
-    let u = field(t, d, 1);
+    let u = field_behind(t, date.len(), d, 1);
     let sex = component(u, d);
     fill::two(out, at, b"birth=", date, b"sex=", sex, d)
 }
@@ -191,7 +208,7 @@ pub fn specimen(out: &mut [u8], s: &[u8], d: Delims) -> usize
 {
     let t = field(s, d, 4);
     let kind = component(t, d);
-    let t = field(t, d, 13);
+    let t = field_behind(t, kind.len(), d, 13);
     let collected = component(t, d);
     fill::two(out, 0, b"specimen=", kind, b"collected=", collected, d)
 }
@@ -204,7 +221,7 @@ pub fn order(out: &mut [u8], s: &[u8], d: Delims) -> usize
 {
     let t = field(s, d, 2);
     let id = component(t, d);
-    let t = field(t, d, 2);
+    let t = field_behind(t, id.len(), d, 2);
     let group = component(t, d);
     fill::two(out, 0, b"order=", id, b"group=", group, d)
 }
@@ -217,33 +234,42 @@ pub fn result(out: &mut [u8], s: &[u8], d: Delims) -> usize
 {
     let t = field(s, d, 2);
     let kind = component(t, d);
-    let u = field(t, d, 1);
-    let at = item(out, u, kind, d);
-    let v = field(u, d, 2);
-    let at = parts(out, at, v, kind, d);
-    let w = field(v, d, 1);
-    status(out, at, w, d)
+    let u = field_behind(t, kind.len(), d, 1);
+    item(out, u, kind, d)
 }
 
-// OBX-3, and the type.
+// From OBX-3 on, and the type.
 fn item<'a>(out: &mut [u8], t: &'a [u8], kind: &'a [u8], d: Delims) -> usize
     requires { ⌜ Proper d × (length (now t) ≤ 4096) × (length (now kind) ≤ 4096) ⌝ }
     ensures { λ r. ⌜ Lined 0 (now (out .entry)) (itemLines d (met (now (t .entry))) (met (now (kind .entry)))) r (now (out .exit)) ⌝ }
-    ensures within { λ r. ⌜ r ≤ 12339 ⌝ }
+    ensures within { λ r. ⌜ r ≤ 41130 ⌝ }
 {
     let code = component(t, d);
-    let u = behind(t, d);
+    let u = behind(t, code.len(), d);
     let name = component(u, d);
-    fill::three(out, 0, b"item=", code, b"name=", name, b"type=", kind, d)
+    let at = fill::three(out, 0, b"item=", code, b"name=", name, b"type=", kind, d);
+    let v = field_behind(t, code.len(), d, 2);
+    observed(out, at, v, kind, d)
+}
+
+// From OBX-5 on, by the type.
+fn observed<'a>(out: &mut [u8], at: usize, t: &'a [u8], kind: &'a [u8], d: Delims) -> usize
+    requires { ⌜ Proper d × (length (now t) ≤ 4096) × (length (now kind) ≤ 4096) × (at ≤ 20000) ⌝ }
+    ensures { λ r. ⌜ Lined at (now (out .entry)) (observedLines d (met (now (t .entry))) (met (now (kind .entry)))) r (now (out .exit)) ⌝ }
+    ensures within { λ r. ⌜ r ≤ at + 28791 ⌝ }
+{
+    let f = piece(t, d.field, d);
+    let at = parts(out, at, f, kind, d);
+    let u = field_behind(t, f.len(), d, 1);
+    status(out, at, u, d)
 }
 
 // OBX-5, by the type.
-fn parts(out: &mut [u8], at: usize, t: &[u8], kind: &[u8], d: Delims) -> usize
-    requires { ⌜ Proper d × (length (now t) ≤ 4096) × (length (now kind) ≤ 4096) × (at ≤ 20000) ⌝ }
-    ensures { λ r. ⌜ Lined at (now (out .entry)) (fourLines d (rawFour d (plainOf d (met (now (kind .entry)))) (until (is (d .field)) (met (now (t .entry)))))) r (now (out .exit)) ⌝ }
+fn parts(out: &mut [u8], at: usize, f: &[u8], kind: &[u8], d: Delims) -> usize
+    requires { ⌜ Proper d × (length (now f) ≤ 4096) × (length (now kind) ≤ 4096) × (at ≤ 20000) ⌝ }
+    ensures { λ r. ⌜ Lined at (now (out .entry)) (fourLines d (rawFour d (plainOf d (met (now (kind .entry)))) (met (now (f .entry))))) r (now (out .exit)) ⌝ }
     ensures within { λ r. ⌜ r ≤ at + 16452 ⌝ }
 {
-    let f = piece(t, d.field, d);
     if is_sn(kind, d) {
         return numbers(out, at, f, d);
     }
@@ -301,9 +327,9 @@ fn status(out: &mut [u8], at: usize, t: &[u8], d: Delims) -> usize
     ensures within { λ r. ⌜ r ≤ at + 12339 ⌝ }
 {
     let unit = component(t, d);
-    let u = field(t, d, 2);
+    let u = field_behind(t, unit.len(), d, 2);
     let flag = component(u, d);
-    let w = field(u, d, 3);
+    let w = field_behind(u, flag.len(), d, 3);
     let state = component(w, d);
     fill::three(
         out,

@@ -4,9 +4,6 @@ use Rattle.closed.proofs.Laws.{next-within}
 use Rattle.report.proofs.section.behind.Statement.{statement}
 use Rattle.report.proofs.section.behind.Tie as tie
 
-first-requires : tie.Need-first-requires
-first-requires c κs = search needs
-
 behind-requires : tie.Need-behind-requires
 behind-requires c κs = search needs
 
@@ -14,4 +11,4 @@ returns : tie.Need-returns
 returns c = (search needs, search (next-within, needs))
 
 pub behind-spec : {M : Type 1} → statement M
-behind-spec = tie.close (tie.spec first-requires behind-requires returns)
+behind-spec = tie.close (tie.spec behind-requires returns)

@@ -8,8 +8,8 @@ use Rattle.report.proofs.section.birth.Tie as tie
 component-requires : tie.Need-component-requires
 component-requires c κs = search needs
 
-field-requires : tie.Need-field-requires
-field-requires c κs = search needs
+field-behind-requires : tie.Need-field-behind-requires
+field-behind-requires c κs = search needs
 
 component-requires-2 : tie.Need-component-requires-2
 component-requires-2 c κs = search needs
@@ -35,7 +35,7 @@ birth-spec =
     tie.close
     (tie.spec
     component-requires
-    field-requires
+    field-behind-requires
     component-requires-2
     slice-aggregate-two
     slice-aggregate-two-2

@@ -1,7 +1,7 @@
 -- `report::section::item` meets its contract.
 use borrow.Author.Needs.{needs}
 use Rattle.rules.specs.Lists.{bytes}
-use Rattle.report.proofs.Sections.{item-is}
+use Rattle.report.proofs.Sections.{piece-long, item-is}
 use Rattle.report.proofs.section.item.Statement.{statement}
 use Rattle.report.proofs.section.item.Tie as tie
 
@@ -9,7 +9,7 @@ component-requires : tie.Need-component-requires
 component-requires c κs = search needs
 
 behind-requires : tie.Need-behind-requires
-behind-requires c κs = search needs
+behind-requires c κs = search (piece-long, needs)
 
 component-requires-2 : tie.Need-component-requires-2
 component-requires-2 c κs = search needs
@@ -25,6 +25,12 @@ slice-aggregate-three-3 c = search needs
 
 three-requires : tie.Need-three-requires
 three-requires c κs = search needs
+
+field-behind-requires : tie.Need-field-behind-requires
+field-behind-requires c κs = search needs
+
+observed-requires : tie.Need-observed-requires
+observed-requires c κs = search needs
 
 same-length : tie.Need-same-length
 same-length c = search needs
@@ -44,5 +50,7 @@ item-spec =
     slice-aggregate-three-2
     slice-aggregate-three-3
     three-requires
+    field-behind-requires
+    observed-requires
     same-length
     returns)

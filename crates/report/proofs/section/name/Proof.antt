@@ -1,6 +1,6 @@
 -- `report::section::name` meets its contract.
 use borrow.Author.Needs.{needs}
-use Rattle.report.proofs.Sections.{name-is}
+use Rattle.report.proofs.Sections.{piece-long, name-is}
 use Rattle.report.proofs.section.name.Statement.{statement}
 use Rattle.report.proofs.section.name.Tie as tie
 
@@ -11,7 +11,7 @@ component-requires : tie.Need-component-requires
 component-requires c κs = search needs
 
 behind-requires : tie.Need-behind-requires
-behind-requires c κs = search needs
+behind-requires c κs = search (piece-long, needs)
 
 component-requires-2 : tie.Need-component-requires-2
 component-requires-2 c κs = search needs

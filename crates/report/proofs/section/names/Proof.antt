@@ -1,12 +1,9 @@
 -- `report::section::names` meets its contract.
 use borrow.Author.Needs.{needs}
 use Rattle.rules.specs.Lists.{bytes}
-use Rattle.report.proofs.Sections.{names-free, names-are}
+use Rattle.report.proofs.Sections.{names-are}
 use Rattle.report.proofs.section.names.Statement.{statement}
 use Rattle.report.proofs.section.names.Tie as tie
-
-piece-requires : tie.Need-piece-requires
-piece-requires c κs = search needs
 
 slice-aggregate-name : tie.Need-slice-aggregate-name
 slice-aggregate-name c = search needs
@@ -15,7 +12,7 @@ slice-aggregate-name-2 : tie.Need-slice-aggregate-name-2
 slice-aggregate-name-2 c = search needs
 
 name-requires : tie.Need-name-requires
-name-requires c κs = search (names-free, needs)
+name-requires c κs = search needs
 
 slice-aggregate-name-3 : tie.Need-slice-aggregate-name-3
 slice-aggregate-name-3 c = search needs
@@ -24,7 +21,7 @@ slice-aggregate-name-4 : tie.Need-slice-aggregate-name-4
 slice-aggregate-name-4 c = search needs
 
 name-requires-2 : tie.Need-name-requires-2
-name-requires-2 c κs = search (names-free, needs)
+name-requires-2 c κs = search needs
 
 same-length : tie.Need-same-length
 same-length c = search needs
@@ -37,7 +34,6 @@ pub names-spec : {M : Type 1} → statement M
 names-spec =
     tie.close
     (tie.spec
-    piece-requires
     slice-aggregate-name
     slice-aggregate-name-2
     name-requires

@@ -5,9 +5,6 @@ use Rattle.report.proofs.Sections.{parts-sn, parts-one}
 use Rattle.report.proofs.section.parts.Statement.{statement}
 use Rattle.report.proofs.section.parts.Tie as tie
 
-piece-requires : tie.Need-piece-requires
-piece-requires c κs = search needs
-
 is-sn-requires : tie.Need-is-sn-requires
 is-sn-requires c κs = search needs
 
@@ -21,8 +18,8 @@ returns : tie.Need-returns
 unfolding bytes
 returns c = (search (parts-sn, needs), search needs)
 
-piece-requires-2 : tie.Need-piece-requires-2
-piece-requires-2 c κs = search needs
+piece-requires : tie.Need-piece-requires
+piece-requires c κs = search needs
 
 slice-aggregate-four : tie.Need-slice-aggregate-four
 slice-aggregate-four c = search needs
@@ -47,12 +44,11 @@ pub parts-spec : {M : Type 1} → statement M
 parts-spec =
     tie.close
     (tie.spec
-    piece-requires
     is-sn-requires
     numbers-requires
     same-length
     returns
-    piece-requires-2
+    piece-requires
     slice-aggregate-four
     slice-aggregate-four-2
     slice-aggregate-four-3

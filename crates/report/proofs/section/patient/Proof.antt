@@ -17,17 +17,11 @@ slice-aggregate-line c = search needs
 line-requires : tie.Need-line-requires
 line-requires c κs = search needs
 
-field-requires-2 : tie.Need-field-requires-2
-field-requires-2 c κs = search needs
+field-behind-requires : tie.Need-field-behind-requires
+field-behind-requires c κs = search needs
 
-names-requires : tie.Need-names-requires
-names-requires c κs = search needs
-
-field-requires-3 : tie.Need-field-requires-3
-field-requires-3 c κs = search needs
-
-birth-requires : tie.Need-birth-requires
-birth-requires c κs = search needs
+person-requires : tie.Need-person-requires
+person-requires c κs = search needs
 
 same-length : tie.Need-same-length
 same-length c = search needs
@@ -44,9 +38,7 @@ patient-spec =
     component-requires
     slice-aggregate-line
     line-requires
-    field-requires-2
-    names-requires
-    field-requires-3
-    birth-requires
+    field-behind-requires
+    person-requires
     same-length
     returns)

@@ -8,14 +8,14 @@ use Rattle.report.proofs.section.status.Tie as tie
 component-requires : tie.Need-component-requires
 component-requires c κs = search needs
 
-field-requires : tie.Need-field-requires
-field-requires c κs = search needs
+field-behind-requires : tie.Need-field-behind-requires
+field-behind-requires c κs = search needs
 
 component-requires-2 : tie.Need-component-requires-2
 component-requires-2 c κs = search needs
 
-field-requires-2 : tie.Need-field-requires-2
-field-requires-2 c κs = search needs
+field-behind-requires-2 : tie.Need-field-behind-requires-2
+field-behind-requires-2 c κs = search needs
 
 component-requires-3 : tie.Need-component-requires-3
 component-requires-3 c κs = search needs
@@ -44,9 +44,9 @@ status-spec =
     tie.close
     (tie.spec
     component-requires
-    field-requires
+    field-behind-requires
     component-requires-2
-    field-requires-2
+    field-behind-requires-2
     component-requires-3
     slice-aggregate-three
     slice-aggregate-three-2
