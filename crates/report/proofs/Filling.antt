@@ -95,20 +95,27 @@ module _ (d : Delims) (raw : List ℕ) where
   unfolding unescapedOr
   plain-short = optionCases (unescape d (met raw)) (λ v e. rw e (value-short v e)) (λ e. rw e (omega arith))
 
+  -- a component that is the whole text and has no escapes is its own value
+  module _ (n : ℕ) (q : Bool) (c : CutOf d raw n q) (h : (q && eqb n (length raw)) ≡ true) where
+    clean-long : n ≡ length raw
+    clean-long = eqb-true n (length raw) (both q (eqb n (length raw)) h .1)
+
+    pub clean-whole : until (ends d) (met raw) ≡ met raw
+    clean-whole = sym (take-until (ends d) (met raw)) ∙ take-all (length (until (ends d) (met raw))) (met raw) (omega (arith, c .long, clean-long, length-met raw))
+
+    pub clean-plain : plainOf d (met raw) ≡ raw
+    unfolding unescapedOr unescape
+    clean-plain =
+        let a : plainText d (met raw) ≡ true = ap (plainText d) (sym clean-whole) ∙ sym (c .plain) ∙ both q (eqb n (length raw)) h .0 in
+        let v : map byteOf (met raw) ≡ raw = ap (map byteOf) (sym clean-whole) ∙ c .raw ∙ take-all n raw (omega (arith, clean-long)) in
+        rw (clean-at d (met raw) a, v)
+
   module _ (out x : List ℕ) (r : ℕ) where
     pub value-within : Filled r x (plainOf d (met raw)) out → r ≤ length raw
     value-within f = omega (arith, f .ends, plain-short)
 
     pub value-clean : (n : ℕ) (q : Bool) → CutOf d raw n q → (q && eqb n (length raw)) ≡ true → Filled r x raw out → Filled r x (plainOf d (met raw)) out
-    unfolding unescapedOr unescape
-    value-clean n q c h f =
-        let b = both q (eqb n (length raw)) h in
-        let k : n ≡ length raw = eqb-true n (length raw) (b .1) in
-        let whole : until (ends d) (met raw) ≡ met raw
-        = sym (take-until (ends d) (met raw)) ∙ take-all (length (until (ends d) (met raw))) (met raw) (omega (arith, c .long, length-met raw)) in
-        let a : plainText d (met raw) ≡ true = ap (plainText d) (sym whole) ∙ sym (c .plain) ∙ b .0 in
-        let v : map byteOf (met raw) ≡ raw = ap (map byteOf) (sym whole) ∙ c .raw ∙ take-all n raw (omega arith) in
-        rw (clean-at d (met raw) a, v) f
+    value-clean n q c h f = rw (clean-plain n q c h) f
 
     pub value-got : (u : Unescaped) (n : ℕ) (buf : List ℕ) → u ≡ Got n → Fits u (unescape d (met raw)) buf → Filled r x (take n buf) out → Filled r x (plainOf d (met raw)) out
     unfolding unescapedOr

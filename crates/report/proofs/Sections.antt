@@ -29,8 +29,8 @@ use Rattle.closed.specs.Closed.{forward, MarkedOf}
 use Rattle.closed.proofs.Pieces.{piece-at, onward-within, until-free, repetition-is, component-at}
 use Rattle.closed.proofs.Laws.{head-met}
 use Rattle.report.specs.Fill.{Filled, Lined, keyed}
-use Rattle.report.proofs.Filling.{lined-then}
-use Rattle.report.specs.Section.{Leads, linesIn, modeLines, nameLines, namesLines, birthLines, personLines, itemLines, observedLines, fourLines, fourIn, statusLines}
+use Rattle.report.proofs.Filling.{clean-whole, lined-then}
+use Rattle.report.specs.Section.{Leads, linesIn, modeLines, nameLines, namesLines, birthLines, personLines, itemLines, observedLines, fourLines, fourIn, oneOf, oneIn, statusLines}
 
 -- ---- walking
 pub field-within : (sep n : ℕ) (t r : List ℕ) → met r ≡ onward sep n (met t) → length r ≤ length t
@@ -55,6 +55,10 @@ leads d p far w t a e h =
 ends-field : (d : Delims) (b : ℕ) → ends d b ≡ false → eqb b (d .field) ≡ false
 unfolding ends
 ends-field d b e = neither (eqb b (d .field)) (eqb b (d .repetition)) (neither (eqb b (d .field) || eqb b (d .repetition)) (eqb b (d .component)) e .0) .0
+
+ends-component : (d : Delims) (b : ℕ) → ends d b ≡ false → eqb b (d .component) ≡ false
+unfolding ends
+ends-component d b e = neither (eqb b (d .field) || eqb b (d .repetition)) (eqb b (d .component)) e .1
 
 pub component-leads : (d : Delims) (t : List ℕ) (n : ℕ) (clean : Bool) → Proper d → CutOf d t n clean → n ≤ length t → Leads d (length (take n t)) t
 component-leads d t n clean q c h = leads d (ends d) (ends-far d q) (ends-field d) t (take n t) (head-met d t n clean c) (component-within t n h)
@@ -176,6 +180,16 @@ pub four-is : (d : Delims) (at r k : ℕ) (x y z a b c e h i j l : List ℕ) →
 unfolding fourLines
 four-is d at r k x y z a b c e h i j l eh ei ej el p q = rw (eh, ei, ej, el) at (lined-then p q)
 
+met-nil : met [] ≡ []
+unfolding met marks
+met-nil = refl
+
+-- what ends earlier is cut no further
+until-less : (p q : ℕ → Bool) → ((b : ℕ) → p b ≡ false → q b ≡ false) → (m : List ℕ) → until q (until p m) ≡ until p m
+unfolding until
+until-less p q w [] = refl
+until-less p q w (x ∷ m) = cases (p x) (λ e. cc) (λ e. cc (w x e, until-less p q w m))
+
 module _ (d : Delims) (f : List ℕ) where
   nth-is : (t a : List ℕ) (n : ℕ) → met t ≡ onward (d .component) n (met f) → met a ≡ until (is (d .component)) (met t) → met a ≡ nth (split (d .component) (met f)) n
   nth-is t a n e g = g ∙ ap (until (is (d .component))) e ∙ sym (piece-at (d .component) n (met f))
@@ -200,11 +214,30 @@ module _ (d : Delims) (f : List ℕ) where
     unfolding rawFour fourIn
     parts-sn h p = rw (← g, h) p
 
-    pub parts-one : (a n m o : List ℕ) → q ≡ false → met a ≡ until (is (d .component)) (met f) → n ≡ [] → m ≡ [] → o ≡ []
+    pub parts-one : q ≡ false → Lined at x (fourLines d (oneIn d (met f))) r y → Lined at x (fourLines d (rawFour d (plainOf d kind) (met f))) r y
+    unfolding rawFour oneIn
+    parts-one h p = rw (← g, h) p
+
+  module _ (at r : ℕ) (x y : List ℕ) where
+    pub single-part : (a n m o : List ℕ) → met a ≡ until (is (d .component)) (met f) → n ≡ [] → m ≡ [] → o ≡ []
         → Lined at x (fourLines d (record { compare = met n; value = met a; join = met m; second = met o })) r y
-        → Lined at x (fourLines d (rawFour d (plainOf d kind) (met f))) r y
-    unfolding rawFour met marks
-    parts-one a n m o h k u v w p = rw (← g, h, first-piece (d .component) (met f), ← k) (rw (u, v, w) at p)
+        → Lined at x (fourLines d (oneIn d (met f))) r y
+    unfolding oneIn met marks
+    single-part a n m o k u v w p = rw (first-piece (d .component) (met f), ← k) (rw (u, v, w) at p)
+
+    pub single-whole : (n : ℕ) (q : Bool) → CutOf d f n q → (q && eqb n (length f)) ≡ true → Lined at x (fourLines d (oneOf (met f))) r y → Lined at x (fourLines d (oneIn d (met f))) r y
+    unfolding oneIn
+    single-whole n q c h p =
+        let e : until (ends d) (met f) ≡ met f = clean-whole d f n q c h in
+        let u : until (is (d .component)) (met f) ≡ met f = ap (until (is (d .component))) (sym e) ∙ until-less (ends d) (is (d .component)) (ends-component d) (met f) ∙ e in
+        rw (first-piece (d .component) (met f), u) p
+
+pub alone-is : (d : Delims) (at r i k : ℕ) (x y z w v a b c e h j l : List ℕ) → plainOf d (met v) ≡ v → a ≡ [] → b ≡ [] → c ≡ []
+    → e ≡ bytes "compare=" → h ≡ bytes "value=" → j ≡ bytes "join=" → l ≡ bytes "second="
+    → Lined at x (keyed d e (met a) ∷ []) r y → Lined r y ((h ++ v) ∷ []) i z → Lined i z (keyed d j (met b) ∷ keyed d l (met c) ∷ []) k w
+    → Lined at x (fourLines d (oneOf (met v))) k w
+unfolding fourLines
+alone-is d at r i k x y z w v a b c e h j l g ea eb ec ee eh ej el p q o = rw g (rw (ea, eb, ec, met-nil, ee, eh, ej, el) at (lined-then (lined-then p q) o))
 
 sn-far : (n : ℕ) (t : Bool) → (n ≡ 2 → ⊥) → (eqb n 2 && t) ≡ false
 sn-far n t h = rw (ne-eqb n 2 h)

@@ -64,6 +64,12 @@ fourLines d c =
 unfoldable pub fourIn : Delims → List ℕ → Four (List ℕ)
 fourIn d f = let c = nth (split (d .component) f) in record { compare = c 0; value = c 1; join = c 2; second = c 3 }
 
+abbrev pub oneOf : List ℕ → Four (List ℕ)
+oneOf v = record { compare = []; value = v; join = []; second = [] }
+
+unfoldable pub oneIn : Delims → List ℕ → Four (List ℕ)
+oneIn d f = oneOf (nth (split (d .component) f) 0)
+
 unfoldable pub statusLines : Delims → List ℕ → List (List ℕ)
 statusLines d m = keyed d (bytes "unit=") (fieldFrom d 0 m) ∷ keyed d (bytes "flag=") (fieldFrom d 2 m) ∷ keyed d (bytes "status=") (fieldFrom d 5 m) ∷ []
 

@@ -2,7 +2,7 @@
 use judge::Unescaped;
 use rules::Delims;
 ghost use mathlib.Core.Path.{_≡_};
-ghost use mathlib.Core.List.{[], _∷_};
+ghost use mathlib.Core.List.{[], _∷_, _++_};
 ghost use Prim.Native.Nat.{_+_, _≤_, _<_};
 ghost use lib.ListN.{length};
 ghost use Rattle.rules.specs.Shift.{met};
@@ -72,6 +72,17 @@ pub fn line(out: &mut [u8], at: usize, key: &[u8], raw: &[u8], d: Delims) -> usi
 {
     let at = put_at(out, at, key);
     let at = plain_at(out, at, raw, d);
+    put_at(out, at, b"\n")
+}
+
+// A line whose value is written as it is.
+pub fn plain_line(out: &mut [u8], at: usize, key: &[u8], value: &[u8]) -> usize
+    requires { ⌜ (length (now key) ≤ 16) × (length (now value) ≤ 4096) × (at ≤ 900000) ⌝ }
+    ensures { λ r. ⌜ Lined at (now (out .entry)) ((now (key .entry) ++ now (value .entry)) ∷ []) r (now (out .exit)) ⌝ }
+    ensures within { λ r. ⌜ r ≤ at + 4113 ⌝ }
+{
+    let at = put_at(out, at, key);
+    let at = put_at(out, at, value);
     put_at(out, at, b"\n")
 }
 
