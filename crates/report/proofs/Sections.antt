@@ -4,7 +4,7 @@ use native.Mathlib.Omega.{arith}
 use mathlib.Core.Path.{_≡_, refl, sym, ap, _∙_}
 use mathlib.Core.List.{List, [], _∷_, _++_}
 use mathlib.Core.Bool.{Bool, true, false, _&&_, _||_}
-use borrow.Author.Tests.{ne-eqb}
+use borrow.Author.Tests.{ne-eqb, eqb-true}
 use lib.Dec.{eqb}
 use lib.ListN.{length, take, drop}
 use Rattle.rules.specs.declared.Delims.{Delims}
@@ -22,7 +22,7 @@ use Rattle.rules.proofs.Logic.{cases, neither}
 use Rattle.rules.proofs.Lists.{part-length, rest-is}
 use Rattle.rules.proofs.Modes.{length-met}
 use Rattle.rules.proofs.Header.{delim-small}
-use Rattle.scan.specs.Scan.{until, is, ends, after, onward, next, CutOf, TailOf}
+use Rattle.scan.specs.Scan.{until, is, ends, after, onward, nextFrom, next, CutOf, TailOf}
 use Rattle.scan.proofs.Laws.{Far, far-is, ends-far, from-met, piece-met, onward-add, first-piece}
 use Rattle.judge.specs.Judge.{fill}
 use Rattle.closed.specs.Closed.{forward, MarkedOf}
@@ -66,6 +66,7 @@ component-leads d t n clean q c h = leads d (ends d) (ends-far d q) (ends-field 
 pub field-leads : (d : Delims) (t f : List ℕ) → Proper d → met f ≡ until (is (d .field)) (met t) → length f ≤ length t → Leads d (length f) t
 field-leads d t f q = leads d (is (d .field)) (far-is (d .field) (delim-small (d .field) (q .field))) (λ b e. e) t f
 
+-- later fields are, where the next is
 onward-from : (sep k : ℕ) (m l : List ℕ) → 1 ≤ k → after sep m ≡ after sep l → onward sep k m ≡ onward sep k l
 unfolding onward
 onward-from sep zero m l h e = absurd (omega arith)
@@ -77,6 +78,20 @@ module _ (d : Delims) (t r : List ℕ) (n k : ℕ) (l : Leads d n t) (h : 1 ≤ 
 
   pub behind-within : length r ≤ length t
   behind-within = field-within (d .field) k t r behind-is
+
+-- from the next component on, too
+after-from : (d : Delims) → Proper d → (m : List ℕ) → after (d .field) (nextFrom d m) ≡ after (d .field) m
+unfolding after nextFrom
+after-from d q [] = refl
+after-from d q (x ∷ m) =
+    cases (eqb x (d .component))
+    (λ e. let f : eqb x (d .field) ≡ false = rw (eqb-true x (d .component) e) (q .component-field) in cc)
+    (λ e. cc)
+
+next-onward : (d : Delims) → Proper d → (k : ℕ) (m : List ℕ) → 1 ≤ k → onward (d .field) k (next d m) ≡ onward (d .field) k m
+unfolding next
+next-onward d q k m h =
+    onward-from (d .field) k (next d m) m h (after-from d q (drop (length (until (ends d) m)) m) ∙ after-until (d .field) (ends d) (ends-field d) m)
 
 -- ---- what the table reads, as the walk finds it
 -- component n + 1 of the first repetition of a piece of a segment
@@ -147,12 +162,14 @@ module _ (d : Delims) (t : List ℕ) where
     unfolding statusLines onward
     status-is e f g h i p = rw (g, h, i, fa, later u b 2 e fb, later w c 5 (on d t u w 2 3 e f) fc) at p
 
-  pub item-is : (at r i : ℕ) (x y z u v a b kind j k l : List ℕ) → met a ≡ until (ends d) (met t) → met u ≡ next d (met t) → met b ≡ until (ends d) (met u)
-      → met v ≡ onward (d .field) 2 (met t) → j ≡ bytes "item=" → k ≡ bytes "name=" → l ≡ bytes "type="
+  pub item-is : (at r i : ℕ) (x y z u v a b kind j k l : List ℕ) → Proper d → met a ≡ until (ends d) (met t) → met u ≡ next d (met t) → met b ≡ until (ends d) (met u)
+      → met v ≡ onward (d .field) 2 (met u) → j ≡ bytes "item=" → k ≡ bytes "name=" → l ≡ bytes "type="
       → Lined at x (keyed d j (met a) ∷ keyed d k (met b) ∷ keyed d l (met kind) ∷ []) r y → Lined r y (observedLines d (met v) (met kind)) i z
       → Lined at x (itemLines d (met t) (met kind)) i z
   unfolding itemLines
-  item-is at r i x y z u v a b kind j k l f e g n ej ek el p q = rw (ej, ek, el, f, g, e, n) at (lined-then p q)
+  item-is at r i x y z u v a b kind j k l h f e g n ej ek el p q =
+      let v2 : met v ≡ onward (d .field) 2 (met t) = n ∙ ap (onward (d .field) 2) e ∙ next-onward d h 2 (met t) (omega arith) in
+      rw (ej, ek, el, f, g, e, v2) at (lined-then p q)
 
   pub observed-is : (at r i : ℕ) (x y z f u kind : List ℕ) → met f ≡ until (is (d .field)) (met t) → met u ≡ onward (d .field) 1 (met t)
       → Lined at x (fourLines d (rawFour d (plainOf d (met kind)) (met f))) r y → Lined r y (statusLines d (met u)) i z

@@ -55,21 +55,24 @@ birthLines d m = keyed d (bytes "birth=") (fieldFrom d 0 m) ∷ keyed d (bytes "
 unfoldable pub personLines : Delims → List ℕ → List (List ℕ)
 personLines d m = namesLines d (until (is (d .field)) m) ++ birthLines d (onward (d .field) 2 m)
 
--- OBX-5; OBX-6, 8 and 11
+-- OBX-5
 unfoldable pub fourLines : Delims → Four (List ℕ) → List (List ℕ)
 fourLines d c =
     keyed d (bytes "compare=") (c .compare) ∷ keyed d (bytes "value=") (c .value)
     ∷ keyed d (bytes "join=") (c .join) ∷ keyed d (bytes "second=") (c .second) ∷ []
 
+-- the four components
 unfoldable pub fourIn : Delims → List ℕ → Four (List ℕ)
 fourIn d f = let c = nth (split (d .component) f) in record { compare = c 0; value = c 1; join = c 2; second = c 3 }
 
+-- a value with nothing beside it; the first component
 abbrev pub oneOf : List ℕ → Four (List ℕ)
 oneOf v = record { compare = []; value = v; join = []; second = [] }
 
 unfoldable pub oneIn : Delims → List ℕ → Four (List ℕ)
 oneIn d f = oneOf (nth (split (d .component) f) 0)
 
+-- OBX-6, 8 and 11
 unfoldable pub statusLines : Delims → List ℕ → List (List ℕ)
 statusLines d m = keyed d (bytes "unit=") (fieldFrom d 0 m) ∷ keyed d (bytes "flag=") (fieldFrom d 2 m) ∷ keyed d (bytes "status=") (fieldFrom d 5 m) ∷ []
 

@@ -248,7 +248,7 @@ fn item<'a>(out: &mut [u8], t: &'a [u8], kind: &'a [u8], d: Delims) -> usize
     let u = behind(t, code.len(), d);
     let name = component(u, d);
     let at = fill::three(out, 0, b"item=", code, b"name=", name, b"type=", kind, d);
-    let v = field_behind(t, code.len(), d, 2);
+    let v = field_behind(u, name.len(), d, 2);
     observed(out, at, v, kind, d)
 }
 
