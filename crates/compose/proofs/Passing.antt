@@ -14,6 +14,7 @@ use Rattle.rules.specs.declared.Name.the-variants.{Obx, Other}
 use Rattle.rules.specs.Told.{Told, gives, refused, _>>=_}
 use Rattle.rules.specs.Lists.{empty, filled, nth}
 use Rattle.rules.specs.Frame.{is}
+use Rattle.rules.specs.Proper.{Proper}
 use Rattle.rules.specs.Row.{lines, Row, rowOf}
 use Rattle.rules.specs.Sheet.{rowsTold, linesOf}
 use Rattle.rules.specs.Message.{written, messageOf}
@@ -37,6 +38,7 @@ pub record Passing (d : Delims) (s : List ℕ) (known : Bool) (out₀ : List ℕ
   pub vs : List (List ℕ)
   pub small : length s ≤ 65536
   pub right : known ≡ true → Right s
+  pub proper : Proper d
   pub cut : Cut 10 (take (length s - at) (drop at s)) places
   pub within : at ≤ length s
   pub lines-few : line ≤ 10 * at + 1
@@ -114,7 +116,7 @@ wrong d s x y line after done r (Value k) q a b = record { told = b ∙ rw a; wr
 pub index-low : (v : Verdict) (h : Name) (ts : List (List ℕ)) → v ≡ groupVerdict h ts → indexOf v ≤ 10
 index-low v h ts e = rw e (group-index h ts)
 
-pub begins : (d : Delims) (s : List ℕ) (known : Bool) (out places : List ℕ) → (length s ≤ 65536) × (known ≡ true → Right s) → Cut 10 s places
+pub begins : (d : Delims) (s : List ℕ) (known : Bool) (out places : List ℕ) → (length s ≤ 65536) × (known ≡ true → Right s) × Proper d → Cut 10 s places
     → Passing d s known out Other 0 1 0 0 0 0 places out
 unfolding rowOf specimensIn resultsIn over
 begins d s known out places h cut = record {
@@ -122,6 +124,7 @@ begins d s known out places h cut = record {
   vs = [];
   small = h .0;
   right = h .1;
+  proper = h .2;
   cut = rw (rest-is s 0) cut;
   within = omega arith;
   lines-few = omega arith;
@@ -237,6 +240,7 @@ module _ {d : Delims} {s : List ℕ} {known : Bool} {out₀ : List ℕ} {g : Nam
               vs = ws;
               small = inv .small;
               right = inv .right;
+              proper = inv .proper;
               cut = next-cut;
               within = ahead (count .1);
               lines-few = omega (arith, inv .lines-few, count .1);

@@ -12,6 +12,7 @@ ghost use lib.ListN.{length};
 ghost use Rattle.rules.specs.Told as Told;
 ghost use Rattle.rules.specs.Sheet.{linesOf};
 ghost use Rattle.rules.specs.Frame.{is};
+ghost use Rattle.rules.specs.Proper.{Proper};
 ghost use Rattle.writer.specs.Over.{Fit};
 ghost use Rattle.lines.specs.Lines.{toldOf, indexOf, groupVerdict, Cut};
 ghost use Rattle.compose.specs.Compose.{Named, groupText, orderText, specimenText, resultText, specimensWith, resultsWith, segmentsOf, isValue, Added, toldSize, refusalAt, Right, Pass};
@@ -28,7 +29,7 @@ fn least(a: usize, b: usize) -> usize
 // ---- the segments written, each where there is room, from the places of its group's lines; the reader compares with the same names
 
 fn header<'a>(out: &mut [u8], msh: &'a [u8], s: &'a [u8], places: &[usize; 11], d: Delims) -> usize
-    requires { ⌜ (length (now s) ≤ 65536) × Cut 10 (now s) (now places) × Named (now msh) Name.Msh ⌝ }
+    requires { ⌜ (length (now s) ≤ 65536) × Cut 10 (now s) (now places) × Named (now msh) Name.Msh × Proper d ⌝ }
     ensures { λ r. ⌜ Fit r (now (out .exit)) (groupText d 0 0 Name.Msh (linesOf (now (s .entry)))) (now (out .entry)) ⌝ }
     ensures within { λ r. ⌜ r ≤ 300000000 ⌝ }
 {
@@ -44,7 +45,7 @@ fn header<'a>(out: &mut [u8], msh: &'a [u8], s: &'a [u8], places: &[usize; 11], 
 }
 
 fn visit<'a>(out: &mut [u8], pv1: &'a [u8], s: &'a [u8], places: &[usize; 11], d: Delims) -> usize
-    requires { ⌜ (length (now s) ≤ 65536) × Cut 10 (now s) (now places) × Named (now pv1) Name.Pv1 ⌝ }
+    requires { ⌜ (length (now s) ≤ 65536) × Cut 10 (now s) (now places) × Named (now pv1) Name.Pv1 × Proper d ⌝ }
     ensures { λ r. ⌜ Fit r (now (out .exit)) (groupText d 0 0 Name.Pv1 (linesOf (now (s .entry)))) (now (out .entry)) ⌝ }
     ensures within { λ r. ⌜ r ≤ 300000000 ⌝ }
 {
@@ -54,7 +55,7 @@ fn visit<'a>(out: &mut [u8], pv1: &'a [u8], s: &'a [u8], places: &[usize; 11], d
 
 // An order's OBR.
 fn order<'a>(out: &mut [u8], obr: &'a [u8], s: &'a [u8], places: &[usize; 11], d: Delims) -> usize
-    requires { ⌜ (length (now s) ≤ 65536) × Cut 10 (now s) (now places) × Named (now obr) Name.Obr ⌝ }
+    requires { ⌜ (length (now s) ≤ 65536) × Cut 10 (now s) (now places) × Named (now obr) Name.Obr × Proper d ⌝ }
     ensures { λ r. ⌜ Fit r (now (out .exit)) (orderText d 0 (linesOf (now (s .entry)))) (now (out .entry)) ⌝ }
     ensures within { λ r. ⌜ r ≤ 300000000 ⌝ }
 {
@@ -65,7 +66,7 @@ fn order<'a>(out: &mut [u8], obr: &'a [u8], s: &'a [u8], places: &[usize; 11], d
 
 // Its ORC, with the same number.
 fn control<'a>(out: &mut [u8], orc: &'a [u8], s: &'a [u8], places: &[usize; 11], d: Delims) -> usize
-    requires { ⌜ (length (now s) ≤ 65536) × Cut 10 (now s) (now places) × Named (now orc) Name.Orc ⌝ }
+    requires { ⌜ (length (now s) ≤ 65536) × Cut 10 (now s) (now places) × Named (now orc) Name.Orc × Proper d ⌝ }
     ensures { λ r. ⌜ Fit r (now (out .exit)) (orderText d 1 (linesOf (now (s .entry)))) (now (out .entry)) ⌝ }
     ensures within { λ r. ⌜ r ≤ 300000000 ⌝ }
 {
@@ -75,7 +76,7 @@ fn control<'a>(out: &mut [u8], orc: &'a [u8], s: &'a [u8], places: &[usize; 11],
 
 // Both, the ORC in what remains of the buffer behind the OBR.
 fn put_order(out: &mut [u8], s: &[u8], places: &[usize; 11], d: Delims) -> usize
-    requires { ⌜ (length (now s) ≤ 65536) × Cut 10 (now s) (now places) ⌝ }
+    requires { ⌜ (length (now s) ≤ 65536) × Cut 10 (now s) (now places) × Proper d ⌝ }
     ensures { λ r. ⌜ Added 0 (now (out .entry)) (groupText d 0 0 Name.Obr (linesOf (now (s .entry)))) r (now (out .exit)) ⌝ }
     ensures within { λ r. ⌜ r ≤ 600000000 ⌝ }
 {
@@ -86,7 +87,7 @@ fn put_order(out: &mut [u8], s: &[u8], places: &[usize; 11], d: Delims) -> usize
 
 // "a kana name is a second repetition with P"
 fn patient<'a>(out: &mut [u8], pid: &'a [u8], s: &'a [u8], places: &[usize; 11], d: Delims) -> usize
-    requires { ⌜ (length (now s) ≤ 65536) × Cut 10 (now s) (now places) × Named (now pid) Name.Pid ⌝ }
+    requires { ⌜ (length (now s) ≤ 65536) × Cut 10 (now s) (now places) × Named (now pid) Name.Pid × Proper d ⌝ }
     ensures { λ r. ⌜ Fit r (now (out .exit)) (groupText d 0 0 Name.Pid (linesOf (now (s .entry)))) (now (out .entry)) ⌝ }
     ensures within { λ r. ⌜ r ≤ 300000000 ⌝ }
 {
@@ -121,7 +122,7 @@ fn put_specimen<'a>(
     collected: &'a [u8],
     d: Delims,
 ) -> usize
-    requires { ⌜ Named (now spm) Name.Spm × (length (now number) ≤ 65536) × (length (now kind) ≤ 65536) × (length (now collected) ≤ 65536) ⌝ }
+    requires { ⌜ Named (now spm) Name.Spm × (length (now number) ≤ 65536) × (length (now kind) ≤ 65536) × (length (now collected) ≤ 65536) × Proper d ⌝ }
     ensures { λ r. ⌜ Fit r (now (out .exit)) (specimenText d (now (number .entry)) (now (kind .entry)) (now (collected .entry))) (now (out .entry)) ⌝ }
     ensures within { λ r. ⌜ r ≤ 300000000 ⌝ }
 {
@@ -141,7 +142,7 @@ fn specimen<'a>(
     i: usize,
     d: Delims,
 ) -> usize
-    requires { ⌜ (length (now s) ≤ 65536) × Cut 10 (now s) (now places) × Named (now spm) Name.Spm × (i ≤ 65536) ⌝ }
+    requires { ⌜ (length (now s) ≤ 65536) × Cut 10 (now s) (now places) × Named (now spm) Name.Spm × (i ≤ 65536) × Proper d ⌝ }
     ensures { λ r. ⌜ Fit r (now (out .exit)) (groupText d i 0 Name.Spm (linesOf (now (s .entry)))) (now (out .entry)) ⌝ }
     ensures within { λ r. ⌜ r ≤ 300000000 ⌝ }
 {
@@ -169,7 +170,7 @@ fn put_result<'a>(
     status: &'a [u8],
     d: Delims,
 ) -> usize
-    requires { ⌜ Named (now obx) Name.Obx × (length (now number) ≤ 65536) × (length (now item) ≤ 65536) × (length (now name) ≤ 65536) × (length (now kind) ≤ 65536) × (length (now compare) ≤ 65536) × (length (now value) ≤ 65536) × (length (now join) ≤ 65536) × (length (now second) ≤ 65536) × (length (now unit) ≤ 65536) × (length (now flag) ≤ 65536) × (length (now status) ≤ 65536) ⌝ }
+    requires { ⌜ Named (now obx) Name.Obx × (length (now number) ≤ 65536) × (length (now item) ≤ 65536) × (length (now name) ≤ 65536) × (length (now kind) ≤ 65536) × (length (now compare) ≤ 65536) × (length (now value) ≤ 65536) × (length (now join) ≤ 65536) × (length (now second) ≤ 65536) × (length (now unit) ≤ 65536) × (length (now flag) ≤ 65536) × (length (now status) ≤ 65536) × Proper d ⌝ }
     ensures { λ r. ⌜ Fit r (now (out .exit)) (resultText d (now (number .entry)) (now (item .entry)) (now (name .entry)) (now (kind .entry)) (now (compare .entry)) (now (value .entry)) (now (join .entry)) (now (second .entry)) (now (unit .entry)) (now (flag .entry)) (now (status .entry))) (now (out .entry)) ⌝ }
     ensures within { λ r. ⌜ r ≤ 300000000 ⌝ }
 {
@@ -210,7 +211,7 @@ fn result<'a>(
     j: usize,
     d: Delims,
 ) -> usize
-    requires { ⌜ (length (now s) ≤ 65536) × Cut 10 (now s) (now places) × Named (now obx) Name.Obx × (j ≤ 65536) ⌝ }
+    requires { ⌜ (length (now s) ≤ 65536) × Cut 10 (now s) (now places) × Named (now obx) Name.Obx × (j ≤ 65536) × Proper d ⌝ }
     ensures { λ r. ⌜ Fit r (now (out .exit)) (groupText d 0 j Name.Obx (linesOf (now (s .entry)))) (now (out .entry)) ⌝ }
     ensures within { λ r. ⌜ r ≤ 300000000 ⌝ }
 {
@@ -254,7 +255,7 @@ fn put_group(
     j: usize,
     d: Delims,
 ) -> usize
-    requires { ⌜ (length (now s) ≤ 65536) × Cut 10 (now s) (now places) × (i ≤ 65536) × (j ≤ 65536) ⌝ }
+    requires { ⌜ (length (now s) ≤ 65536) × Cut 10 (now s) (now places) × (i ≤ 65536) × (j ≤ 65536) × Proper d ⌝ }
     ensures { λ r. ⌜ Added 0 (now (out .entry)) (groupText d i j name (linesOf (now (s .entry)))) r (now (out .exit)) ⌝ }
     ensures within { λ r. ⌜ r ≤ 600000000 ⌝ }
 {
@@ -294,7 +295,7 @@ fn put_next(
     j: usize,
     d: Delims,
 ) -> usize
-    requires { ⌜ (length (now s) ≤ 65536) × Cut 10 (now s) (now places) × (i ≤ 65536) × (j ≤ 65536) × (at ≤ 1000000000000000) ⌝ }
+    requires { ⌜ (length (now s) ≤ 65536) × Cut 10 (now s) (now places) × (i ≤ 65536) × (j ≤ 65536) × (at ≤ 1000000000000000) × Proper d ⌝ }
     ensures { λ r. ⌜ Added at (now (out .entry)) (groupText d i j name (linesOf (now (s .entry)))) r (now (out .exit)) ⌝ }
     ensures within { λ r. ⌜ r ≤ at + 600000000 ⌝ }
 {
@@ -420,7 +421,7 @@ fn verdict(known: bool, name: Name, s: &[u8], places: &[usize; 11]) -> Verdict
 
 // A pass over the groups of a sheet. A buffer too short for the message is left in any state, and one with room has the message over its front.
 pub fn pass(out: &mut [u8], sheet: &[u8], d: Delims, known: bool) -> Passed
-    requires { ⌜ (length (now sheet) ≤ 65536) × (known ≡ true → Right (now sheet)) ⌝ }
+    requires { ⌜ (length (now sheet) ≤ 65536) × (known ≡ true → Right (now sheet)) × Proper d ⌝ }
     ensures { λ r. ⌜ Pass d (now (sheet .entry)) (now (out .entry)) r (now (out .exit)) ⌝ }
 {
     let mut group = Name::Other;

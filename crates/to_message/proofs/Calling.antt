@@ -13,12 +13,15 @@ use Rattle.rules.specs.declared.Refusal.{Refusal}
 use Rattle.rules.specs.declared.Written.{Written}
 use Rattle.rules.specs.declared.Written.the-variants.{Wrote, NotWritten}
 use Rattle.rules.specs.Told.{Told, gives, refused, refusal, over, toldLength, lengthOf, Call}
-use Rattle.rules.specs.Lists.{empty, split, onto, last}
+use Rattle.rules.specs.Lists.{bytes, empty, split, onto, last, all, any, has, distinct}
 use Rattle.rules.specs.Shift.{keeps}
+use Rattle.rules.specs.Frame.{delimsOk}
+use Rattle.rules.specs.Proper.{Proper}
 use Rattle.rules.specs.Row.{Row}
 use Rattle.rules.specs.Sheet.{readSheet}
 use Rattle.rules.specs.Message.{base, written, messageOf, messageTold, toMessage}
 use Rattle.rules.proofs.Logic.{cases, not-true, not-false, not-given, toldCases, guard, called-as}
+use Rattle.rules.proofs.Header.{proper}
 use Rattle.rules.proofs.Split.{split-here, split-there, split-cons, front, later, last-split}
 use Rattle.writer.specs.Over as Over
 use Rattle.compose.specs.declared.Size.{Size}
@@ -26,6 +29,10 @@ use Rattle.compose.specs.declared.Passed.{Passed}
 use Rattle.compose.specs.declared.Passed.the-variants.{All, Not}
 use Rattle.compose.specs.Compose.{toldSize, refusalAt, sizeOf, rowsIn, sizeTold, Right, Pass}
 use Rattle.to_message.specs.Call.{composedTold}
+
+-- the writer's delimiters keep the header rule
+pub base-proper : (d : Delims) → d ≡ base → Proper d
+base-proper d e = rw e (proper base (unfold delimsOk base all any has distinct bytes in refl))
 
 -- a refusal leaves the buffer as it was
 kept : (x : List ℕ) (k : Refusal) → Call (refusal k) x (NotWritten k) x

@@ -11,6 +11,7 @@ ghost use lib.ListN.{length};
 ghost use Rattle.rules.specs.Told.{gives, over, toldLength, lengthOf, Call};
 ghost use Rattle.rules.specs.Lists.{empty, last, split};
 ghost use Rattle.rules.specs.Message.{base, toMessage};
+ghost use Rattle.rules.specs.Proper.{Proper};
 ghost use Rattle.compose.specs.Compose.{sizeTold};
 ghost use Rattle.to_message.specs.Call.{composedTold};
 
@@ -40,7 +41,7 @@ fn delimiters() -> Delims
 
 // 44, 45, or the message of a sheet that was judged and whose message has this size.
 fn write(out: &mut [u8], sheet: &[u8], d: Delims, size: Size) -> Written
-    requires { ⌜ (length (now sheet) ≤ 65536) × (gives size ≡ sizeTold d (now sheet)) ⌝ }
+    requires { ⌜ (length (now sheet) ≤ 65536) × (gives size ≡ sizeTold d (now sheet)) × Proper d ⌝ }
     ensures { λ r. ⌜ Call (composedTold d (now (sheet .entry)) (length (now (out .entry)))) (now (out .entry)) r (now (out .exit)) ⌝ }
 {
     let bytes = size.bytes;

@@ -7,19 +7,24 @@ use Prim.Native.Nat.{ℕ, _+_, _-_, _≤_, _<_}
 use native.Mathlib.Omega.{arith}
 use borrow.Author.Tests.{eq-eqb, ne-eqb}
 use lib.Dec.{eqb}
-use lib.ListN.{length, drop, getD, length-append}
+use lib.ListN.{length, drop, getD, set, length-append}
 use Rattle.rules.specs.declared.Delims.{Delims}
 use Rattle.rules.specs.declared.Mode.the-variants.{One}
 use Rattle.rules.specs.Shift.{marks, met, byteOf}
 use Rattle.rules.specs.Escape.{letters, letterFor, escapeMet, escape}
+use Rattle.rules.specs.Lists.{has, all, bytes}
+use Rattle.rules.specs.Frame.{twelve}
+use Rattle.rules.specs.Proper.{Delim, Proper}
 use Rattle.rules.proofs.Logic.{cases, optionCases, never, not-true, not-false}
 use Rattle.rules.proofs.Modes.{marks-over}
+use Rattle.rules.proofs.Header.{delim-ne, delim-apart, delim-far}
 use Rattle.rules.proofs.Escaped.{no-letter, byte-near, escape-far}
-use Rattle.scan.specs.Scan.{between, hidden, Reaches}
-use Rattle.scan.proofs.Laws.{between-length}
+use Rattle.scan.specs.Scan.{between, hidden, Reaches, alnum}
+use Rattle.scan.proofs.Laws.{between-none, between-length, alnum-plain}
+use Rattle.scan.proofs.Walk.{plain-on}
 use Rattle.writer.specs.Over.{Wrote, Put}
 use Rattle.writer.specs.Escaping.{unitAs, unitOf, letterOrZero, letterOf, lettered, isDelimiter}
-use Rattle.writer.proofs.Laws.{Splits, Running, run-start, run-room, run-next, run-end}
+use Rattle.writer.proofs.Laws.{stored, Splits, Running, run-start, run-room, run-next, run-end}
 
 -- ---- the letter of a byte
 module _ (d : Delims) (b : ℕ) where
@@ -103,20 +108,26 @@ escape-end : (d : Delims) (t : List ℕ) (i : ℕ) → length t ≤ i → escape
 unfolding escapeMet
 escape-end d t i h = rw (marks-over 0x0D t i One h)
 
-module _ (d : Delims) (f : d .field < 256) (c : d .component < 256) (s : d .sub < 256) (r : d .repetition < 256) (x : d .escape < 256) where
-  unlettered : (b : ℕ) → letterFor (letters d) (256 + b) ≡ none
-  unlettered b =
-      no-letter d (256 + b)
-      (ne-eqb (256 + b) (d .field) (λ q. omega arith))
-      (ne-eqb (256 + b) (d .component) (λ q. omega arith))
-      (ne-eqb (256 + b) (d .sub) (λ q. omega arith))
-      (ne-eqb (256 + b) (d .repetition) (λ q. omega arith))
-      (ne-eqb (256 + b) (d .escape) (λ q. omega arith))
+-- a letter or a digit is none of the twelve
+undelimited : (b : ℕ) → alnum b ≡ true → has b twelve ≡ false
+unfolding all bytes
+undelimited b a = cases (has b twelve) (λ q. never (sym a ∙ delim-apart b q alnum refl)) (λ q. q)
+
+module _ (d : Delims) (p : Proper d) where
+  -- what is no delimiter has no letter
+  unlettered : (b : ℕ) → ((x : ℕ) → Delim x → eqb b x ≡ false) → letterFor (letters d) b ≡ none
+  unlettered b n =
+      no-letter d b
+      (n (d .field) (p .field))
+      (n (d .component) (p .component))
+      (n (d .sub) (p .sub))
+      (n (d .repetition) (p .repetition))
+      (n (d .escape) (p .escape))
 
   escape-hidden : (w t : List ℕ) → escapeMet d (hidden w ++ t) ≡ w ++ escapeMet d t
   unfolding hidden
   escape-hidden [] t = refl
-  escape-hidden (b ∷ w) t = escape-far d b (hidden w ++ t) (unlettered b) ∙ ap (λ (l : List ℕ). b ∷ l) (escape-hidden w t)
+  escape-hidden (b ∷ w) t = escape-far d b (hidden w ++ t) (unlettered (256 + b) (λ x h. delim-far x h b)) ∙ ap (λ (l : List ℕ). b ∷ l) (escape-hidden w t)
 
   -- a byte of one-byte mode, what stands between as it is, and the rest from the next such byte on
   escape-next : (t : List ℕ) (i j : ℕ) (k : Bool) → Reaches 0x0D t i j k
@@ -125,6 +136,18 @@ module _ (d : Delims) (f : d .field < 256) (c : d .component < 256) (s : d .sub 
       let w : List ℕ = between (i + 1) j t in
       let m : List ℕ = marks 0x0D One (drop j t) in
       record { eq = ap (escapeMet d) (g .met) ∙ escape-cons d (getD t i 0) (hidden w ++ m) ∙ ap (λ l. unitOf d (getD t i 0) ++ l) (escape-hidden w m) }
+
+  -- a letter or a digit is no delimiter and stands for itself
+  unit-simple : (b : ℕ) → alnum b ≡ true → b < 256 → unitOf d b ≡ b ∷ []
+  unfolding unitOf unitAs
+  unit-simple b a h = rw (unlettered b (λ x g. delim-ne x g b (undelimited b a)), byte-near b h)
+
+  simple-next : (t : List ℕ) (i : ℕ) (y : Bool) → i < length t → y ≡ alnum (getD t i 0) → y ≡ true
+      → Splits (escapeMet d (marks 0x0D One (drop i t))) (getD t i 0 ∷ []) (escapeMet d (marks 0x0D One (drop (i + 1) t)))
+  simple-next t i y h e g =
+      let a : alnum (getD t i 0) ≡ true = sym e ∙ g in
+      let r = plain-on 0x0D t i h (alnum-plain (getD t i 0) a) in
+      record { eq = escape-next t i (i + 1) true r .eq ∙ rw (unit-simple (getD t i 0) a (r .byte), between-none t (i + 1)) }
 
 -- ---- the loop that writes
 pub escape-begins : (d : Delims) (t out : List ℕ) → length (escape d t) ≤ length out → Running (escape d t) (escapeMet d (marks 0x0D One (drop 0 t))) out out 0
@@ -135,13 +158,23 @@ module _ (d : Delims) (t whole out₀ out : List ℕ) (i at : ℕ) (p : Running 
   pub escape-ends : length t ≤ i → Wrote at out whole out₀
   escape-ends h = run-end p (escape-end d t i h)
 
-  module _ (j : ℕ) (k : Bool) (g : Reaches 0x0D t i j k) (f : d .field < 256) (c : d .component < 256) (s : d .sub < 256) (l : d .repetition < 256) (x : d .escape < 256) where
+  module _ (y : Bool) (h : i < length t) (e : y ≡ alnum (getD t i 0)) (g : y ≡ true) (q : Proper d) where
+    pub simple-room : at < length out
+    simple-room = omega (arith, run-room p (simple-next d q t i y h e g))
+
+    pub simple-few : length out₀ < 18446744073709551616 → at + 1 < 18446744073709551616
+    simple-few l = omega (arith, p .same, simple-room)
+
+    pub simple-goes : Running whole (escapeMet d (marks 0x0D One (drop (i + 1) t))) out₀ (set out at (getD t i 0)) (at + 1)
+    simple-goes = run-next p (simple-next d q t i y h e g) (stored at out (getD t i 0) simple-room)
+
+  module _ (j : ℕ) (k : Bool) (g : Reaches 0x0D t i j k) (o : Proper d) where
     pub byte-room : at + length (unitOf d (getD t i 0)) ≤ length out
-    byte-room = run-room p (escape-next d f c s l x t i j k g)
+    byte-room = run-room p (escape-next d o t i j k g)
 
     module _ (r : ℕ) (y : List ℕ) (q : Put at out (unitOf d (getD t i 0)) r y) where
       byte-goes : Running whole (between (i + 1) j t ++ escapeMet d (marks 0x0D One (drop j t))) out₀ y r
-      byte-goes = run-next p (escape-next d f c s l x t i j k g) q
+      byte-goes = run-next p (escape-next d o t i j k g) q
 
       pub stretch-room : r + length (between (i + 1) j t) ≤ length y
       stretch-room = run-room byte-goes {b = between (i + 1) j t} {l = escapeMet d (marks 0x0D One (drop j t))} (record { eq = refl })
@@ -155,11 +188,13 @@ unfolding escape met
 measure-begins d t = omega arith
 
 module _ (d : Delims) (t whole : List ℕ) (i n : ℕ) (p : n + length (escapeMet d (marks 0x0D One (drop i t))) ≡ length whole) where
-  pub measure-goes : (j u : ℕ) (k : Bool) → Reaches 0x0D t i j k → u ≡ length (unitOf d (getD t i 0))
-      → d .field < 256 → d .component < 256 → d .sub < 256 → d .repetition < 256 → d .escape < 256
+  pub measure-goes : (j u : ℕ) (k : Bool) → Reaches 0x0D t i j k → u ≡ length (unitOf d (getD t i 0)) → Proper d
       → (n + (u + (j - (i + 1)))) + length (escapeMet d (marks 0x0D One (drop j t))) ≡ length whole
-  measure-goes j u k g e f c s l x =
-      omega (arith, simp length-append at (ap length (escape-next d f c s l x t i j k g .eq)), between-length t (i + 1) j (g .inside))
+  measure-goes j u k g e o =
+      omega (arith, simp length-append at (ap length (escape-next d o t i j k g .eq)), between-length t (i + 1) j (g .inside))
+
+  pub simple-measured : (y : Bool) → i < length t → y ≡ alnum (getD t i 0) → y ≡ true → Proper d → (n + 1) + length (escapeMet d (marks 0x0D One (drop (i + 1) t))) ≡ length whole
+  simple-measured y h e g q = omega (arith, ap length (simple-next d q t i y h e g .eq))
 
   pub measure-ends : length t ≤ i → n ≡ length whole
   measure-ends h = omega (arith, ap length (escape-end d t i h))

@@ -6,7 +6,7 @@ use native.Mathlib.Nat.{le-of-suc-le-suc, not-suc-le-zero}
 use native.Mathlib.Numerals.{add-one}
 use native.Mathlib.Omega.{arith}
 use lib.ListN.{length, take, drop, getD, set, length-append, length-drop, drop-of-length-le}
-use lib.Seq.{take-at, drop-at, drop-drop, take-length, length-take-le}
+use lib.Seq.{take-at, drop-at, drop-drop, take-length, length-take-le, set-split}
 use Rattle.rules.proofs.Lists.{rest-is}
 use Rattle.writer.specs.Over.{over, overAt, Wrote, Put}
 
@@ -49,6 +49,11 @@ then {at} {r} {x} {y} {w} {b} {old} p e =
 pub back : (at : ℕ) (x : List ℕ) {r : ℕ} {y b : List ℕ} → Wrote r y b (take (length x - at) (drop at x)) → Put at x b (at + r) (take at x ++ (y ++ drop (length x - at) (drop at x)))
 unfolding overAt
 back at x p = record { ends = omega arith; is = rw (p .is, rest-is, tail-none, append-nil) }
+
+-- a store is a write of one byte
+pub stored : (at : ℕ) (x : List ℕ) (b : ℕ) → at < length x → Put at x (b ∷ []) (at + 1) (set x at b)
+unfolding over overAt
+stored at x b h = record { ends = refl; is = set-split x at b h ∙ rw (drop-drop, add-one) }
 
 -- what is left of a text begins with b. (A record, so that a law's caller need not write b and l.)
 pub record Splits (left b l : List ℕ) : Type 0 where

@@ -5,6 +5,7 @@ ghost use Prim.Native.Nat.{_+_, _*_, _≤_};
 ghost use lib.ListN.{length, drop};
 ghost use Rattle.rules.specs.Escape.{escape};
 ghost use Rattle.rules.specs.Message.{decimal};
+ghost use Rattle.rules.specs.Proper.{Proper};
 ghost use Rattle.writer.specs.Over.{Wrote, Put, Fit};
 ghost use Rattle.writer.specs.Woven.{delimiterOf, taken, slotText, firstText, woven, holes, sizes};
 ghost use Rattle.writer.specs.Escaping.{unitOf, letterOf, isDelimiter};
@@ -116,7 +117,7 @@ fn unit_len(b: u8, d: Delims) -> usize
 
 // How many bytes a text takes, escaped.
 pub fn escaped_len(text: &[u8], d: Delims) -> usize
-    requires { ⌜ length (now text) ≤ 1000000 ⌝ }
+    requires { ⌜ (length (now text) ≤ 1000000) × Proper d ⌝ }
     ensures { λ r. ⌜ r ≡ length (escape d (now (text .entry))) ⌝ }
     ensures within { λ r. ⌜ r ≤ 3 * length (now (text .entry)) ⌝ }
 {
@@ -124,6 +125,12 @@ pub fn escaped_len(text: &[u8], d: Delims) -> usize
     let mut i = 0;
     while i < text.len() {
         let b = text[i];
+        // A letter or digit is no delimiter and stands for itself.
+        if scan::simple(b) {
+            n += 1;
+            i += 1;
+            continue;
+        }
         let next = scan::next_byte(text, i, 0x0D);
         let to = next.at;
         n += unit_len(b, d) + (to - (i + 1));
@@ -134,13 +141,20 @@ pub fn escaped_len(text: &[u8], d: Delims) -> usize
 
 // A text, with the delimiters of its one-byte stretches escaped; what stands between two bytes of one-byte mode is copied as it is.
 pub fn put_escaped(out: &mut [u8], text: &[u8], d: Delims) -> usize
-    requires { ⌜ length (escape d (now text)) ≤ length (now out) ⌝ }
+    requires { ⌜ (length (escape d (now text)) ≤ length (now out)) × Proper d ⌝ }
     ensures { λ r. ⌜ Wrote r (now (out .exit)) (escape d (now (text .entry))) (now (out .entry)) ⌝ }
 {
     let mut at = 0;
     let mut i = 0;
     while i < text.len() {
         let b = text[i];
+        // A letter or digit is no delimiter and stands for itself.
+        if scan::simple(b) {
+            out[at] = b;
+            at += 1;
+            i += 1;
+            continue;
+        }
         let next = scan::next_byte(text, i, 0x0D);
         let to = next.at;
         let after = i + 1;
@@ -152,7 +166,7 @@ pub fn put_escaped(out: &mut [u8], text: &[u8], d: Delims) -> usize
 }
 
 pub fn put_escaped_at(out: &mut [u8], at: usize, text: &[u8], d: Delims) -> usize
-    requires { ⌜ at + length (escape d (now text)) ≤ length (now out) ⌝ }
+    requires { ⌜ (at + length (escape d (now text)) ≤ length (now out)) × Proper d ⌝ }
     ensures { λ r. ⌜ Put at (now (out .entry)) (escape d (now (text .entry))) r (now (out .exit)) ⌝ }
 {
     at + put_escaped(&mut out[at..], text, d)
@@ -197,7 +211,7 @@ fn texts_for(slot: u8) -> usize
 
 // What stands for it in the segment, and how many bytes that is.
 fn put_slot(out: &mut [u8], at: usize, slot: u8, texts: &[&[u8]], next: usize, d: Delims) -> usize
-    requires { ⌜ (next + taken slot ≤ length (now texts)) × (at + length (slotText d slot (firstText (drop next (now texts)))) ≤ length (now out)) ⌝ }
+    requires { ⌜ (next + taken slot ≤ length (now texts)) × (at + length (slotText d slot (firstText (drop next (now texts)))) ≤ length (now out)) × Proper d ⌝ }
     ensures { λ r. ⌜ Put at (now (out .entry)) (slotText d slot (firstText (drop next (now (texts .entry))))) r (now (out .exit)) ⌝ }
 {
     if slot == b'$' {
@@ -210,7 +224,7 @@ fn put_slot(out: &mut [u8], at: usize, slot: u8, texts: &[&[u8]], next: usize, d
 }
 
 fn slot_len(slot: u8, texts: &[&[u8]], next: usize, d: Delims) -> usize
-    requires { ⌜ (next + taken slot ≤ length (now texts)) × (sizes (now texts) ≤ 1000000) ⌝ }
+    requires { ⌜ (next + taken slot ≤ length (now texts)) × (sizes (now texts) ≤ 1000000) × Proper d ⌝ }
     ensures { λ r. ⌜ r ≡ length (slotText d slot (firstText (drop next (now (texts .entry))))) ⌝ }
 {
     if slot == b'$' {
@@ -230,7 +244,7 @@ fn length_of(text: &[u8]) -> usize
 
 // The whole pattern.
 fn put_woven(out: &mut [u8], pattern: &[u8], texts: &[&[u8]], d: Delims) -> usize
-    requires { ⌜ (holes (now pattern) ≤ length (now texts)) × (length (woven d (now pattern) (now texts)) ≤ length (now out)) ⌝ }
+    requires { ⌜ (holes (now pattern) ≤ length (now texts)) × (length (woven d (now pattern) (now texts)) ≤ length (now out)) × Proper d ⌝ }
     ensures { λ r. ⌜ Wrote r (now (out .exit)) (woven d (now (pattern .entry)) (now (texts .entry))) (now (out .entry)) ⌝ }
 {
     let mut at = 0;
@@ -246,7 +260,7 @@ fn put_woven(out: &mut [u8], pattern: &[u8], texts: &[&[u8]], d: Delims) -> usiz
 }
 
 fn woven_len(pattern: &[u8], texts: &[&[u8]], d: Delims) -> usize
-    requires { ⌜ (holes (now pattern) ≤ length (now texts)) × (sizes (now texts) ≤ 1000000) × (length (now pattern) ≤ 100) ⌝ }
+    requires { ⌜ (holes (now pattern) ≤ length (now texts)) × (sizes (now texts) ≤ 1000000) × (length (now pattern) ≤ 100) × Proper d ⌝ }
     ensures { λ r. ⌜ r ≡ length (woven d (now (pattern .entry)) (now (texts .entry))) ⌝ }
 {
     let mut n: usize = 0;
@@ -278,7 +292,7 @@ fn sizes_of(texts: &[&[u8]]) -> usize
 // Writes it where the lent tail has room, and answers its length in either case. No byte takes more than three, so it is measured only where
 // the tail could be too short.
 pub fn fit_woven(out: &mut [u8], pattern: &[u8], texts: &[&[u8]], d: Delims) -> usize
-    requires { ⌜ (holes (now pattern) ≤ length (now texts)) × (sizes (now texts) ≤ 1000000) × (length (now pattern) ≤ 100) ⌝ }
+    requires { ⌜ (holes (now pattern) ≤ length (now texts)) × (sizes (now texts) ≤ 1000000) × (length (now pattern) ≤ 100) × Proper d ⌝ }
     ensures { λ r. ⌜ Fit r (now (out .exit)) (woven d (now (pattern .entry)) (now (texts .entry))) (now (out .entry)) ⌝ }
     ensures within { λ r. ⌜ r ≤ 300000000 ⌝ }
 {

@@ -69,7 +69,7 @@ returns c =
 put-next-requires : tie.Need-put-next-requires Inv-loop μ-loop
 put-next-requires c κs =
     let kept = turn (c .before .before .before) .loop .inv in
-    (rest-low kept, kept .cut, omega (arith, kept), omega (arith, kept), omega (arith, kept))
+    (rest-low kept, kept .cut, omega (arith, kept), omega (arith, kept), omega (arith, kept), kept .proper)
 
 segments-of-requires : tie.Need-segments-of-requires Inv-loop μ-loop
 segments-of-requires c κs = search needs

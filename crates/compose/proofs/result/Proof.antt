@@ -79,6 +79,7 @@ put-result-requires c κs =
       omega (arith, unit .value-at8 .ensures .1, asked .0),
       omega (arith, flag .value-at9 .ensures .1, asked .0),
       omega (arith, status .value-at10 .ensures .1, asked .0),
+      asked .4,
     )
 
 same-length : tie.Need-same-length

@@ -31,7 +31,7 @@ put-specimen-requires c κs =
     let collected = c .before .before .before .before .before in
     let kind = collected .before in
     let asked = kind .before .before .before .before .pre in
-    (asked .2, number-size _ _ _ _ (c .before .before .before .put-number .ensures) (asked .3), omega (arith, kind .value-at .ensures .1, asked .0), omega (arith, collected .value-at2 .ensures .1, asked .0))
+    (asked .2, number-size _ _ _ _ (c .before .before .before .put-number .ensures) (asked .3), omega (arith, kind .value-at .ensures .1, asked .0), omega (arith, collected .value-at2 .ensures .1, asked .0), asked .4)
 
 same-length : tie.Need-same-length
 same-length c = search needs

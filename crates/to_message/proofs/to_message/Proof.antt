@@ -1,4 +1,4 @@
-use Rattle.to_message.proofs.Calling.{call-40, call-41, call-41-end, pass-all, call-refused, call-all, refuses, answers}
+use Rattle.to_message.proofs.Calling.{base-proper, call-40, call-41, call-41-end, pass-all, call-refused, call-all, refuses, answers}
 use mathlib.Core.Path.{sym}
 use borrow.Author.Needs.{needs}
 use Rattle.rules.proofs.Logic.{never}
@@ -36,7 +36,7 @@ slice-aggregate-pass : tie.Need-slice-aggregate-pass
 slice-aggregate-pass c = search needs
 
 pass-requires : tie.Need-pass-requires
-pass-requires c κs = (search needs, λ k. never (sym k))
+pass-requires c κs = (search needs, λ k. never (sym k), search (base-proper, needs))
 
 enum-known-r : tie.Need-enum-known-r
 enum-known-r c = search needs
@@ -45,7 +45,7 @@ enum-known-size : tie.Need-enum-known-size
 enum-known-size c = search needs
 
 write-requires : tie.Need-write-requires
-write-requires c κs = search (pass-all, needs)
+write-requires c κs = search (pass-all, base-proper, needs)
 
 returns-4 : tie.Need-returns-4
 returns-4 c = refuses _ (search (call-refused, needs))

@@ -6,7 +6,7 @@ use Rattle.rules.specs.declared.Mode.the-variants.{One}
 use Rattle.rules.specs.Shift.{marks}
 use Rattle.rules.specs.Escape.{escape, escapeMet}
 use Rattle.writer.proofs.Laws.{Running}
-use Rattle.writer.proofs.Escapes.{escape-begins, byte-room, stretch-room, escape-goes, escape-ends}
+use Rattle.writer.proofs.Escapes.{escape-begins, simple-room, simple-few, simple-goes, byte-room, stretch-room, escape-goes, escape-ends}
 use Rattle.writer.proofs.put_escaped.Statement.{statement}
 use Rattle.writer.proofs.put_escaped.Tie as tie
 
@@ -21,6 +21,24 @@ loop-holds c = search (escape-begins, needs)
 
 shared-slice-read-b : tie.Need-shared-slice-read-b Inv-loop μ-loop
 shared-slice-read-b c = search needs
+
+simple-requires : tie.Need-simple-requires Inv-loop μ-loop
+simple-requires c κs = search needs
+
+slice-write-out : tie.Need-slice-write-out Inv-loop μ-loop
+slice-write-out c = search (simple-room, needs)
+
+add-at : tie.Need-add-at Inv-loop μ-loop
+add-at c = search (simple-few, needs)
+
+add-i : tie.Need-add-i Inv-loop μ-loop
+add-i c = search needs
+
+loop-less : tie.Need-loop-less Inv-loop μ-loop
+loop-less c = search needs
+
+loop-again : tie.Need-loop-again Inv-loop μ-loop
+loop-again c = search (simple-goes, needs)
 
 next-byte-requires : tie.Need-next-byte-requires Inv-loop μ-loop
 next-byte-requires c κs = search needs
@@ -43,11 +61,11 @@ part-put-at-end c = search needs
 put-at-requires : tie.Need-put-at-requires Inv-loop μ-loop
 put-at-requires c κs = search (stretch-room, needs)
 
-loop-less : tie.Need-loop-less Inv-loop μ-loop
-loop-less c = search needs
+loop-less-2 : tie.Need-loop-less-2 Inv-loop μ-loop
+loop-less-2 c = search needs
 
-loop-again : tie.Need-loop-again Inv-loop μ-loop
-loop-again c = search (escape-goes, needs)
+loop-again-2 : tie.Need-loop-again-2 Inv-loop μ-loop
+loop-again-2 c = search (escape-goes, needs)
 
 same-length : tie.Need-same-length Inv-loop μ-loop
 same-length c = search needs
@@ -63,6 +81,12 @@ put-escaped-spec =
     μ-loop
     loop-holds
     shared-slice-read-b
+    simple-requires
+    slice-write-out
+    add-at
+    add-i
+    loop-less
+    loop-again
     next-byte-requires
     add-after
     put-unit-requires
@@ -70,7 +94,7 @@ put-escaped-spec =
     part-put-at-start
     part-put-at-end
     put-at-requires
-    loop-less
-    loop-again
+    loop-less-2
+    loop-again-2
     same-length
     returns)
