@@ -30,7 +30,7 @@ use Rattle.closed.proofs.Pieces.{piece-at, onward-within, until-free, repetitio
 use Rattle.closed.proofs.Laws.{head-met}
 use Rattle.report.specs.Fill.{Filled, Lined, keyed}
 use Rattle.report.proofs.Filling.{clean-whole, lined-then}
-use Rattle.report.specs.Section.{Leads, linesIn, modeLines, nameLines, namesLines, birthLines, personLines, itemLines, observedLines, fourLines, fourIn, oneOf, oneIn, statusLines}
+use Rattle.report.specs.Section.{Leads, linesIn, modeLines, nameLines, namesLines, birthLines, personLines, itemLines, observedLines, fourLines, fourIn, only, onlyIn, statusLines}
 
 -- ---- walking
 pub field-within : (sep n : ℕ) (t r : List ℕ) → met r ≡ onward sep n (met t) → length r ≤ length t
@@ -231,19 +231,19 @@ module _ (d : Delims) (f : List ℕ) where
     unfolding rawFour fourIn
     parts-sn h p = rw (← g, h) p
 
-    pub parts-one : q ≡ false → Lined at x (fourLines d (oneIn d (met f))) r y → Lined at x (fourLines d (rawFour d (plainOf d kind) (met f))) r y
-    unfolding rawFour oneIn
+    pub parts-one : q ≡ false → Lined at x (fourLines d (onlyIn d (met f))) r y → Lined at x (fourLines d (rawFour d (plainOf d kind) (met f))) r y
+    unfolding rawFour onlyIn
     parts-one h p = rw (← g, h) p
 
   module _ (at r : ℕ) (x y : List ℕ) where
     pub single-part : (a n m o : List ℕ) → met a ≡ until (is (d .component)) (met f) → n ≡ [] → m ≡ [] → o ≡ []
         → Lined at x (fourLines d (record { compare = met n; value = met a; join = met m; second = met o })) r y
-        → Lined at x (fourLines d (oneIn d (met f))) r y
-    unfolding oneIn met marks
+        → Lined at x (fourLines d (onlyIn d (met f))) r y
+    unfolding onlyIn met marks
     single-part a n m o k u v w p = rw (first-piece (d .component) (met f), ← k) (rw (u, v, w) at p)
 
-    pub single-whole : (n : ℕ) (q : Bool) → CutOf d f n q → (q && eqb n (length f)) ≡ true → Lined at x (fourLines d (oneOf (met f))) r y → Lined at x (fourLines d (oneIn d (met f))) r y
-    unfolding oneIn
+    pub single-whole : (n : ℕ) (q : Bool) → CutOf d f n q → (q && eqb n (length f)) ≡ true → Lined at x (fourLines d (only (met f))) r y → Lined at x (fourLines d (onlyIn d (met f))) r y
+    unfolding onlyIn
     single-whole n q c h p =
         let e : until (ends d) (met f) ≡ met f = clean-whole d f n q c h in
         let u : until (is (d .component)) (met f) ≡ met f = ap (until (is (d .component))) (sym e) ∙ until-less (ends d) (is (d .component)) (ends-component d) (met f) ∙ e in
@@ -252,7 +252,7 @@ module _ (d : Delims) (f : List ℕ) where
 pub alone-is : (d : Delims) (at r i k : ℕ) (x y z w v a b c e h j l : List ℕ) → plainOf d (met v) ≡ v → a ≡ [] → b ≡ [] → c ≡ []
     → e ≡ bytes "compare=" → h ≡ bytes "value=" → j ≡ bytes "join=" → l ≡ bytes "second="
     → Lined at x (keyed d e (met a) ∷ []) r y → Lined r y ((h ++ v) ∷ []) i z → Lined i z (keyed d j (met b) ∷ keyed d l (met c) ∷ []) k w
-    → Lined at x (fourLines d (oneOf (met v))) k w
+    → Lined at x (fourLines d (only (met v))) k w
 unfolding fourLines
 alone-is d at r i k x y z w v a b c e h j l g ea eb ec ee eh ej el p q o = rw g (rw (ea, eb, ec, met-nil, ee, eh, ej, el) at (lined-then (lined-then p q) o))
 

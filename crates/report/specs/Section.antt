@@ -66,11 +66,11 @@ unfoldable pub fourIn : Delims → List ℕ → Four (List ℕ)
 fourIn d f = let c = nth (split (d .component) f) in record { compare = c 0; value = c 1; join = c 2; second = c 3 }
 
 -- a value with nothing beside it; the first component
-abbrev pub oneOf : List ℕ → Four (List ℕ)
-oneOf v = record { compare = []; value = v; join = []; second = [] }
+abbrev pub only : List ℕ → Four (List ℕ)
+only v = record { compare = []; value = v; join = []; second = [] }
 
-unfoldable pub oneIn : Delims → List ℕ → Four (List ℕ)
-oneIn d f = oneOf (nth (split (d .component) f) 0)
+unfoldable pub onlyIn : Delims → List ℕ → Four (List ℕ)
+onlyIn d f = only (nth (split (d .component) f) 0)
 
 -- OBX-6, 8 and 11
 unfoldable pub statusLines : Delims → List ℕ → List (List ℕ)

@@ -13,7 +13,7 @@ ghost use Rattle.rules.specs.Proper.{Proper};
 ghost use Rattle.rules.specs.Judge.{plainOf, firstMarked, isSN, rawFour};
 ghost use Rattle.scan.specs.Scan.{until, is, ends, next, onward};
 ghost use Rattle.report.specs.Fill.{Lined};
-ghost use Rattle.report.specs.Section.{Leads, linesIn, modeLines, nameLines, namesLines, birthLines, personLines, itemLines, observedLines, fourLines, fourIn, oneOf, oneIn, statusLines};
+ghost use Rattle.report.specs.Section.{Leads, linesIn, modeLines, nameLines, namesLines, birthLines, personLines, itemLines, observedLines, fourLines, fourIn, only, onlyIn, statusLines};
 
 // ---- walking
 
@@ -279,7 +279,7 @@ fn parts(out: &mut [u8], at: usize, f: &[u8], kind: &[u8], d: Delims) -> usize
 // The value of another type, the first component; where that is the whole field and has no escapes, the field as it is.
 fn single(out: &mut [u8], at: usize, f: &[u8], d: Delims) -> usize
     requires { ⌜ Proper d × (length (now f) ≤ 4096) × (at ≤ 20000) ⌝ }
-    ensures { λ r. ⌜ Lined at (now (out .entry)) (fourLines d (oneIn d (met (now (f .entry))))) r (now (out .exit)) ⌝ }
+    ensures { λ r. ⌜ Lined at (now (out .entry)) (fourLines d (onlyIn d (met (now (f .entry))))) r (now (out .exit)) ⌝ }
     ensures within { λ r. ⌜ r ≤ at + 16452 ⌝ }
 {
     let c = scan::first(f, d);
@@ -293,7 +293,7 @@ fn single(out: &mut [u8], at: usize, f: &[u8], d: Delims) -> usize
 // A value that has no escapes, with nothing beside it.
 fn alone(out: &mut [u8], at: usize, value: &[u8], d: Delims) -> usize
     requires { ⌜ Proper d × (plainOf d (met (now value)) ≡ now value) × (length (now value) ≤ 4096) × (at ≤ 20000) ⌝ }
-    ensures { λ r. ⌜ Lined at (now (out .entry)) (fourLines d (oneOf (met (now (value .entry))))) r (now (out .exit)) ⌝ }
+    ensures { λ r. ⌜ Lined at (now (out .entry)) (fourLines d (only (met (now (value .entry))))) r (now (out .exit)) ⌝ }
     ensures within { λ r. ⌜ r ≤ at + 16452 ⌝ }
 {
     let at = fill::line(out, at, b"compare=", b"", d);

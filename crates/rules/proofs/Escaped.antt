@@ -104,7 +104,7 @@ no-letter d y f c s r e = cc
 
 module _ (d : Delims) (p : Proper d) where
   -- so one other than the twelve, or outside one-byte mode
-  unlettered : (y : ℕ) → ((x : ℕ) → Delim x → eqb y x ≡ false) → letterFor (letters d) y ≡ none
+  pub unlettered : (y : ℕ) → ((x : ℕ) → Delim x → eqb y x ≡ false) → letterFor (letters d) y ≡ none
   unlettered y n = no-letter d y (n (d .field) (p .field)) (n (d .component) (p .component)) (n (d .sub) (p .sub)) (n (d .repetition) (p .repetition)) (n (d .escape) (p .escape))
 
   coded-is : (b l : ℕ) → letterFor (letters d) b ≡ some l → Coded d b l

@@ -440,7 +440,7 @@ module _ (d : Delims) (t : List ℕ) (clean : Bool) (i : ℕ) (inv : Cutting d t
   first-plain y z w h p e g f v o = first-on y z true (i + 1) p e g f (plain-on 0x0D t i h (sym v ∙ o))
 
 -- a letter or a digit is no delimiter
-apart : (b x : ℕ) → alnum b ≡ true → Delim x → eqb b x ≡ false
+pub apart : (b x : ℕ) → alnum b ≡ true → Delim x → eqb b x ≡ false
 unfolding all bytes
 apart b x h g = ne-eqb b x (λ q. let z : true ≡ false = sym h ∙ ap alnum q ∙ delim-apart x g alnum refl in never z)
 

@@ -202,6 +202,65 @@ pub fn before(s: &[u8], sep: u8) -> usize
     i
 }
 
+// A word of a place that has several.
+fn is_mode(v: &[u8]) -> bool
+    ensures { λ r. ⌜ r ≡ isOneOf (textOf Words.Modes) (now (v .entry)) ⌝ }
+{
+    equal(v, b"P") | equal(v, b"T") | equal(v, b"D")
+}
+
+fn is_sex(v: &[u8]) -> bool
+    ensures { λ r. ⌜ r ≡ isOneOf (textOf Words.Sexes) (now (v .entry)) ⌝ }
+{
+    equal(v, b"M") | equal(v, b"F") | equal(v, b"O") | equal(v, b"U")
+}
+
+fn is_class(v: &[u8]) -> bool
+    ensures { λ r. ⌜ r ≡ isOneOf (textOf Words.Classes) (now (v .entry)) ⌝ }
+{
+    equal(v, b"I") | equal(v, b"O")
+}
+
+fn is_type(v: &[u8]) -> bool
+    ensures { λ r. ⌜ r ≡ isOneOf (textOf Words.Types) (now (v .entry)) ⌝ }
+{
+    equal(v, b"NM") | equal(v, b"SN") | equal(v, b"ST")
+}
+
+fn is_flag(v: &[u8]) -> bool
+    ensures { λ r. ⌜ r ≡ isOneOf (textOf Words.Flags) (now (v .entry)) ⌝ }
+{
+    equal(v, b"L")
+        | equal(v, b"H")
+        | equal(v, b"LL")
+        | equal(v, b"HH")
+        | equal(v, b"N")
+        | equal(v, b"A")
+}
+
+fn is_status(v: &[u8]) -> bool
+    ensures { λ r. ⌜ r ≡ isOneOf (textOf Words.Statuses) (now (v .entry)) ⌝ }
+{
+    equal(v, b"F") | equal(v, b"P") | equal(v, b"C") | equal(v, b"I") | equal(v, b"X")
+}
+
+fn is_comparator(v: &[u8]) -> bool
+    ensures { λ r. ⌜ r ≡ isOneOf (textOf Words.Comparators) (now (v .entry)) ⌝ }
+{
+    equal(v, b">")
+        | equal(v, b"<")
+        | equal(v, b">=")
+        | equal(v, b"<=")
+        | equal(v, b"=")
+        | equal(v, b"<>")
+}
+
+fn is_joiner(v: &[u8]) -> bool
+    ensures { λ r. ⌜ r ≡ isOneOf (textOf Words.Joiners) (now (v .entry)) ⌝ }
+{
+    equal(v, b"-") | equal(v, b"+") | equal(v, b"/") | equal(v, b".") | equal(v, b":")
+}
+
 // Whether v is one of the words of a place.
 fn is_word(words: Words, v: &[u8]) -> bool
     ensures { λ r. ⌜ r ≡ isOneOf (textOf words) (now (v .entry)) ⌝ }
@@ -210,37 +269,19 @@ fn is_word(words: Words, v: &[u8]) -> bool
         Words::Oul => equal(v, b"OUL"),
         Words::R22 => equal(v, b"R22"),
         Words::OulR22 => equal(v, b"OUL_R22"),
-        Words::Modes => equal(v, b"P") | equal(v, b"T") | equal(v, b"D"),
+        Words::Modes => is_mode(v),
         Words::Version => equal(v, b"2.5"),
-        Words::Sexes => equal(v, b"M") | equal(v, b"F") | equal(v, b"O") | equal(v, b"U"),
-        Words::Classes => equal(v, b"I") | equal(v, b"O"),
+        Words::Sexes => is_sex(v),
+        Words::Classes => is_class(v),
         Words::Jc10 => equal(v, b"JC10"),
         Words::Group => equal(v, b"99003"),
         Words::Re => equal(v, b"RE"),
-        Words::Types => equal(v, b"NM") | equal(v, b"SN") | equal(v, b"ST"),
-        Words::Flags => equal(v, b"L")
-            | equal(v, b"H")
-            | equal(v, b"LL")
-            | equal(v, b"HH")
-            | equal(v, b"N")
-            | equal(v, b"A"),
-        Words::Statuses => equal(v, b"F")
-            | equal(v, b"P")
-            | equal(v, b"C")
-            | equal(v, b"I")
-            | equal(v, b"X"),
+        Words::Types => is_type(v),
+        Words::Flags => is_flag(v),
+        Words::Statuses => is_status(v),
         Words::Blank => equal(v, b""),
-        Words::Comparators => equal(v, b">")
-            | equal(v, b"<")
-            | equal(v, b">=")
-            | equal(v, b"<=")
-            | equal(v, b"=")
-            | equal(v, b"<>"),
-        Words::Joiners => equal(v, b"-")
-            | equal(v, b"+")
-            | equal(v, b"/")
-            | equal(v, b".")
-            | equal(v, b":"),
+        Words::Comparators => is_comparator(v),
+        Words::Joiners => is_joiner(v),
     }
 }
 

@@ -12,16 +12,14 @@ use Rattle.rules.specs.declared.Delims.{Delims}
 use Rattle.rules.specs.declared.Mode.the-variants.{One}
 use Rattle.rules.specs.Shift.{marks, met, byteOf}
 use Rattle.rules.specs.Escape.{letters, letterFor, escapeMet, escape}
-use Rattle.rules.specs.Lists.{has, all, bytes}
-use Rattle.rules.specs.Frame.{twelve}
-use Rattle.rules.specs.Proper.{Delim, Proper}
+use Rattle.rules.specs.Proper.{Proper}
 use Rattle.rules.proofs.Logic.{cases, optionCases, never, not-true, not-false}
 use Rattle.rules.proofs.Modes.{marks-over}
-use Rattle.rules.proofs.Header.{delim-ne, delim-apart, delim-far}
-use Rattle.rules.proofs.Escaped.{no-letter, byte-near, escape-far}
+use Rattle.rules.proofs.Header.{delim-far}
+use Rattle.rules.proofs.Escaped.{no-letter, unlettered, byte-near, escape-far}
 use Rattle.scan.specs.Scan.{between, hidden, Reaches, alnum}
 use Rattle.scan.proofs.Laws.{between-none, between-length, alnum-plain}
-use Rattle.scan.proofs.Walk.{plain-on}
+use Rattle.scan.proofs.Walk.{plain-on, apart}
 use Rattle.writer.specs.Over.{Wrote, Put}
 use Rattle.writer.specs.Escaping.{unitAs, unitOf, letterOrZero, letterOf, lettered, isDelimiter}
 use Rattle.writer.proofs.Laws.{stored, Splits, Running, run-start, run-room, run-next, run-end}
@@ -108,26 +106,11 @@ escape-end : (d : Delims) (t : List ℕ) (i : ℕ) → length t ≤ i → escape
 unfolding escapeMet
 escape-end d t i h = rw (marks-over 0x0D t i One h)
 
--- a letter or a digit is none of the twelve
-undelimited : (b : ℕ) → alnum b ≡ true → has b twelve ≡ false
-unfolding all bytes
-undelimited b a = cases (has b twelve) (λ q. never (sym a ∙ delim-apart b q alnum refl)) (λ q. q)
-
 module _ (d : Delims) (p : Proper d) where
-  -- what is no delimiter has no letter
-  unlettered : (b : ℕ) → ((x : ℕ) → Delim x → eqb b x ≡ false) → letterFor (letters d) b ≡ none
-  unlettered b n =
-      no-letter d b
-      (n (d .field) (p .field))
-      (n (d .component) (p .component))
-      (n (d .sub) (p .sub))
-      (n (d .repetition) (p .repetition))
-      (n (d .escape) (p .escape))
-
   escape-hidden : (w t : List ℕ) → escapeMet d (hidden w ++ t) ≡ w ++ escapeMet d t
   unfolding hidden
   escape-hidden [] t = refl
-  escape-hidden (b ∷ w) t = escape-far d b (hidden w ++ t) (unlettered (256 + b) (λ x h. delim-far x h b)) ∙ ap (λ (l : List ℕ). b ∷ l) (escape-hidden w t)
+  escape-hidden (b ∷ w) t = escape-far d b (hidden w ++ t) (unlettered d p (256 + b) (λ x h. delim-far x h b)) ∙ ap (λ (l : List ℕ). b ∷ l) (escape-hidden w t)
 
   -- a byte of one-byte mode, what stands between as it is, and the rest from the next such byte on
   escape-next : (t : List ℕ) (i j : ℕ) (k : Bool) → Reaches 0x0D t i j k
@@ -140,7 +123,7 @@ module _ (d : Delims) (p : Proper d) where
   -- a letter or a digit is no delimiter and stands for itself
   unit-simple : (b : ℕ) → alnum b ≡ true → b < 256 → unitOf d b ≡ b ∷ []
   unfolding unitOf unitAs
-  unit-simple b a h = rw (unlettered b (λ x g. delim-ne x g b (undelimited b a)), byte-near b h)
+  unit-simple b a h = rw (unlettered d p b (λ x g. apart b x a g), byte-near b h)
 
   simple-next : (t : List ℕ) (i : ℕ) (y : Bool) → i < length t → y ≡ alnum (getD t i 0) → y ≡ true
       → Splits (escapeMet d (marks 0x0D One (drop i t))) (getD t i 0 ∷ []) (escapeMet d (marks 0x0D One (drop (i + 1) t)))
