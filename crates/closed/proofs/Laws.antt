@@ -33,7 +33,7 @@ use Rattle.value.specs.declared.Fault.the-variants.{Nothing, Repeated, Escape, 
 use Rattle.value.specs.declared.Rule.{Rule}
 use Rattle.value.specs.declared.Rule.the-variants.{Time, Date, Number, Text, Digits, Capitals, OneOf}
 use Rattle.value.specs.declared.Parts.{Parts}
-use Rattle.judge.specs.Judge.{Raw, Small}
+use Rattle.judge.specs.Judge.{Clean, Small}
 use Rattle.closed.specs.Closed.{endsRepetition, fieldAt, repetitionAt, componentAt, forward, ClosedOf, charsetFault, MarkedOf, shapeFault, comparedFault, lastTwo, unjoinedFault, joinedFault, fourAt, FourOf, ValueOf, SmallParts}
 use Rattle.closed.proofs.Pieces.{after-free, after-none, after-short, component-at, components-over, forward-long, forward-repeats, forward-short, repetition-is, rest-long, rest-more, rest-none, split-after, until-free, until-none, whole-field}
 
@@ -58,11 +58,15 @@ module _ (d : Delims) (t : List ℕ) (n : ℕ) (clean : Bool) (c : CutOf d t n c
   pub head-met : met (take n t) ≡ componentAt d t
   head-met = ap (λ k. met (take k t)) (c .long) ∙ piece-met (ends d) t
 
-  pub head-raw : Raw d (take n t) clean
-  head-raw = record { plain = c .plain ∙ ap (plainText d) (sym head-met); bytes = ap (map byteOf) head-met ∙ c .raw }
+  pub head-clean : clean ≡ true → Clean d (take n t)
+  head-clean h = record { plain = ap (plainText d) head-met ∙ sym (c .plain) ∙ h; bytes = ap (map byteOf) head-met ∙ c .raw }
 
   pub head-judged : (required : Bool) (rule : Val.Rule) (f : ℕ) → f ≡ judge d required rule (met (take n t)) → f ≡ judge d required rule (componentAt d t)
   head-judged required rule f e = rw (← head-met) e
+
+  pub head-clean-judged : (required : Bool) (rule : Val.Rule) (f : ℕ) → clean ≡ true → ((e : Delims) → Clean e (take n t) → f ≡ judge e required rule (met (take n t)))
+      → f ≡ judge d required rule (componentAt d t)
+  head-clean-judged required rule f h g = head-judged required rule f (g d (head-clean h))
 
   module _ (p : Proper d) (k : ℕ) (more : Bool) (e : TailOf d (met (take (length t - n) (drop n t))) k more) where
     tail-met : met (take (length t - n) (drop n t)) ≡ drop (length (componentAt d t)) (met t)

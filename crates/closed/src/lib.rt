@@ -63,7 +63,10 @@ fn part(t: &[u8], d: Delims, required: bool, rule: Rule) -> Fault
 {
     let c = scan::first(t, d);
     let n = c.len;
-    judge::judge(&t[..n], c.clean, d, required, rule)
+    if c.clean {
+        return judge::judge_clean(&t[..n], required, rule);
+    }
+    judge::judge(&t[..n], d, required, rule)
 }
 
 // Whether s is the byte b and then the word.

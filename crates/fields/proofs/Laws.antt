@@ -25,9 +25,9 @@ use Rattle.value.specs.Rules.{ruleOf, faultNo, fineOf}
 use Rattle.value.specs.declared.Fault.{Fault}
 use Rattle.value.specs.declared.Fault.the-variants.{Nothing, Repeated}
 use Rattle.value.specs.declared.Rule.{Rule}
-use Rattle.judge.specs.Judge.{Small}
+use Rattle.judge.specs.Judge.{Clean, Small}
 use Rattle.closed.specs.Closed.{forward, charsetFault, ClosedOf, ValueOf}
-use Rattle.closed.proofs.Laws.{head-met, head-raw, next-within}
+use Rattle.closed.proofs.Laws.{head-met, head-clean, next-within}
 use Rattle.closed.proofs.Pieces.{piece-at, repetition-is, component-at, forward-repeats, forward-long, rest-long, rest-more}
 use Rattle.value.specs.declared.Place.{Place}
 use Rattle.value.specs.declared.Place.the-variants.{Unread, Must, May}
@@ -66,6 +66,18 @@ module _ (d : Delims) (place : Place) where
     unfolding placeFault
     may-is e h = rw e h
 
+-- the same of a clean one, whatever delimiters it is clean by
+module _ (place : Place) where
+  pub unread-clean : (raw : List ℕ) → place ≡ Unread → (d : Delims) → Clean d raw → faultNo Nothing ≡ placeFault d place (met raw)
+  unread-clean raw e d p = unread-is d place (met raw) e
+
+  module _ (f : Fault) (r : Rule) (raw : List ℕ) where
+    pub must-clean : place ≡ Must r → ((d : Delims) → Clean d raw → faultNo f ≡ judge d true (ruleOf r) (met raw)) → (d : Delims) → Clean d raw → faultNo f ≡ placeFault d place (met raw)
+    must-clean e h d p = must-is d place f r (met raw) e (h d p)
+
+    pub may-clean : place ≡ May r → ((d : Delims) → Clean d raw → faultNo f ≡ judge d false (ruleOf r) (met raw)) → (d : Delims) → Clean d raw → faultNo f ≡ placeFault d place (met raw)
+    may-clean e h d p = may-is d place f r (met raw) e (h d p)
+
 pub must-small : (place : Place) (r : Rule) → place ≡ Must r → Smalls place → Small r
 unfolding Smalls
 must-small place r e h = rw e at h
@@ -77,6 +89,9 @@ may-small place r e h = rw e at h
 module _ (d : Delims) (t : List ℕ) (n : ℕ) (clean : Bool) (c : CutOf d t n clean) where
   pub component-judged : (place : Place) (f : ℕ) → f ≡ placeFault d place (met (take n t)) → JudgedOf d place t f n
   component-judged place f e = record { told = e ∙ ap (placeFault d place) (head-met d t n clean c); long = c .long; raw = c .raw }
+
+  pub component-clean : (place : Place) (f : ℕ) → clean ≡ true → ((e : Delims) → Clean e (take n t) → f ≡ placeFault e place (met (take n t))) → JudgedOf d place t f n
+  component-clean place f h g = component-judged place f (g d (head-clean d t n clean c h))
 
 -- ---- one field
 pub one-read : (d : Delims) → Proper d → (place : Place) (t : List ℕ) (f n k : ℕ) (more : Bool) → JudgedOf d place t f n
@@ -269,7 +284,9 @@ pub ruleset repeated·laws = (repeated-yes, repeated-no)
 
 pub ruleset judge-place·laws = (unread-is, must-is, may-is, must-small, may-small)
 
-pub ruleset component·laws = (head-raw, component-judged, part-length)
+pub ruleset judge-clean-place·laws = (unread-clean, must-clean, may-clean)
+
+pub ruleset component·laws = (component-judged, component-clean, part-length)
 
 pub ruleset one·laws = (one-read, rest-within)
 

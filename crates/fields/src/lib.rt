@@ -13,7 +13,7 @@ ghost use Rattle.rules.specs.Shift.{met};
 ghost use Rattle.rules.specs.Proper.{Delim, Proper};
 ghost use Rattle.scan.specs.Scan.{onward};
 ghost use Rattle.value.specs.Rules.{faultNo};
-ghost use Rattle.judge.specs.Judge.{Raw};
+ghost use Rattle.judge.specs.Judge.{Clean};
 ghost use Rattle.fields.specs.Fields.{placeFault, formFault, formHead, Smalls, SmallForm, JudgedOf, ComponentsOf, ReadOf, Begins, Ready, To, ValueTo};
 
 // What is read of a field: its component 1; some of its first three; the whole of MSH-18 or of PID-5.
@@ -48,14 +48,25 @@ fn repeated(repeats: bool, f: Fault) -> Fault
 
 // ---- one field
 
-fn judge_place(raw: &[u8], clean: bool, d: Delims, place: Place) -> Fault
-    requires { ⌜ Raw d (now raw) clean × Smalls place ⌝ }
+fn judge_place(raw: &[u8], d: Delims, place: Place) -> Fault
+    requires { ⌜ Smalls place ⌝ }
     ensures { λ r. ⌜ faultNo r ≡ placeFault d place (met (now (raw .entry))) ⌝ }
 {
     match place {
         Place::Unread => Fault::Nothing,
-        Place::Must(rule) => judge::judge(raw, clean, d, true, rule),
-        Place::May(rule) => judge::judge(raw, clean, d, false, rule),
+        Place::Must(rule) => judge::judge(raw, d, true, rule),
+        Place::May(rule) => judge::judge(raw, d, false, rule),
+    }
+}
+
+// The same of a component that has neither escape byte nor subcomponent separator.
+fn judge_clean_place(raw: &[u8], place: Place) -> Fault
+    ensures { λ r. ⌜ ((d : Delims) → Clean d (now (raw .entry)) → faultNo r ≡ placeFault d place (met (now (raw .entry)))) ⌝ }
+{
+    match place {
+        Place::Unread => Fault::Nothing,
+        Place::Must(rule) => judge::judge_clean(raw, true, rule),
+        Place::May(rule) => judge::judge_clean(raw, false, rule),
     }
 }
 
@@ -72,7 +83,11 @@ fn component(t: &[u8], d: Delims, place: Place) -> Judged
 {
     let c = scan::first(t, d);
     let len = c.len;
-    let fault = judge_place(&t[..len], c.clean, d, place);
+    if c.clean {
+        let fault = judge_clean_place(&t[..len], place);
+        return Judged { fault, len };
+    }
+    let fault = judge_place(&t[..len], d, place);
     Judged { fault, len }
 }
 

@@ -10,7 +10,7 @@ ghost use Rattle.rules.specs.Escape.{unescape};
 ghost use Rattle.rules.specs.Judge.{faultOr23};
 ghost use Rattle.rules.specs.Judge as J;
 ghost use Rattle.value.specs.Rules.{ruleOf, faultNo};
-ghost use Rattle.judge.specs.Judge.{turnOf, namedOf, byteAt, keptLen, keptBuf, answerOf, Fits, Small, Raw};
+ghost use Rattle.judge.specs.Judge.{turnOf, namedOf, byteAt, keptLen, keptBuf, answerOf, Fits, Small, Clean};
 
 // Where a reader of a component stands: in the text, after an escape byte, after its letter, or past a fault.
 pub enum At {
@@ -158,16 +158,23 @@ fn judge_escaped(raw: &[u8], d: Delims, required: bool, rule: Rule) -> Fault
     }
 }
 
-// A read component; `clean` says that it has neither escape byte nor subcomponent separator.
-pub fn judge(raw: &[u8], clean: bool, d: Delims, required: bool, rule: Rule) -> Fault
-    requires { ⌜ Raw d (now raw) clean × Small rule ⌝ }
+// A read component.
+pub fn judge(raw: &[u8], d: Delims, required: bool, rule: Rule) -> Fault
+    requires { ⌜ Small rule ⌝ }
     ensures { λ r. ⌜ faultNo r ≡ J.judge d required (ruleOf rule) (met (now (raw .entry))) ⌝ }
 {
     if value::equal(raw, b"\"\"") {
         return Fault::Null;
     }
-    if clean {
-        return value::fault_of(required, rule, raw);
-    }
     judge_escaped(raw, d, required, rule)
+}
+
+// One that has neither escape byte nor subcomponent separator is judged where it lies.
+pub fn judge_clean(raw: &[u8], required: bool, rule: Rule) -> Fault
+    ensures { λ r. ⌜ ((d : Delims) → Clean d (now (raw .entry)) → faultNo r ≡ J.judge d required (ruleOf rule) (met (now (raw .entry)))) ⌝ }
+{
+    if value::equal(raw, b"\"\"") {
+        return Fault::Null;
+    }
+    value::fault_of(required, rule, raw)
 }
