@@ -198,6 +198,7 @@ unfolding any
 or-chain p q [] = or-false q
 or-chain p q (w ∷ ws) = ap (λ (r : Bool). q || r) (any-cons p w ws) ∙ or-assoc q (p w) (any p ws) ∙ or-chain p (q || p w) ws
 
+-- as the code compares them, one to six of them
 module _ (words : String) (v : List ℕ) where
   words-are : (a : List ℕ) (more : List (List ℕ)) → split 0x20 (bytes words) ≡ a ∷ more → foldl (λ (r : Bool) (w : List ℕ). r || same v w) (same v a) more ≡ isOneOf words v
   unfolding isOneOf

@@ -202,31 +202,35 @@ pub fn before(s: &[u8], sep: u8) -> usize
     i
 }
 
-// A word of a place that has several.
+// MSH-11.
 fn is_mode(v: &[u8]) -> bool
     ensures { λ r. ⌜ r ≡ isOneOf (textOf Words.Modes) (now (v .entry)) ⌝ }
 {
     equal(v, b"P") | equal(v, b"T") | equal(v, b"D")
 }
 
+// PID-8.
 fn is_sex(v: &[u8]) -> bool
     ensures { λ r. ⌜ r ≡ isOneOf (textOf Words.Sexes) (now (v .entry)) ⌝ }
 {
     equal(v, b"M") | equal(v, b"F") | equal(v, b"O") | equal(v, b"U")
 }
 
+// PV1-2.
 fn is_class(v: &[u8]) -> bool
     ensures { λ r. ⌜ r ≡ isOneOf (textOf Words.Classes) (now (v .entry)) ⌝ }
 {
     equal(v, b"I") | equal(v, b"O")
 }
 
+// OBX-2.
 fn is_type(v: &[u8]) -> bool
     ensures { λ r. ⌜ r ≡ isOneOf (textOf Words.Types) (now (v .entry)) ⌝ }
 {
     equal(v, b"NM") | equal(v, b"SN") | equal(v, b"ST")
 }
 
+// OBX-8.
 fn is_flag(v: &[u8]) -> bool
     ensures { λ r. ⌜ r ≡ isOneOf (textOf Words.Flags) (now (v .entry)) ⌝ }
 {
@@ -238,12 +242,14 @@ fn is_flag(v: &[u8]) -> bool
         | equal(v, b"A")
 }
 
+// OBX-11.
 fn is_status(v: &[u8]) -> bool
     ensures { λ r. ⌜ r ≡ isOneOf (textOf Words.Statuses) (now (v .entry)) ⌝ }
 {
     equal(v, b"F") | equal(v, b"P") | equal(v, b"C") | equal(v, b"I") | equal(v, b"X")
 }
 
+// SN, component 1.
 fn is_comparator(v: &[u8]) -> bool
     ensures { λ r. ⌜ r ≡ isOneOf (textOf Words.Comparators) (now (v .entry)) ⌝ }
 {
@@ -255,6 +261,7 @@ fn is_comparator(v: &[u8]) -> bool
         | equal(v, b"<>")
 }
 
+// SN, component 3.
 fn is_joiner(v: &[u8]) -> bool
     ensures { λ r. ⌜ r ≡ isOneOf (textOf Words.Joiners) (now (v .entry)) ⌝ }
 {
