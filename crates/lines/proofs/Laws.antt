@@ -16,7 +16,7 @@ use Rattle.rules.specs.Places.{Four, valueRules, entryOf, entryIn, places}
 use Rattle.rules.specs.Judge.{beside, unjoined, agrees}
 use Rattle.rules.specs.Row.{line, lines, fourAt, kanaFits, joined}
 use Rattle.rules.specs.Sheet.{keyOf, linesOf}
-use Rattle.rules.proofs.Logic.{cases, never, and-false, not-true, not-false}
+use Rattle.rules.proofs.Logic.{and-true, cases, never, and-false, not-true, not-false}
 use Rattle.rules.proofs.Lists.{over, rest-is, rest-inside, take-own, same-eq, empty-zero, filled-some}
 use Rattle.rules.proofs.Split.{butLast-split, ended-split}
 use Rattle.scan.specs.Scan.{until, is}
@@ -353,13 +353,17 @@ module _ (t : List ℕ) (q : Bool) (e : q ≡ starts (105 ∷ 116 ∷ 101 ∷ 10
     unfolding nextGroup bytes
     opens-specimen g = rw (← e, h, ← f, g)
 
--- a part's rule is the one of its type; what must hold besides is said by the values
-swap : (r x : Verdict) (k : ℕ) (key v t : List ℕ) (coded : Coded) (rule : Rule) (also : Bool) → ruleOf coded ≡ rule
-    → r ≡ andThen x (lineAs k key (fits false (ruleOf coded) v && also) t) → r ≡ andThen x (lineAs k key (fits false rule v && also) t)
-swap r x k key v t coded rule also e h = h ∙ ap (λ (R : Rule). andThen x (lineAs k key (fits false R v && also) t)) e
+-- a line whose goodness is told in another way
+swap : (r x : Verdict) (k : ℕ) (key t : List ℕ) (good other : Bool) → good ≡ other → r ≡ andThen x (lineAs k key good t) → r ≡ andThen x (lineAs k key other t)
+swap r x k key t good other e h = h ∙ ap (λ (b : Bool). andThen x (lineAs k key b t)) e
 
-swap-also : (r x : Verdict) (k : ℕ) (key t : List ℕ) (b also other : Bool) → also ≡ other → r ≡ andThen x (lineAs k key (b && also) t) → r ≡ andThen x (lineAs k key (b && other) t)
-swap-also r x k key t b also other e h = h ∙ ap (λ (a : Bool). andThen x (lineAs k key (b && a) t)) e
+-- a part's rule is the one of its type; what must hold besides is said by the values
+module _ (v : List ℕ) (coded : Coded) (rule : Rule) (e : ruleOf coded ≡ rule) where
+  part-if : (also other : Bool) → also ≡ other → (fits false (ruleOf coded) v && also) ≡ (fits false rule v && other)
+  part-if also other f = rw (e, f)
+
+  part-alone : fits false (ruleOf coded) v ≡ (fits false rule v && true)
+  part-alone = rw e (sym (and-true (fits false rule v)))
 
 module _ (ts : List (List ℕ)) where
   -- what `line` and `line_if` ensure
@@ -412,9 +416,9 @@ module _ (ts : List (List ℕ)) where
       → (v0 v1 v2 v3 v4 v5 v6 v7 v8 r : Verdict) → v0 ≡ andThen Fine (judge 0 (105 ∷ 116 ∷ 101 ∷ 109 ∷ 61 ∷ []) true (Capitals 17))
       → v1 ≡ andThen v0 (judge 1 (110 ∷ 97 ∷ 109 ∷ 101 ∷ 61 ∷ []) false (Text 48))
       → v2 ≡ andThen v1 (judge 2 (116 ∷ 121 ∷ 112 ∷ 101 ∷ 61 ∷ []) true (OneOf Types))
-      → v3 ≡ andThen v2 (judge-if 3 (99 ∷ 111 ∷ 109 ∷ 112 ∷ 97 ∷ 114 ∷ 101 ∷ 61 ∷ []) false (rules .compare) true)
-      → v4 ≡ andThen v3 (judge-if 4 (118 ∷ 97 ∷ 108 ∷ 117 ∷ 101 ∷ 61 ∷ []) false (rules .value) true)
-      → v5 ≡ andThen v4 (judge-if 5 (106 ∷ 111 ∷ 105 ∷ 110 ∷ 61 ∷ []) false (rules .join) true)
+      → v3 ≡ andThen v2 (judge 3 (99 ∷ 111 ∷ 109 ∷ 112 ∷ 97 ∷ 114 ∷ 101 ∷ 61 ∷ []) false (rules .compare))
+      → v4 ≡ andThen v3 (judge 4 (118 ∷ 97 ∷ 108 ∷ 117 ∷ 101 ∷ 61 ∷ []) false (rules .value))
+      → v5 ≡ andThen v4 (judge 5 (106 ∷ 111 ∷ 105 ∷ 110 ∷ 61 ∷ []) false (rules .join))
       → v6 ≡ andThen v5 (judge-if 6 (115 ∷ 101 ∷ 99 ∷ 111 ∷ 110 ∷ 100 ∷ 61 ∷ []) false (rules .second) also)
       → v7 ≡ andThen v6 (judge 7 (117 ∷ 110 ∷ 105 ∷ 116 ∷ 61 ∷ []) false (Text 20))
       → v8 ≡ andThen v7 (judge 8 (102 ∷ 108 ∷ 97 ∷ 103 ∷ 61 ∷ []) false (OneOf Flags))
@@ -425,9 +429,9 @@ module _ (ts : List (List ℕ)) where
       let ok : also ≡ joined (fourOf (drop 8 (nth ts 3)) (drop 6 (nth ts 4)) (drop 5 (nth ts 5)) (drop 7 (nth ts 6))) = ea ∙ ap joined four in
       let fit : met ≡ agrees (drop 7 (nth ts 9)) (fourOf (drop 8 (nth ts 3)) (drop 6 (nth ts 4)) (drop 5 (nth ts 5)) (drop 7 (nth ts 6))) = em ∙ ap (agrees t) four ∙ ap (λ (u : List ℕ). agrees u (fourOf (drop 8 (nth ts 3)) (drop 6 (nth ts 4)) (drop 5 (nth ts 5)) (drop 7 (nth ts 6)))) et in
       let own : rulesOf rules ≡ valueRules (drop 5 (nth ts 2)) = er ∙ ap valueRules ek in
-      let w3 = swap v3 v2 3 (99 ∷ 111 ∷ 109 ∷ 112 ∷ 97 ∷ 114 ∷ 101 ∷ 61 ∷ []) (drop 8 (nth ts 3)) (nth ts 3) (rules .compare) _ true (ap (λ (f : Four Rule). f .compare) own) e3 in
-      let w4 = swap v4 v3 4 (118 ∷ 97 ∷ 108 ∷ 117 ∷ 101 ∷ 61 ∷ []) (drop 6 (nth ts 4)) (nth ts 4) (rules .value) _ true (ap (λ (f : Four Rule). f .value) own) e4 in
-      let w5 = swap v5 v4 5 (106 ∷ 111 ∷ 105 ∷ 110 ∷ 61 ∷ []) (drop 5 (nth ts 5)) (nth ts 5) (rules .join) _ true (ap (λ (f : Four Rule). f .join) own) e5 in
-      let w6 = swap-also v6 v5 6 (115 ∷ 101 ∷ 99 ∷ 111 ∷ 110 ∷ 100 ∷ 61 ∷ []) (nth ts 6) (fits false (valueRules (drop 5 (nth ts 2)) .second) (drop 7 (nth ts 6))) also _ ok (swap v6 v5 6 (115 ∷ 101 ∷ 99 ∷ 111 ∷ 110 ∷ 100 ∷ 61 ∷ []) (drop 7 (nth ts 6)) (nth ts 6) (rules .second) _ also (ap (λ (f : Four Rule). f .second) own) e6) in
-      let w9 = swap-also r v8 9 (115 ∷ 116 ∷ 97 ∷ 116 ∷ 117 ∷ 115 ∷ 61 ∷ []) (nth ts 9) (fits true (ruleOf (OneOf Statuses)) (drop 7 (nth ts 9))) met _ fit e9 in
+      let w3 = swap v3 v2 3 (99 ∷ 111 ∷ 109 ∷ 112 ∷ 97 ∷ 114 ∷ 101 ∷ 61 ∷ []) (nth ts 3) _ _ (part-alone (drop 8 (nth ts 3)) (rules .compare) _ (ap (λ (f : Four Rule). f .compare) own)) e3 in
+      let w4 = swap v4 v3 4 (118 ∷ 97 ∷ 108 ∷ 117 ∷ 101 ∷ 61 ∷ []) (nth ts 4) _ _ (part-alone (drop 6 (nth ts 4)) (rules .value) _ (ap (λ (f : Four Rule). f .value) own)) e4 in
+      let w5 = swap v5 v4 5 (106 ∷ 111 ∷ 105 ∷ 110 ∷ 61 ∷ []) (nth ts 5) _ _ (part-alone (drop 5 (nth ts 5)) (rules .join) _ (ap (λ (f : Four Rule). f .join) own)) e5 in
+      let w6 = swap v6 v5 6 (115 ∷ 101 ∷ 99 ∷ 111 ∷ 110 ∷ 100 ∷ 61 ∷ []) (nth ts 6) _ _ (part-if (drop 7 (nth ts 6)) (rules .second) _ (ap (λ (f : Four Rule). f .second) own) also _ ok) e6 in
+      let w9 = swap r v8 9 (115 ∷ 116 ∷ 97 ∷ 116 ∷ 117 ∷ 115 ∷ 61 ∷ []) (nth ts 9) _ _ (ap (λ (b : Bool). fits true (ruleOf (OneOf Statuses)) (drop 7 (nth ts 9)) && b) fit) e9 in
       link r v8 _ _ w9 (link v8 v7 _ _ e8 (link v7 v6 _ _ e7 (link v6 v5 _ _ w6 (link v5 v4 _ _ w5 (link v4 v3 _ _ w4 (link v3 v2 _ _ w3 (link v2 v1 _ _ e2 (link v1 v0 _ _ e1 e0))))))))

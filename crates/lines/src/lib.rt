@@ -292,9 +292,9 @@ fn result(s: &[u8], at: &[usize; 11]) -> Verdict
     let item = line(Verdict::Fine, s, at, 0, b"item=", table::ITEM);
     let name = line(item, s, at, 1, b"name=", table::ITEM_NAME);
     let to_type = line(name, s, at, 2, b"type=", table::TYPE);
-    let to_compare = line_if(to_type, s, at, 3, b"compare=", May(compare_rule), true);
-    let to_value = line_if(to_compare, s, at, 4, b"value=", May(value_rule), true);
-    let to_join = line_if(to_value, s, at, 5, b"join=", May(join_rule), true);
+    let to_compare = line(to_type, s, at, 3, b"compare=", May(compare_rule));
+    let to_value = line(to_compare, s, at, 4, b"value=", May(value_rule));
+    let to_join = line(to_value, s, at, 5, b"join=", May(join_rule));
     let to_second = line_if(
         to_join,
         s,

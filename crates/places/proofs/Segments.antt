@@ -44,12 +44,9 @@ module _ {d : Delims} {s : List ℕ} {r : Fault} {k : ℕ} where
       → (order : List ℕ) → FoundIn Msh d order (met s) k (faultNo r)
   unfolding places entryFor entriesFrom ruleOf textOf pieceOf segmentOf laterFault
   msh-found e t₆ t₅ t₄ t₃ t₂ t₁ b order =
-      let x₁ = go (begins (λ f. refl) b) t₁ (omega (arith, b .field)) refl in
-      let x₂ = go x₁ t₂ (omega (arith, t₁ .upto)) refl in
-      let x₃ = go x₂ t₃ (omega (arith, t₂ .upto)) refl in
-      let x₄ = go x₃ t₄ (omega (arith, t₃ .upto)) refl in
-      let x₅ = go x₄ t₅ (omega (arith, t₄ .upto)) refl in
-      rw (e .0, e .1) (found (go x₅ t₆ (omega (arith, t₅ .upto)) refl))
+      rw (e .0, e .1)
+      (found (go (go (go (go (go (go (begins (λ f. refl) b) t₁ (omega (arith, b .field)) refl) t₂ (omega (arith, t₁ .upto)) refl) t₃ (omega (arith, t₂ .upto)) refl)
+      t₄ (omega (arith, t₃ .upto)) refl) t₅ (omega (arith, t₄ .upto)) refl) t₆ (omega (arith, t₅ .upto)) refl))
 
   pub pid-found : {w₀ w₁ w₂ w₃ w : Walk} → (r ≡ w .fault) × (k ≡ w .field) → To d s 8 (One (Must (OneOf Sexes))) w₃ w → To d s 7 (One (May Date)) w₂ w₃ → To d s 5 Names w₁ w₂
       → To d s 3 (One (Must (Text 20))) w₀ w₁ → Begins 0 w₀ → (order : List ℕ) → FoundIn Pid d order (met s) k (faultNo r)

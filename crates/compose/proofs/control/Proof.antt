@@ -1,3 +1,4 @@
+-- `compose::control` meets its contract. Assumes nothing.
 use Rattle.writer.specs.Woven.{holes, taken, sizes}
 use Rattle.compose.proofs.Texts.{control-is}
 use borrow.Author.Needs.{needs}

@@ -1,3 +1,4 @@
+-- `compose::header` meets its contract. Assumes nothing.
 use Rattle.writer.specs.Woven.{holes, taken, sizes}
 use Rattle.compose.proofs.Texts.{header-is}
 use borrow.Author.Needs.{needs}

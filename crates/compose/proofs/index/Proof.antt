@@ -1,3 +1,4 @@
+-- `compose::index` meets its contract. Assumes nothing.
 use Rattle.lines.specs.Lines.{indexOf}
 use Rattle.compose.proofs.Passing.{index-named}
 use borrow.Author.Needs.{needs}

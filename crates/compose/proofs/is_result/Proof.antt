@@ -1,3 +1,4 @@
+-- `compose::is_result` meets its contract. Assumes nothing.
 use Rattle.compose.proofs.Texts.{is-named}
 use borrow.Author.Needs.{needs}
 use Rattle.compose.proofs.is_result.Statement.{statement}

@@ -1,3 +1,4 @@
+-- `compose::is_value` meets its contract. Assumes nothing.
 use Rattle.compose.specs.Compose.{isValue}
 use Rattle.compose.proofs.Passing.{value-named}
 use borrow.Author.Needs.{needs}

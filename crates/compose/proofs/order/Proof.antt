@@ -1,3 +1,4 @@
+-- `compose::order` meets its contract. Assumes nothing.
 use Rattle.writer.specs.Woven.{holes, taken, sizes}
 use Rattle.compose.proofs.Texts.{order-is}
 use borrow.Author.Needs.{needs}

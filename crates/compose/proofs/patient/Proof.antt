@@ -1,3 +1,4 @@
+-- `compose::patient` meets its contract. Assumes nothing.
 use Rattle.writer.specs.Woven.{holes, taken, sizes}
 use Rattle.compose.proofs.Texts.{patient-kana, patient-plain}
 use borrow.Author.Needs.{needs}

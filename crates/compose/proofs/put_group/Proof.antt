@@ -1,3 +1,4 @@
+-- `compose::put_group` meets its contract. Assumes nothing.
 use Rattle.rules.specs.Frame.{spelling}
 use Rattle.rules.specs.Lists.{bytes}
 use Rattle.compose.proofs.Texts.{put-msh, put-obr, put-obx, put-orc, put-other, put-pid, put-pv1, put-spm}

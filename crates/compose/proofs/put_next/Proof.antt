@@ -1,3 +1,4 @@
+-- `compose::put_next` meets its contract. Assumes nothing.
 use Rattle.compose.proofs.Texts.{added}
 use borrow.Author.Needs.{needs}
 use Rattle.compose.proofs.put_next.Statement.{statement}

@@ -1,3 +1,4 @@
+-- `compose::put_order` meets its contract. Assumes nothing.
 use Rattle.rules.specs.Frame.{spelling}
 use Rattle.rules.specs.Lists.{bytes}
 use Rattle.compose.proofs.Texts.{order-both}

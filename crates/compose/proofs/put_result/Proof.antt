@@ -1,3 +1,4 @@
+-- `compose::put_result` meets its contract. Assumes nothing.
 use Rattle.writer.specs.Woven.{holes, taken, sizes}
 use Rattle.compose.proofs.Texts.{result-plain, result-sn}
 use borrow.Author.Needs.{needs}

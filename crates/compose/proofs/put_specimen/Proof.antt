@@ -1,3 +1,4 @@
+-- `compose::put_specimen` meets its contract. Assumes nothing.
 use Rattle.writer.specs.Woven.{holes, taken, sizes}
 use Rattle.compose.proofs.Texts.{specimen-put}
 use borrow.Author.Needs.{needs}

@@ -1,3 +1,4 @@
+-- `compose::results_with` meets its contract. Assumes nothing.
 use Rattle.compose.specs.Compose.{resultsWith}
 use Rattle.compose.proofs.Texts.{results-named}
 use borrow.Author.Needs.{needs}

@@ -1,3 +1,4 @@
+-- `compose::segments_of` meets its contract. Assumes nothing.
 use Rattle.compose.specs.Compose.{segmentsOf}
 use Rattle.compose.proofs.Texts.{segments-named}
 use borrow.Author.Needs.{needs}

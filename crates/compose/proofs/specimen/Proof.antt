@@ -1,3 +1,4 @@
+-- `compose::specimen` meets its contract. Assumes nothing.
 use native.Mathlib.Omega.{arith}
 use Rattle.writer.proofs.Laws.{front, front-is, front-within}
 use Rattle.compose.proofs.Texts.{number-short, number-size, specimen-is}

@@ -1,3 +1,4 @@
+-- `compose::specimens_with` meets its contract. Assumes nothing.
 use Rattle.compose.specs.Compose.{specimensWith}
 use Rattle.compose.proofs.Texts.{specimens-named}
 use borrow.Author.Needs.{needs}

@@ -1,3 +1,4 @@
+-- `compose::unread` meets its contract. Assumes nothing.
 use Rattle.compose.proofs.Passing.{unread-key, unread-value}
 use borrow.Author.Needs.{needs}
 use Rattle.compose.proofs.unread.Statement.{statement}

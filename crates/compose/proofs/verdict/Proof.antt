@@ -1,3 +1,4 @@
+-- `compose::verdict` meets its contract. Assumes nothing.
 use borrow.Author.Needs.{needs}
 use Rattle.compose.proofs.Passing.{unjudged}
 use Rattle.compose.proofs.verdict.Statement.{statement}

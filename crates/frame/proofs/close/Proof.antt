@@ -1,3 +1,4 @@
+-- `frame::close` meets its contract. Assumes nothing.
 use borrow.Author.Needs.{needs}
 use Rattle.frame.proofs.Laws.{close-14, close-15, close-open}
 use Rattle.frame.proofs.close.Statement.{statement}

@@ -1,3 +1,4 @@
+-- `frame::frame` meets its contract. Assumes nothing.
 use borrow.Author.Needs.{needs}
 use Rattle.frame.proofs.Laws.{frame-10, frame-11, frame-12, frame-13, frame-close, header-long, sound-by, whole-within}
 use Rattle.frame.proofs.frame.Statement.{statement}

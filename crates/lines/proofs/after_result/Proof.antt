@@ -1,3 +1,4 @@
+-- `lines::after_result` meets its contract. Assumes nothing.
 use Rattle.rules.specs.Row.{lines}
 use Rattle.lines.proofs.Laws.{opens-item, opens-order, opens-specimen}
 use borrow.Author.Needs.{needs}

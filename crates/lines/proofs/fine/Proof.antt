@@ -1,3 +1,4 @@
+-- `lines::fine` meets its contract. Assumes nothing.
 use Rattle.lines.specs.Lines.{isFine}
 use Rattle.lines.proofs.Laws.{fine-is}
 use borrow.Author.Needs.{needs}

@@ -1,3 +1,4 @@
+-- `lines::first` meets its contract. Assumes nothing.
 use Rattle.lines.specs.Lines.{andThen}
 use Rattle.lines.proofs.Laws.{first-is}
 use borrow.Author.Needs.{needs}

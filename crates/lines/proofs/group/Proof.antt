@@ -1,3 +1,4 @@
+-- `lines::group` meets its contract. Assumes nothing.
 use Rattle.rules.specs.Row.{lines}
 use Rattle.lines.specs.Lines.{verdict}
 use Rattle.lines.proofs.Laws.{group-is}

@@ -1,3 +1,4 @@
+-- `lines::has_line` meets its contract. Assumes nothing.
 use borrow.Author.Needs.{needs}
 use Rattle.lines.proofs.Laws.{places-line}
 use Rattle.lines.proofs.has_line.Statement.{statement}

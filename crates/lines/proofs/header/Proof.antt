@@ -1,3 +1,4 @@
+-- `lines::header` meets its contract. Assumes nothing.
 use Rattle.lines.proofs.Laws.{header-is}
 use borrow.Author.Needs.{needs}
 use Rattle.lines.proofs.header.Statement.{statement}

@@ -1,3 +1,4 @@
+-- `lines::joined` meets its contract. Assumes nothing.
 use borrow.Author.Needs.{needs}
 use Rattle.lines.proofs.Laws.{joined-is}
 use Rattle.lines.proofs.joined.Statement.{statement}

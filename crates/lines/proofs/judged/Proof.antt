@@ -1,3 +1,4 @@
+-- `lines::judged` meets its contract. Assumes nothing.
 use borrow.Author.Needs.{needs}
 use Rattle.lines.proofs.Laws.{key-room, line-bad, line-good, line-key, line-null}
 use Rattle.lines.proofs.judged.Statement.{statement}

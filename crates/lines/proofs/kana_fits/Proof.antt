@@ -1,3 +1,4 @@
+-- `lines::kana_fits` meets its contract. Assumes nothing.
 use borrow.Author.Needs.{needs}
 use Rattle.lines.proofs.Laws.{kana-is}
 use Rattle.lines.proofs.kana_fits.Statement.{statement}

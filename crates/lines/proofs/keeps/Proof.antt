@@ -1,3 +1,4 @@
+-- `lines::keeps` meets its contract. Assumes nothing.
 use Rattle.lines.proofs.Laws.{keeps-is}
 use borrow.Author.Needs.{needs}
 use Rattle.lines.proofs.keeps.Statement.{statement}

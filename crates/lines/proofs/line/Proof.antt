@@ -1,3 +1,4 @@
+-- `lines::line` meets its contract. Assumes nothing.
 use borrow.Author.Needs.{needs}
 use Rattle.lines.proofs.Laws.{line-is}
 use Rattle.lines.proofs.line.Statement.{statement}

@@ -1,3 +1,4 @@
+-- `lines::line_if` meets its contract. Assumes nothing.
 use borrow.Author.Needs.{needs}
 use Rattle.lines.proofs.Laws.{line-if-is}
 use Rattle.lines.proofs.line_if.Statement.{statement}

@@ -1,3 +1,4 @@
+-- `lines::lines_in` meets its contract. Assumes nothing.
 use Rattle.rules.specs.Row.{lines}
 use Rattle.lines.proofs.Laws.{count-is}
 use borrow.Author.Needs.{needs}

@@ -1,3 +1,4 @@
+-- `lines::next_group` meets its contract. Assumes nothing.
 use Rattle.rules.specs.Row.{lines}
 use Rattle.lines.specs.Lines.{nextGroup}
 use Rattle.lines.proofs.Laws.{next-is, next-result}

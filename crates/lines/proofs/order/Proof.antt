@@ -1,3 +1,4 @@
+-- `lines::order` meets its contract. Assumes nothing.
 use Rattle.lines.proofs.Laws.{order-is}
 use borrow.Author.Needs.{needs}
 use Rattle.lines.proofs.order.Statement.{statement}

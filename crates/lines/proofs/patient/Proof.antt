@@ -1,3 +1,4 @@
+-- `lines::patient` meets its contract. Assumes nothing.
 use Rattle.lines.proofs.Laws.{patient-is}
 use borrow.Author.Needs.{needs}
 use Rattle.lines.proofs.patient.Statement.{statement}

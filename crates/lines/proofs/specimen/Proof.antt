@@ -1,3 +1,4 @@
+-- `lines::specimen` meets its contract. Assumes nothing.
 use Rattle.lines.proofs.Laws.{specimen-is}
 use borrow.Author.Needs.{needs}
 use Rattle.lines.proofs.specimen.Statement.{statement}

@@ -1,3 +1,4 @@
+-- `lines::starts` meets its contract. Assumes nothing.
 use Rattle.rules.proofs.Lists.{starts-short}
 use Rattle.lines.proofs.Laws.{starts-is}
 use Rattle.rules.proofs.Lists.{part-length}

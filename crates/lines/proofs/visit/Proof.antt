@@ -1,3 +1,4 @@
+-- `lines::visit` meets its contract. Assumes nothing.
 use Rattle.lines.proofs.Laws.{visit-is}
 use borrow.Author.Needs.{needs}
 use Rattle.lines.proofs.visit.Statement.{statement}

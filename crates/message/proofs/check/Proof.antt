@@ -1,3 +1,4 @@
+-- `message::check` meets its contract. Assumes nothing.
 use borrow.Author.Needs.{needs}
 use Rattle.message.proofs.Laws.{check-not, check-read, sound-of}
 use borrow.Author.Needs.{needs}

@@ -1,3 +1,4 @@
+-- `to_message::delimiters` meets its contract. Assumes nothing.
 use mathlib.Core.Path.{refl}
 use Rattle.rules.specs.Message.{base}
 use Rattle.to_message.proofs.delimiters.Statement.{statement}

@@ -1,3 +1,4 @@
+-- `to_message::ends` meets its contract. Assumes nothing.
 use Rattle.to_message.proofs.Calling.{ends-none, ends-some}
 use borrow.Author.Needs.{needs}
 use Rattle.to_message.proofs.ends.Statement.{statement}

@@ -1,3 +1,4 @@
+-- `to_message::to_message` meets its contract. Assumes nothing.
 use Rattle.to_message.proofs.Calling.{base-proper, call-40, call-41, call-41-end, pass-all, call-refused, call-all, refuses, answers}
 use mathlib.Core.Path.{sym}
 use borrow.Author.Needs.{needs}

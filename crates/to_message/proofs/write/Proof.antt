@@ -1,3 +1,4 @@
+-- `to_message::write` meets its contract. Assumes nothing.
 use Rattle.to_message.proofs.Calling.{measured-right, write-44, write-45, write-all}
 use borrow.Author.Needs.{needs}
 use Rattle.to_message.proofs.write.Statement.{statement}

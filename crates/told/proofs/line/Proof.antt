@@ -1,3 +1,4 @@
+-- `told::line` meets its contract. Assumes nothing.
 use Rattle.told.proofs.Laws.{number-short, line-is, line-short}
 use native.Mathlib.Omega.{arith}
 use borrow.Author.Needs.{needs}

@@ -1,3 +1,4 @@
+-- `told::line_at` meets its contract. Assumes nothing.
 use Rattle.writer.proofs.Laws.{back}
 use borrow.Author.Needs.{needs}
 use Rattle.told.proofs.line_at.Statement.{statement}

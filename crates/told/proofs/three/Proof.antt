@@ -1,3 +1,4 @@
+-- `told::three` meets its contract. Assumes nothing.
 use Rattle.told.proofs.Laws.{three-is}
 use borrow.Author.Needs.{needs}
 use Rattle.told.proofs.three.Statement.{statement}

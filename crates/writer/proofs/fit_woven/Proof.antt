@@ -1,3 +1,4 @@
+-- `writer::fit_woven` meets its contract. Assumes nothing.
 use Rattle.writer.proofs.Weaving.{ample-room, fits, fits-not, length-within, measured-room}
 use borrow.Author.Needs.{needs}
 use Rattle.writer.proofs.fit_woven.Statement.{statement}

@@ -1,3 +1,4 @@
+-- `writer::letter_for` meets its contract. Assumes nothing.
 use borrow.Author.Needs.{needs}
 use Prim.Native.Nat.{_-_}
 use Rattle.writer.proofs.Escapes.{letter-component, letter-escape, letter-field, letter-none, letter-repetition, letter-sub}

@@ -1,3 +1,4 @@
+-- `writer::put_slot` meets its contract. Assumes nothing.
 use Prim.Native.Nat.{_-_}
 use Rattle.writer.proofs.Weaving.{put-itself, put-plain, put-text, room-itself, room-plain, room-text, there-plain, there-text}
 use borrow.Author.Needs.{needs}

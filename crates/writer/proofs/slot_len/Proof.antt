@@ -1,3 +1,4 @@
+-- `writer::slot_len` meets its contract. Assumes nothing.
 use Prim.Native.Nat.{_-_}
 use Rattle.writer.proofs.Weaving.{len-itself, len-plain, len-text, small-text, there-plain, there-text}
 use borrow.Author.Needs.{needs}

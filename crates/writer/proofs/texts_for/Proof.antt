@@ -1,3 +1,4 @@
+-- `writer::texts_for` meets its contract. Assumes nothing.
 use borrow.Author.Needs.{needs}
 use Prim.Native.Nat.{_-_}
 use Rattle.writer.specs.Woven.{taken}

@@ -1,3 +1,4 @@
+-- `frame::header::delims` meets its contract. Assumes nothing.
 use borrow.Author.Needs.{needs}
 use Rattle.rules.specs.Frame.{delimsOf}
 use Rattle.frame.proofs.header.delims.Statement.{statement}

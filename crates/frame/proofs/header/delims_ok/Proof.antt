@@ -1,3 +1,4 @@
+-- `frame::header::delims_ok` meets its contract. Assumes nothing.
 use borrow.Author.Needs.{needs}
 use Rattle.rules.specs.Lists.{bytes}
 use Rattle.frame.proofs.Laws.{delims-are}

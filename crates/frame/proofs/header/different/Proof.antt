@@ -1,3 +1,4 @@
+-- `frame::header::different` meets its contract. Assumes nothing.
 use borrow.Author.Needs.{needs}
 use Rattle.frame.proofs.Laws.{different-is}
 use Rattle.frame.proofs.header.different.Statement.{statement}

@@ -1,3 +1,4 @@
+-- `frame::names::is` meets its contract. Assumes nothing.
 use borrow.Author.Needs.{needs}
 use Rattle.frame.proofs.Laws.{is-by}
 use Rattle.frame.proofs.names.is.Statement.{statement}

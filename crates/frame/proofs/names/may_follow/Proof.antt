@@ -1,3 +1,4 @@
+-- `frame::names::may_follow` meets its contract. Assumes nothing.
 use borrow.Author.Needs.{needs}
 use Rattle.frame.proofs.Laws.{follow-is}
 use Rattle.frame.proofs.names.may_follow.Statement.{statement}

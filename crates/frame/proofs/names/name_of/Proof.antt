@@ -1,3 +1,4 @@
+-- `frame::names::name_of` meets its contract. Assumes nothing.
 use borrow.Author.Needs.{needs}
 use Rattle.rules.specs.Frame.{nameOf, knownNames, spelling}
 use Rattle.rules.specs.Lists.{bytes}

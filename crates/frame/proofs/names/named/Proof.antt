@@ -1,3 +1,4 @@
+-- `frame::names::named` meets its contract. Assumes nothing.
 use borrow.Author.Needs.{needs}
 use Rattle.frame.proofs.Laws.{named-is}
 use Rattle.frame.proofs.names.named.Statement.{statement}

@@ -1,3 +1,4 @@
+-- `frame::segments::counted` meets its contract. Assumes nothing.
 use borrow.Author.Needs.{needs}
 use Rattle.frame.proofs.Laws.{counted-known, counted-other}
 use Rattle.frame.proofs.segments.counted.Statement.{statement}

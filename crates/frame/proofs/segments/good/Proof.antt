@@ -1,3 +1,4 @@
+-- `frame::segments::good` meets its contract. Assumes nothing.
 use borrow.Author.Needs.{needs}
 use Rattle.frame.proofs.Laws.{good-long, good-more, good-short, good-three}
 use Rattle.frame.proofs.segments.good.Statement.{statement}

@@ -1,3 +1,4 @@
+-- `frame::segments::hit` meets its contract. Assumes nothing.
 use borrow.Author.Needs.{needs}
 use Rattle.frame.proofs.Laws.{hit-no, hit-yes}
 use Rattle.frame.proofs.segments.hit.Statement.{statement}

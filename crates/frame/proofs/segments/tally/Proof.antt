@@ -1,3 +1,4 @@
+-- `frame::segments::tally` meets its contract. Assumes nothing.
 use borrow.Author.Needs.{needs}
 use Rattle.frame.proofs.Laws.{tally-is}
 use Rattle.frame.proofs.segments.tally.Statement.{statement}
