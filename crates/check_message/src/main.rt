@@ -1,31 +1,31 @@
-// Checks the message on standard input: prints the counts of its specimens, orders and results, or its refusal in three lines.
+// Checks the message on standard input, or in the file that is named: prints the counts of its specimens, orders and results, or its refusal.
+use program::Input;
 use rules::Answer;
-use rules::Counts;
+
+const NAME: [u8; 13] = *b"check_message";
+
+const USAGE: [u8; 28] = *b"usage: check_message [FILE]\n";
 
 fn main() {
     // one byte past the limit, so that a longer message gives 10
     let mut message = [0u8; 32769];
-    let n = io::read_full(0, &mut message);
-    show(message::check(&message[..n]));
+    run(&mut message);
 }
 
-fn show(answer: Answer) {
-    match answer {
-        Answer::Accepted(counts) => show_counts(counts),
-        Answer::Refused(refusal) => {
-            told::show_message_refusal(refusal);
-        }
+fn run(message: &mut [u8]) {
+    match program::read_input(&NAME, &USAGE, 1, message) {
+        Input::Whole(n) => check(program::front(message, n)),
+        Input::Failed => {}
     }
 }
 
-fn show_counts(counts: Counts) {
-    line(b"spm=", counts.spm);
-    line(b"obr=", counts.obr);
-    line(b"obx=", counts.obx);
-}
-
-fn line(key: &[u8], value: usize) {
-    io::write_all(1, key);
-    io::print_decimal(1, value as u64);
-    io::write_all(1, b"\n");
+fn check(m: &[u8]) {
+    match oul::check(m) {
+        Answer::Accepted(counts) => {
+            let mut lines = [0u8; 96];
+            let n = told::of_counts(&mut lines, counts);
+            program::output(&NAME, &lines[..n], b"");
+        }
+        Answer::Refused(refusal) => program::refuse_message(&NAME, m, refusal),
+    }
 }

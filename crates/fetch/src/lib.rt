@@ -104,8 +104,8 @@ pub enum Found {
     Nothing,
 }
 
-// "Ordinals count known segments only, from 1."
-fn known_segment(m: &[u8], ordinal: usize) -> Found
+// "Ordinals count known segments only, from 1." It takes any bytes.
+pub fn known_segment(m: &[u8], ordinal: usize) -> Found
     ensures { λ r. ⌜ foundTold (now (m .entry)) r ≡ Fetch.ordinal (known (now (m .entry))) ordinal ⌝ }
     ensures within { λ r. ⌜ ((s : Segment) → r ≡ Found.At s → s .start + s .len ≤ length (now (m .entry))) ⌝ }
 {

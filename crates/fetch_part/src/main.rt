@@ -1,20 +1,23 @@
-// Fetches a part of the message on standard input, by its ordinal, field and component, the three arguments: prints its bytes and 0A, or
-// the refusal in three lines.
+// Fetches a part of the message on standard input, or in the file that is named, by its ordinal, field and component, the first three arguments: prints its bytes and 0A, or
+// its refusal.
+use program::Input;
 use rules::Fetched;
 
+const NAME: [u8; 10] = *b"fetch_part";
+
+const USAGE: [u8; 88] =
+    *b"usage: fetch_part ORDINAL FIELD COMPONENT [FILE] (whole numbers of at most nine digits)\n";
+
 fn main() {
-    if os::arg_count() == 4 {
-        with_ordinal(argument(1));
+    if os::arg_count() < 4 {
+        explain();
     } else {
-        usage();
+        with_ordinal(argument(1));
     }
 }
 
-fn usage() {
-    io::write_all(
-        2,
-        b"usage: fetch_part ORDINAL FIELD COMPONENT <MESSAGE (three whole numbers below 1000000000)\n",
-    );
+fn explain() {
+    program::explain(&USAGE);
 }
 
 // ---- the arguments
@@ -26,21 +29,21 @@ enum Number {
 fn with_ordinal(ordinal: Number) {
     match ordinal {
         Number::Is(o) => with_field(o, argument(2)),
-        Number::Wrong => usage(),
+        Number::Wrong => explain(),
     }
 }
 
 fn with_field(ordinal: usize, field: Number) {
     match field {
         Number::Is(f) => with_component(ordinal, f, argument(3)),
-        Number::Wrong => usage(),
+        Number::Wrong => explain(),
     }
 }
 
 fn with_component(ordinal: usize, field: usize, component: Number) {
     match component {
         Number::Is(c) => part(ordinal, field, c),
-        Number::Wrong => usage(),
+        Number::Wrong => explain(),
     }
 }
 
@@ -78,16 +81,20 @@ fn read_number(s: &[u8]) -> Number {
 fn part(ordinal: usize, field: usize, component: usize) {
     // one byte past the limit, so that a longer message gives 10
     let mut message = [0u8; 32769];
-    let n = io::read_full(0, &mut message);
-    let m = &message[..n];
-    let answer = fetch::locate(m, ordinal, field, component);
+    run(&mut message, ordinal, field, component);
+}
+
+fn run(message: &mut [u8], ordinal: usize, field: usize, component: usize) {
+    match program::read_input(&NAME, &USAGE, 4, message) {
+        Input::Whole(n) => fetch(program::front(message, n), ordinal, field, component),
+        Input::Failed => {}
+    }
+}
+
+fn fetch(m: &[u8], ordinal: usize, field: usize, component: usize) {
+    let answer = oul::locate(m, ordinal, field, component);
     match answer {
-        Fetched::At(_) => {
-            io::write_all(1, fetch::bytes_of(m, answer));
-            io::write_all(1, b"\n");
-        }
-        Fetched::NotFetched(refusal) => {
-            told::show_message_refusal(refusal);
-        }
+        Fetched::At(_) => program::output(&NAME, oul::bytes_of(m, answer), b"\n"),
+        Fetched::NotFetched(refusal) => program::refuse_message(&NAME, m, refusal),
     }
 }

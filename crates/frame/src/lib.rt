@@ -11,7 +11,7 @@ ghost use Rattle.frame.specs.Frame.{framedTold, frameOf, closing, Within
 
 pub mod header;
 pub mod names;
-mod segments;
+pub mod segments;
 
 // What a message that passes 10 to 15 is read with, and what the check gives in the end.
 pub struct Opened {

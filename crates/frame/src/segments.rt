@@ -65,7 +65,7 @@ fn none() -> Seen
 }
 
 // 13, of one segment without its 0D.
-fn good(s: &[u8], field: u8) -> bool
+pub fn good(s: &[u8], field: u8) -> bool
     ensures { λ r. ⌜ r ≡ goodOf field (now (s .entry)) ⌝ }
 {
     if 4096 < s.len() {

@@ -1,17 +1,23 @@
 // The face of the library: its calls, each with its whole promise. None asks anything of its caller.
+use fetch::Found;
 use rules::Answer;
 use rules::Fetched;
 use rules::Written;
+use spot::Spot;
 ghost use mathlib.Core.Path.{_≡_};
 ghost use Prim.Native.Nat.{_+_, _≤_};
 ghost use lib.ListN.{length};
 ghost use Rattle.rules.specs.declared.Span.{Span};
 ghost use Rattle.rules.specs.Told.{told, toldSpan, toldLength, lengthOf, over};
+ghost use Rattle.rules.specs.Frame.{known};
 ghost use Rattle.rules.specs.Check.{checkTold};
-ghost use Rattle.rules.specs.Fetch.{fetchTold, partTold};
+ghost use Rattle.rules.specs.Fetch.{fetchTold, bytesAt, partTold};
+ghost use Rattle.rules.specs.Fetch as Fetch;
 ghost use Rattle.rules.specs.Sheet.{toSheet};
 ghost use Rattle.rules.specs.Message.{toMessage};
-ghost use Rattle.fetch.specs.Place.{shown, startTold};
+ghost use Rattle.fetch.specs.declared.Segment.{Segment};
+ghost use Rattle.fetch.specs.Place.{shown, startTold, spanIn, foundTold};
+ghost use Rattle.spot.specs.Spot.{spotOf};
 
 // Checks a message: the counts of its specimens, orders and results, or its refusal (10 to 27).
 pub fn check(m: &[u8]) -> Answer
@@ -36,6 +42,14 @@ pub fn fetch(m: &[u8], ordinal: usize, field: usize, component: usize) -> &[u8]
     fetch::fetch(m, ordinal, field, component)
 }
 
+// The stretch of m that an answer of `locate` names, without a second check; an empty one, at the start, where it names none that lies in m.
+pub fn bytes_of(m: &[u8], answer: Fetched) -> &[u8]
+    ensures { λ r. ⌜ now r ≡ bytesAt (now (m .entry)) (spanIn (length (now (m .entry))) answer) ⌝ }
+    ensures place { λ r. ⌜ r .ptr ≡ (m .entry .ptr .0, spanIn (length (now (m .entry))) answer .start + m .entry .ptr .1) ⌝ }
+{
+    fetch::bytes_of(m, answer)
+}
+
 // Writes the sheet of a message into the lent buffer, whose bytes past the sheet stay: how many bytes it has, or the refusal (10 to 27, 45), which leaves the buffer.
 pub fn to_sheet(m: &[u8], out: &mut [u8]) -> Written
     ensures told { λ r. ⌜ toldLength r ≡ lengthOf (toSheet (now (m .entry)) (length (now (out .entry)))) ⌝ }
@@ -50,4 +64,19 @@ pub fn to_message(sheet: &[u8], out: &mut [u8]) -> Written
     ensures buffer { λ _. ⌜ now (out .exit) ≡ over (toMessage (now (sheet .entry)) (length (now (out .entry)))) (now (out .entry)) ⌝ }
 {
     to_message::to_message(sheet, out)
+}
+
+// Which known segment an ordinal is: its name, where it starts and how long it is without its 0D; nothing where there is none. It takes any bytes, checked or not.
+pub fn known_segment(m: &[u8], ordinal: usize) -> Found
+    ensures { λ r. ⌜ foundTold (now (m .entry)) r ≡ Fetch.ordinal (known (now (m .entry))) ordinal ⌝ }
+    ensures within { λ r. ⌜ ((s : Segment) → r ≡ Found.At s → s .start + s .len ≤ length (now (m .entry))) ⌝ }
+{
+    fetch::known_segment(m, ordinal)
+}
+
+// Where a text breaks the rule of 12, 13 or 41, which name no place: the line and the byte, counted from 1; zeros for any other refusal.
+pub fn spot_of(text: &[u8], number: usize) -> Spot
+    ensures { λ r. ⌜ r ≡ spotOf number (now (text .entry)) ⌝ }
+{
+    spot::spot_of(text, number)
 }

@@ -1,7 +1,19 @@
 -- Laws of the face for C: an answer as numbers, for each call its ways. Assumes nothing.
-use mathlib.Core.Path.{_≡_, ap, _∙_}
+use mathlib.Core.Path.{_≡_, ap, sym, _∙_}
 use mathlib.Core.List.{List, [], _∷_}
-use Prim.Native.Nat.{ℕ}
+use Prim.Native.Nat.{ℕ, _+_, _≤_}
+use native.Mathlib.Omega.{arith}
+use lib.ListN.{length, take, drop, length-drop}
+use lib.Seq.{length-take-le}
+use Rattle.rules.specs.declared.Kind.the-variants.{NoOrdinal}
+use Rattle.rules.specs.Shift.{met}
+use Rattle.rules.specs.Frame.{Known}
+use Rattle.rules.proofs.Modes.{length-met}
+use Rattle.fetch.specs.declared.Segment.{Segment}
+use Rattle.fetch.specs.declared.Found.{Found}
+use Rattle.fetch.specs.declared.Found.the-variants as Found
+use Rattle.fetch.specs.Place.{foundTold}
+use Rattle.spot.specs.declared.Spot.{Spot}
 use Rattle.rules.specs.declared.Counts.{Counts}
 use Rattle.rules.specs.declared.Refusal.{Refusal}
 use Rattle.rules.specs.declared.Span.{Span}
@@ -12,7 +24,7 @@ use Rattle.rules.specs.declared.Fetched.the-variants.{At, NotFetched}
 use Rattle.rules.specs.declared.Written.{Written}
 use Rattle.rules.specs.declared.Written.the-variants.{Wrote, NotWritten}
 use Rattle.rules.specs.Told.{Told, number, told, toldSpan, toldLength}
-use Rattle.oul_c.specs.Numbers.{numberOf, placeOf, countsOf, stretchOf, writtenOf, Says}
+use Rattle.oul_c.specs.Numbers.{numberOf, placeOf, countsOf, stretchOf, writtenOf, segmentOf, spotIn, Says}
 
 -- ---- the check
 module _ (t : Told Counts) (a : Answer) (e : told a ≡ t) where
@@ -41,6 +53,27 @@ module _ (t : Told Span) (a : Fetched) (e : toldSpan a ≡ t) where
 
   pub unfetched-place : (r : Refusal) (x : List ℕ) → a ≡ NotFetched r → x ≡ placeOf (r .segment) (r .field) → x ≡ stretchOf t
   unfetched-place r x h k = rw (← e, h) k
+
+-- ---- a known segment: it lies in the message, so that its bytes are as many as are met
+part-met : (m : List ℕ) (a n : ℕ) → a + n ≤ length m → length (met (take n (drop a m))) ≡ n
+part-met m a n h = length-met (take n (drop a m)) ∙ length-take-le n (drop a m) (omega (arith, length-drop a m))
+
+module _ (m : List ℕ) (t : Told Known) (a : Found) (e : foundTold m a ≡ t) where
+  pub found-number : (s : Segment) → a ≡ Found.At s → 0 ≡ numberOf t
+  found-number s h = rw (← e, h)
+
+  pub found-segment : (s : Segment) → a ≡ Found.At s → s .start + s .len ≤ length m → (s .start ∷ s .len ∷ 0 ∷ []) ≡ segmentOf t
+  found-segment s h w = rw (← e, h) (ap (λ n. s .start ∷ n ∷ 0 ∷ []) (sym (part-met m (s .start) (s .len) w)))
+
+  pub absent-number : (n : ℕ) → a ≡ Found.Nothing → n ≡ number NoOrdinal → n ≡ numberOf t
+  absent-number n h k = rw (← e, h) k
+
+  pub absent-place : (x : List ℕ) → a ≡ Found.Nothing → x ≡ placeOf 0 0 → x ≡ segmentOf t
+  absent-place x h k = rw (← e, h) k
+
+-- ---- a place in a text
+pub spot-told : (p q : Spot) → p ≡ q → (p .line ∷ p .byte ∷ 0 ∷ []) ≡ spotIn q
+spot-told p q e = ap spotIn e
 
 -- ---- how many bytes were written
 pub wrote-says : (a : Written) (n : ℕ) → a ≡ Wrote n → Says a 0 (n ∷ 0 ∷ 0 ∷ [])

@@ -2,10 +2,13 @@
 use mathlib.Core.Path.{_≡_}
 use mathlib.Core.List.{List, [], _∷_}
 use Prim.Native.Nat.{ℕ}
+use lib.ListN.{length}
 use Rattle.rules.specs.declared.Counts.{Counts}
 use Rattle.rules.specs.declared.Span.{Span}
 use Rattle.rules.specs.declared.Written.{Written}
 use Rattle.rules.specs.Told.{Told, gives, refused, toldLength}
+use Rattle.rules.specs.Frame.{Known}
+use Rattle.spot.specs.declared.Spot.{Spot}
 
 -- 0 where what was asked for is given, else the number of the refusal
 abbrev pub numberOf : {A : Type 0} → Told A → ℕ
@@ -30,6 +33,15 @@ stretchOf (refused n s f) = placeOf s f
 abbrev pub writtenOf : Told ℕ → List ℕ
 writtenOf (gives n) = n ∷ 0 ∷ 0 ∷ []
 writtenOf (refused n s f) = placeOf s f
+
+-- where a segment starts, how long it is without its 0D, and 0
+abbrev pub segmentOf : Told Known → List ℕ
+segmentOf (gives k) = k .start ∷ length (k .body) ∷ 0 ∷ []
+segmentOf (refused n s f) = placeOf s f
+
+-- a line, a byte, and 0
+abbrev pub spotIn : Spot → List ℕ
+spotIn p = p .line ∷ p .byte ∷ 0 ∷ []
 
 -- the number and the three numbers of what a writer answers
 pub record Says (a : Written) (n : ℕ) (x : List ℕ) : Type 0 where

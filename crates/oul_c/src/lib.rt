@@ -1,17 +1,21 @@
 // The face of the library for C: the calls of `oul` on numbers and bytes. Each answers 0, or the number of the refusal, and fills three numbers that the caller
 // lends: what was asked for, or the refusal's segment (or line), its field and 0. include/oul.h declares them.
+use fetch::Found;
 use rules::Answer;
 use rules::Fetched;
+use rules::Kind;
 use rules::Refusal;
 use rules::Written;
 ghost use mathlib.Core.Path.{_≡_};
 ghost use lib.ListN.{length};
 ghost use Rattle.rules.specs.Told.{number, lengthOf, over};
+ghost use Rattle.rules.specs.Frame.{known};
 ghost use Rattle.rules.specs.Check.{checkTold};
-ghost use Rattle.rules.specs.Fetch.{fetchTold};
+ghost use Rattle.rules.specs.Fetch.{fetchTold, ordinal};
 ghost use Rattle.rules.specs.Sheet.{toSheet};
 ghost use Rattle.rules.specs.Message.{toMessage};
-ghost use Rattle.oul_c.specs.Numbers.{numberOf, placeOf, countsOf, stretchOf, writtenOf, Says};
+ghost use Rattle.spot.specs.Spot.{spotOf};
+ghost use Rattle.oul_c.specs.Numbers.{numberOf, placeOf, countsOf, stretchOf, writtenOf, segmentOf, spotIn, Says};
 
 // The counts of the specimens, orders and results of a message.
 #[no_mangle]
@@ -67,6 +71,39 @@ pub extern "C" fn oul_to_message(sheet: &[u8], out: &mut [u8], told: &mut [usize
     ensures buffer { λ _. ⌜ now (out .exit) ≡ over (toMessage (now (sheet .entry)) (length (now (out .entry)))) (now (out .entry)) ⌝ }
 {
     written(oul::to_message(sheet, out), told)
+}
+
+// Where the known segment with this ordinal starts, and how long it is without its 0D; its name is its first three bytes. It takes any bytes.
+#[no_mangle]
+pub extern "C" fn oul_segment(m: &[u8], number: usize, told: &mut [usize; 3]) -> usize
+    ensures { λ r. ⌜ r ≡ numberOf (ordinal (known (now (m .entry))) number) ⌝ }
+    ensures { λ _. ⌜ now (told .exit) ≡ segmentOf (ordinal (known (now (m .entry))) number) ⌝ }
+{
+    match oul::known_segment(m, number) {
+        Found::At(s) => {
+            *told = [s.start, s.len, 0];
+            0
+        }
+        Found::Nothing => refuse(
+            Refusal {
+                kind: Kind::NoOrdinal,
+                segment: 0,
+                field: 0,
+            },
+            told,
+        ),
+    }
+}
+
+// The line and the byte at which a text breaks the rule of its refusal 12, 13 or 41. It always answers 0.
+#[no_mangle]
+pub extern "C" fn oul_spot(text: &[u8], refusal: usize, told: &mut [usize; 3]) -> usize
+    ensures { λ r. ⌜ r ≡ 0 ⌝ }
+    ensures { λ _. ⌜ now (told .exit) ≡ spotIn (spotOf refusal (now (text .entry))) ⌝ }
+{
+    let s = oul::spot_of(text, refusal);
+    *told = [s.line, s.byte, 0];
+    0
 }
 
 // How many bytes were written, as numbers.

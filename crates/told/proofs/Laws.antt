@@ -1,31 +1,42 @@
--- Lines written one behind the other. Assumes nothing.
-use mathlib.Core.Path.{_≡_}
-use mathlib.Core.List.{List, [], _∷_}
-use Prim.Native.Nat.{ℕ, _≤_, _<_}
+-- Texts written one behind the other, and which text a case has. Assumes nothing.
+use mathlib.Core.Path.{_≡_, refl, ap, sym, _∙_}
+use mathlib.Core.Bool.{Bool, true, false, cond}
+use mathlib.Core.List.{List, [], _∷_, _++_, append-assoc, append-nil}
+use Prim.Native.Nat.{ℕ, _+_, _≤_, _<_}
 use native.Mathlib.Omega.{arith}
-use lib.ListN.{length}
+use lib.Dec.{eqb}
+use lib.ListN.{length, take}
+use borrow.Author.Tests.{ne-eqb}
+use Rattle.rules.specs.declared.Counts.{Counts}
+use Rattle.rules.specs.declared.Kind.{Kind}
+use Rattle.rules.specs.declared.Name.{Name}
 use Rattle.rules.specs.declared.Refusal.{Refusal}
 use Rattle.rules.specs.Told.{number}
 use Rattle.rules.specs.Lists.{bytes}
+use Rattle.rules.specs.Frame.{spelling}
 use Rattle.rules.specs.Message.{decimal}
 use Rattle.rules.proofs.Measures.{tens, decimal-few}
 use Rattle.writer.specs.Over.{Wrote, Put}
-use Rattle.writer.proofs.Laws.{then}
-use Rattle.told.specs.Told.{lineText, refusalText}
+use Rattle.writer.proofs.Laws.{then, front-within, front-is}
+use Rattle.spot.specs.declared.Spot.{Spot}
+use Rattle.told.specs.declared.Where.{Where}
+use Rattle.told.specs.declared.Breach.{Breach}
+use Rattle.told.specs.declared.Breach.the-variants.{Unlisted}
+use Rattle.told.specs.Told.{lineText, refusalText, countsText}
+use Rattle.told.specs.Words.{Saying, saying, breachOf, breachWords, once, ofSegment, fieldText, spotText, placeText, saidText, wordsText}
 
 -- ---- a number of 64 bits
 pub number-short : (n : ℕ) → n < 18446744073709551616 → length (decimal n) ≤ 20
 unfolding tens
 number-short n h = decimal-few 19 n (omega arith)
 
--- ---- a line
-module _ (key : List ℕ) (n : ℕ) (old x y z : List ℕ) (k m r : ℕ) (a : Wrote k x key old) (b : Put k x (decimal n) m y) (c : Put m y (0x0A ∷ []) r z) where
-  pub line-is : Wrote r z (lineText key n) old
-  unfolding lineText
-  line-is = then (then a b) c
+-- ---- a number between two texts
+module _ (left right : List ℕ) (n : ℕ) (old x y z : List ℕ) (k m r : ℕ) (a : Wrote k x left old) (b : Put k x (decimal n) m y) (c : Put m y right r z) where
+  pub numbered-is : Wrote r z (left ++ decimal n ++ right) old
+  numbered-is = then (then a b) c
 
-  pub line-short : n < 18446744073709551616 → length key ≤ 8 → r ≤ 29
-  line-short h l = omega (arith, number-short n h, a .ends, b .ends, c .ends)
+  pub numbered-short : n < 18446744073709551616 → r ≤ length left + 20 + length right
+  numbered-short h = omega (arith, number-short n h, a .ends, b .ends, c .ends)
 
 -- ---- three lines
 module _ (place : List ℕ) (f : Refusal) (old x y z : List ℕ) (i k m r : ℕ) (e : i ≡ number (f .kind)) (a : Wrote k x (lineText (114 ∷ 101 ∷ 102 ∷ 117 ∷ 115 ∷ 101 ∷ 100 ∷ 61 ∷ []) i) old)
@@ -34,6 +45,79 @@ module _ (place : List ℕ) (f : Refusal) (old x y z : List ℕ) (i k m r : ℕ)
   unfolding refusalText bytes
   three-is = then (then (rw e at a) b) c
 
--- ---- how much was printed
-pub shown-length : (r : ℕ) (x w old : List ℕ) → Wrote r x w old → r ≡ length w
-shown-length r x w old p = p .ends
+module _ (n : Counts) (old x y z : List ℕ) (k m r : ℕ) (a : Wrote k x (lineText (bytes "spm=") (n .spm)) old) (b : Put k x (lineText (bytes "obr=") (n .obr)) m y)
+    (c : Put m y (lineText (bytes "obx=") (n .obx)) r z) where
+  pub counts-is : Wrote r z (countsText n) old
+  unfolding countsText
+  counts-is = then (then a b) c
+
+  pub counts-within : r ≤ length z
+  counts-within = front-within r z (countsText n) old counts-is
+
+  pub counts-front : r ≡ length (take r z)
+  counts-front = front-is r z (countsText n) old counts-is
+
+-- ---- the place
+-- a name's bytes
+pub spelled : {n j : Name} {r : ℕ} {x old : List ℕ} → n ≡ j → Wrote r x (spelling j) old → Wrote r x (spelling n) old
+spelled e p = rw e p
+
+-- how often it comes
+pub once-is : (n j : Name) (t : Bool) → n ≡ j → t ≡ once j → t ≡ once n
+once-is n j t e h = rw e h
+
+pub spelled-short : (n j : Name) (r : ℕ) (x old : List ℕ) → n ≡ j → Wrote r x (spelling j) old → length (spelling j) ≤ 3 → r ≤ 3
+spelled-short n j r x old e p h = omega (arith, p .ends)
+
+module _ (old x y z : List ℕ) (j k r : ℕ) (n : Name) (f i : ℕ) (a : Wrote j x (spelling n) old) (b : Put j x ((45 ∷ []) ++ decimal f ++ []) k y) where
+  named : Wrote k y (spelling n ++ bytes "-" ++ decimal f) old
+  unfolding bytes
+  named = rw (append-nil ((45 ∷ []) ++ decimal f), sym (append-assoc (spelling n) (45 ∷ []) (decimal f))) at (then a b)
+
+  pub field-once : {t : Bool} → t ≡ once n → t ≡ true → Put k y (58 ∷ 32 ∷ []) r z → Wrote r z (fieldText n f i) old
+  unfolding fieldText ofSegment bytes
+  field-once {t} e h c = rw (sym e, h, append-nil) (then named c)
+
+  pub field-again : {t : Bool} → t ≡ once n → t ≡ false → Put k y ((32 ∷ 111 ∷ 102 ∷ 32 ∷ 115 ∷ 101 ∷ 103 ∷ 109 ∷ 101 ∷ 110 ∷ 116 ∷ 32 ∷ []) ++ decimal i ++ (58 ∷ 32 ∷ [])) r z → Wrote r z (fieldText n f i) old
+  unfolding fieldText ofSegment bytes
+  field-again {t} e h c = rw (sym e, h, append-assoc) (then named c)
+
+pub spot-is : (p : Spot) (old x y : List ℕ) (k r : ℕ) → Wrote k x (bytes "line " ++ decimal (p .line) ++ bytes ", byte ") old → Put k x (decimal (p .byte) ++ bytes ": ") r y → Wrote r y (spotText p) old
+unfolding spotText
+spot-is p old x y k r a b = rw (append-assoc (bytes "line " ++ decimal (p .line) ++ bytes ", byte ") (decimal (p .byte)) (bytes ": ")) (then a b)
+
+module _ (t u : Where) (f : Refusal) (n : Name) (p : Spot) (r : ℕ) (x old : List ℕ) where
+  pub place-is : t ≡ u → Wrote r x (placeText u f n p) old → Wrote r x (placeText t f n p) old
+  place-is e w = rw e w
+
+-- ---- the words
+pub said-is : (t : Where) (w : List ℕ) (f : Refusal) (n : Name) (p : Spot) (old x y z : List ℕ) (k m r : ℕ) → Wrote k x (placeText t f n p) old → Put k x w m y → Put m y (0x0A ∷ []) r z → Wrote r z (saidText t w f n p) old
+unfolding saidText
+said-is t w f n p old x y z k m r a b c = then (then a b) c
+
+-- what 25 says: the field is an entry of its segment's table, or none of them
+module _ (n j : Name) (f : ℕ) (e : n ≡ j) where
+  pub breach-there : (k : ℕ) (b : Breach) → f ≡ k → b ≡ breachOf j k → b ≡ breachOf n f
+  breach-there k b h g = rw (e, h) g
+
+  pub breach-other : Unlisted ≡ breachOf j f → Unlisted ≡ breachOf n f
+  breach-other g = rw e g
+
+pub breach-past : (f k : ℕ) (x y z : Breach) → (f ≡ k → ⊥) → z ≡ y → z ≡ cond (eqb k f) x y
+breach-past f k x y z h e = rw (ne-eqb k f (λ g. h (sym g))) e
+
+pub breach-past-three : (f i j k : ℕ) (x y w v z : Breach) → (f ≡ i → ⊥) → (f ≡ j → ⊥) → (f ≡ k → ⊥) → z ≡ v → z ≡ cond (eqb i f) x (cond (eqb j f) y (cond (eqb k f) w v))
+breach-past-three f i j k x y w v z hi hj hk e =
+    breach-past f i x (cond (eqb j f) y (cond (eqb k f) w v)) z hi (breach-past f j y (cond (eqb k f) w v) z hj (breach-past f k w v z hk e))
+
+-- which words: by the breach, by the kind
+module _ (f : Refusal) (n : Name) (p : Spot) (r : ℕ) (x old : List ℕ) where
+  pub breach-is : (b j : Breach) → b ≡ breachOf n (f .field) → b ≡ j → Wrote r x (saidText Where.AtField (bytes (breachWords j)) f n p) old → Wrote r x (saidText Where.AtField (bytes (breachWords (breachOf n (f .field)))) f n p) old
+  breach-is b j e h w = rw (sym e, h) w
+
+  said-as : (s t : Saying) → s ≡ t → Wrote r x (saidText (t .tells) (bytes (t .words)) f n p) old → Wrote r x (saidText (s .tells) (bytes (s .words)) f n p) old
+  said-as s t e w = rw e w
+
+  pub words-are : (k : Kind) → f .kind ≡ k → Wrote r x (saidText (saying n (f .field) k .tells) (bytes (saying n (f .field) k .words)) f n p) old → Wrote r x (wordsText f n p) old
+  unfolding wordsText
+  words-are k e w = said-as (saying n (f .field) (f .kind)) (saying n (f .field) k) (ap (saying n (f .field)) e) w

@@ -1,6 +1,9 @@
--- "On a refusal a program prints three lines: `refused=` with the number, `segment=` (or `line=`), `field=`."
+-- "On a refusal a program prints three lines: `refused=` with the number, `segment=` (or `line=`), `field=`." And the three lines of the counts.
+use mathlib.Core.Path.{_≡_}
 use mathlib.Core.List.{List, [], _∷_, _++_}
-use Prim.Native.Nat.{ℕ}
+use Prim.Native.Nat.{ℕ, _≤_}
+use lib.ListN.{length, take}
+use Rattle.rules.specs.declared.Counts.{Counts}
 use Rattle.rules.specs.declared.Refusal.{Refusal}
 use Rattle.rules.specs.Told.{number}
 use Rattle.rules.specs.Lists.{bytes}
@@ -12,3 +15,11 @@ lineText key n = key ++ decimal n ++ (0x0A ∷ [])
 
 unfoldable pub refusalText : List ℕ → Refusal → List ℕ
 refusalText place r = lineText (bytes "refused=") (number (r .kind)) ++ lineText place (r .segment) ++ lineText (bytes "field=") (r .field)
+
+-- "The check gives the counts of SPM, OBR and OBX."
+unfoldable pub countsText : Counts → List ℕ
+countsText c = lineText (bytes "spm=") (c .spm) ++ lineText (bytes "obr=") (c .obr) ++ lineText (bytes "obx=") (c .obx)
+
+-- n bytes stand at the front of a buffer: what a caller that takes them out is asked
+abbrev pub Front : ℕ → List ℕ → Type 0
+Front n out = (n ≤ length out) × (n ≡ length (take n out))

@@ -1,34 +1,24 @@
-// The three lines by which a program tells a refusal.
+// What the programs print, as texts: the counts, a refusal in three lines, and a refusal in words.
+use rules::Counts;
+use rules::Kind;
+use rules::Name;
 use rules::Refusal;
+use spot::Spot;
 ghost use mathlib.Core.Path.{_≡_};
+ghost use mathlib.Core.List.{_++_};
 ghost use Prim.Native.Nat.{_+_, _≤_};
 ghost use lib.ListN.{length};
 ghost use Rattle.rules.specs.Lists.{bytes};
+ghost use Rattle.rules.specs.Frame.{spelling};
+ghost use Rattle.rules.specs.Message.{decimal};
 ghost use Rattle.writer.specs.Over.{Wrote, Put};
-ghost use Rattle.told.specs.Told.{lineText, refusalText};
-
-// Prints a message's refusal, and a sheet's: how many bytes were handed to standard output.
-pub fn show_message_refusal(refusal: Refusal) -> usize
-    ensures { λ r. ⌜ r ≡ length (refusalText (bytes "segment=") refusal) ⌝ }
-{
-    let mut lines = [0u8; 96];
-    let n = of_message(&mut lines, refusal);
-    io::write_all(1, &lines[..n]);
-    n
-}
-
-pub fn show_sheet_refusal(refusal: Refusal) -> usize
-    ensures { λ r. ⌜ r ≡ length (refusalText (bytes "line=") refusal) ⌝ }
-{
-    let mut lines = [0u8; 96];
-    let n = of_sheet(&mut lines, refusal);
-    io::write_all(1, &lines[..n]);
-    n
-}
+ghost use Rattle.told.specs.Told.{lineText, refusalText, countsText, Front};
+ghost use Rattle.told.specs.Words.{breachOf, breachWords, once, fieldText, spotText, placeText, saidText, wordsText};
 
 // A message's refusal names its segment.
 pub fn of_message(out: &mut [u8; 96], refusal: Refusal) -> usize
     ensures { λ r. ⌜ Wrote r (now (out .exit)) (refusalText (bytes "segment=") refusal) (now (out .entry)) ⌝ }
+    ensures within { λ r. ⌜ Front r (now (out .exit)) ⌝ }
 {
     three(out, b"segment=", refusal)
 }
@@ -36,8 +26,22 @@ pub fn of_message(out: &mut [u8; 96], refusal: Refusal) -> usize
 // A sheet's refusal names its line.
 pub fn of_sheet(out: &mut [u8; 96], refusal: Refusal) -> usize
     ensures { λ r. ⌜ Wrote r (now (out .exit)) (refusalText (bytes "line=") refusal) (now (out .entry)) ⌝ }
+    ensures within { λ r. ⌜ Front r (now (out .exit)) ⌝ }
 {
     three(out, b"line=", refusal)
+}
+
+// The counts of an accepted message.
+pub fn of_counts(out: &mut [u8; 96], counts: Counts) -> usize
+    ensures { λ r. ⌜ Wrote r (now (out .exit)) (countsText counts) (now (out .entry)) ⌝ }
+    ensures within { λ r. ⌜ Front r (now (out .exit)) ⌝ }
+{
+    let spm = counts.spm;
+    let obr = counts.obr;
+    let obx = counts.obx;
+    let first = line(out, b"spm=", spm);
+    let second = line_at(out, first, b"obr=", obr);
+    line_at(out, second, b"obx=", obx)
 }
 
 fn three(out: &mut [u8], place: &[u8], refusal: Refusal) -> usize
@@ -53,15 +57,13 @@ fn three(out: &mut [u8], place: &[u8], refusal: Refusal) -> usize
     line_at(out, second, b"field=", field)
 }
 
-// A key of at most eight bytes, a number in decimal, and 0A.
+// A key, a number in decimal, and 0A.
 fn line(out: &mut [u8], key: &[u8], n: usize) -> usize
     requires { ⌜ (29 ≤ length (now out)) × (length (now key) ≤ 8) ⌝ }
     ensures { λ r. ⌜ Wrote r (now (out .exit)) (lineText (now (key .entry)) n) (now (out .entry)) ⌝ }
     ensures within { λ r. ⌜ r ≤ 29 ⌝ }
 {
-    let k = writer::put(out, key);
-    let m = writer::put_number_at(out, k, n);
-    writer::put_at(out, m, b"\n")
+    numbered(out, key, n, b"\n")
 }
 
 // The same at a place: lends the tail.
@@ -71,4 +73,484 @@ fn line_at(out: &mut [u8], at: usize, key: &[u8], n: usize) -> usize
     ensures within { λ r. ⌜ r ≤ at + 29 ⌝ }
 {
     at + line(&mut out[at..], key, n)
+}
+
+// A number in decimal between two texts.
+fn numbered(out: &mut [u8], left: &[u8], n: usize, right: &[u8]) -> usize
+    requires { ⌜ length (now left) + 20 + length (now right) ≤ length (now out) ⌝ }
+    ensures { λ r. ⌜ Wrote r (now (out .exit)) (now (left .entry) ++ decimal n ++ now (right .entry)) (now (out .entry)) ⌝ }
+    ensures within { λ r. ⌜ r ≤ length (now (left .entry)) + 20 + length (now (right .entry)) ⌝ }
+{
+    let k = writer::put(out, left);
+    let m = writer::put_number_at(out, k, n);
+    writer::put_at(out, m, right)
+}
+
+fn numbered_at(out: &mut [u8], at: usize, left: &[u8], n: usize, right: &[u8]) -> usize
+    requires { ⌜ at + (length (now left) + 20 + length (now right)) ≤ length (now out) ⌝ }
+    ensures { λ r. ⌜ Put at (now (out .entry)) (now (left .entry) ++ decimal n ++ now (right .entry)) r (now (out .exit)) ⌝ }
+    ensures within { λ r. ⌜ r ≤ at + (length (now (left .entry)) + 20 + length (now (right .entry))) ⌝ }
+{
+    at + numbered(&mut out[at..], left, n, right)
+}
+
+// ---- a refusal in words
+
+// Which place is told before the words.
+pub enum Where {
+    Nowhere,
+    AtSpot,
+    AtSegment,
+    AtLine,
+    AtField,
+}
+
+// What 25 says of a field: what its value is not.
+pub enum Breach {
+    NoTime,
+    NoDate,
+    NoNumber,
+    NoText,
+    NoDigits,
+    NoCapitals,
+    NoWord,
+    NoCode,
+    NoCharset,
+    NoName,
+    NoValue,
+    Unlisted,
+}
+
+// A refusal in words, one line: `name` is that of the segment that it names (Other where it names none), `spot` the place in the text.
+pub fn in_words(out: &mut [u8; 192], refusal: Refusal, name: Name, spot: Spot) -> usize
+    ensures { λ r. ⌜ Wrote r (now (out .exit)) (wordsText refusal name spot) (now (out .entry)) ⌝ }
+    ensures within { λ r. ⌜ Front r (now (out .exit)) ⌝ }
+{
+    let kind = refusal.kind;
+    match kind {
+        Kind::TooLong => said(
+            out,
+            Where::Nowhere,
+            b"the message has more than 32,768 bytes",
+            refusal,
+            name,
+            spot,
+        ),
+        Kind::Header => said(
+            out,
+            Where::Nowhere,
+            b"the first nine bytes are no header",
+            refusal,
+            name,
+            spot,
+        ),
+        Kind::Bytes => said(
+            out,
+            Where::AtSpot,
+            b"a byte that is not allowed here, or a shift that is broken off",
+            refusal,
+            name,
+            spot,
+        ),
+        Kind::Segment => said(
+            out,
+            Where::AtSpot,
+            b"no segment: a bad name, more than 4,096 bytes, or no 0D at its end",
+            refusal,
+            name,
+            spot,
+        ),
+        Kind::TooMany => said(
+            out,
+            Where::Nowhere,
+            b"the message has more than 512 segments",
+            refusal,
+            name,
+            spot,
+        ),
+        Kind::Order => said(
+            out,
+            Where::AtSegment,
+            b"out of order, or missing",
+            refusal,
+            name,
+            spot,
+        ),
+        Kind::Missing => said(
+            out,
+            Where::AtField,
+            b"required, but empty",
+            refusal,
+            name,
+            spot,
+        ),
+        Kind::Null => said(out, Where::AtField, b"exactly \"\"", refusal, name, spot),
+        Kind::Repeated => said(
+            out,
+            Where::AtField,
+            b"a repetition, where one value is read",
+            refusal,
+            name,
+            spot,
+        ),
+        Kind::Escape => said(
+            out,
+            Where::AtField,
+            b"a bare subcomponent separator, a bad escape, or a component too many",
+            refusal,
+            name,
+            spot,
+        ),
+        Kind::Long => said(out, Where::AtField, b"too long", refusal, name, spot),
+        Kind::Value => breach_said(out, refusal, name, spot),
+        Kind::Status => said(
+            out,
+            Where::AtField,
+            b"the value does not fit the status",
+            refusal,
+            name,
+            spot,
+        ),
+        Kind::Differs => said(
+            out,
+            Where::AtField,
+            b"not the order number of the OBR before it",
+            refusal,
+            name,
+            spot,
+        ),
+        Kind::NoOrdinal => said(
+            out,
+            Where::Nowhere,
+            b"no known segment has this ordinal",
+            refusal,
+            name,
+            spot,
+        ),
+        Kind::Zero => said(
+            out,
+            Where::Nowhere,
+            b"fields and components are counted from 1",
+            refusal,
+            name,
+            spot,
+        ),
+        Kind::SheetTooLong => said(
+            out,
+            Where::Nowhere,
+            b"the sheet has more than 65,536 bytes",
+            refusal,
+            name,
+            spot,
+        ),
+        Kind::SheetBytes => said(
+            out,
+            Where::AtSpot,
+            b"a byte that is not allowed here, a shift that is broken off, or no 0A at the end",
+            refusal,
+            name,
+            spot,
+        ),
+        Kind::Key => said(
+            out,
+            Where::AtLine,
+            b"not the key that must stand here",
+            refusal,
+            name,
+            spot,
+        ),
+        Kind::Line => said(
+            out,
+            Where::AtLine,
+            b"the value breaks its rule",
+            refusal,
+            name,
+            spot,
+        ),
+        Kind::Overflow => said(
+            out,
+            Where::Nowhere,
+            b"the message would have more than 32,768 bytes or 512 segments",
+            refusal,
+            name,
+            spot,
+        ),
+        Kind::Room => said(
+            out,
+            Where::Nowhere,
+            b"the lent buffer is too short",
+            refusal,
+            name,
+            spot,
+        ),
+    }
+}
+
+// 25, by the rule of the place.
+fn breach_said(out: &mut [u8], refusal: Refusal, name: Name, spot: Spot) -> usize
+    requires { ⌜ 192 ≤ length (now out) ⌝ }
+    ensures { λ r. ⌜ Wrote r (now (out .exit)) (saidText Where.AtField (bytes (breachWords (breachOf name (refusal .field)))) refusal name spot) (now (out .entry)) ⌝ }
+{
+    let field = refusal.field;
+    let breach = breach_of(name, field);
+    match breach {
+        Breach::NoTime => said(
+            out,
+            Where::AtField,
+            b"not a time that exists",
+            refusal,
+            name,
+            spot,
+        ),
+        Breach::NoDate => said(
+            out,
+            Where::AtField,
+            b"not a date that exists",
+            refusal,
+            name,
+            spot,
+        ),
+        Breach::NoNumber => said(out, Where::AtField, b"not a number", refusal, name, spot),
+        Breach::NoText => said(out, Where::AtField, b"not a text", refusal, name, spot),
+        Breach::NoDigits => said(
+            out,
+            Where::AtField,
+            b"not the digits that it takes",
+            refusal,
+            name,
+            spot,
+        ),
+        Breach::NoCapitals => said(
+            out,
+            Where::AtField,
+            b"not capitals and digits",
+            refusal,
+            name,
+            spot,
+        ),
+        Breach::NoWord => said(
+            out,
+            Where::AtField,
+            b"not one of its words",
+            refusal,
+            name,
+            spot,
+        ),
+        Breach::NoCode => said(
+            out,
+            Where::AtField,
+            b"not the code and coding system that it takes",
+            refusal,
+            name,
+            spot,
+        ),
+        Breach::NoCharset => said(
+            out,
+            Where::AtField,
+            b"not the repetition separator and ISO IR87",
+            refusal,
+            name,
+            spot,
+        ),
+        Breach::NoName => said(out, Where::AtField, b"not a name", refusal, name, spot),
+        Breach::NoValue => said(
+            out,
+            Where::AtField,
+            b"not a value of its type",
+            refusal,
+            name,
+            spot,
+        ),
+        Breach::Unlisted => said(out, Where::AtField, b"breaks its rule", refusal, name, spot),
+    }
+}
+
+// Which words 25 has for a field of a segment: the table of read places.
+fn breach_of(name: Name, field: usize) -> Breach
+    ensures { λ r. ⌜ r ≡ breachOf name field ⌝ }
+{
+    match name {
+        Name::Msh => {
+            if field == 7 {
+                return Breach::NoTime;
+            }
+            if field == 9 {
+                return Breach::NoWord;
+            }
+            if field == 10 {
+                return Breach::NoText;
+            }
+            if field == 11 {
+                return Breach::NoWord;
+            }
+            if field == 12 {
+                return Breach::NoWord;
+            }
+            if field == 18 {
+                return Breach::NoCharset;
+            }
+            Breach::Unlisted
+        }
+        Name::Pid => {
+            if field == 3 {
+                return Breach::NoText;
+            }
+            if field == 5 {
+                return Breach::NoName;
+            }
+            if field == 7 {
+                return Breach::NoDate;
+            }
+            if field == 8 {
+                return Breach::NoWord;
+            }
+            Breach::Unlisted
+        }
+        Name::Pv1 => {
+            if field == 2 {
+                return Breach::NoWord;
+            }
+            Breach::Unlisted
+        }
+        Name::Spm => {
+            if field == 4 {
+                return Breach::NoCode;
+            }
+            if field == 17 {
+                return Breach::NoTime;
+            }
+            Breach::Unlisted
+        }
+        Name::Obr => {
+            if field == 2 {
+                return Breach::NoDigits;
+            }
+            if field == 4 {
+                return Breach::NoCode;
+            }
+            Breach::Unlisted
+        }
+        Name::Orc => {
+            if field == 1 {
+                return Breach::NoWord;
+            }
+            if field == 2 {
+                return Breach::NoDigits;
+            }
+            Breach::Unlisted
+        }
+        Name::Obx => {
+            if field == 2 {
+                return Breach::NoWord;
+            }
+            if field == 3 {
+                return Breach::NoCode;
+            }
+            if field == 5 {
+                return Breach::NoValue;
+            }
+            if field == 6 {
+                return Breach::NoText;
+            }
+            if field == 8 {
+                return Breach::NoWord;
+            }
+            if field == 11 {
+                return Breach::NoWord;
+            }
+            Breach::Unlisted
+        }
+        Name::Other => Breach::Unlisted,
+    }
+}
+
+// The place, the words and 0A.
+fn said(
+    out: &mut [u8],
+    place: Where,
+    words: &[u8],
+    refusal: Refusal,
+    name: Name,
+    spot: Spot,
+) -> usize
+    requires { ⌜ (192 ≤ length (now out)) × (length (now words) ≤ 90) ⌝ }
+    ensures { λ r. ⌜ Wrote r (now (out .exit)) (saidText place (now (words .entry)) refusal name spot) (now (out .entry)) ⌝ }
+{
+    let k = place_said(out, place, refusal, name, spot);
+    let m = writer::put_at(out, k, words);
+    writer::put_at(out, m, b"\n")
+}
+
+fn place_said(out: &mut [u8], place: Where, refusal: Refusal, name: Name, spot: Spot) -> usize
+    requires { ⌜ 58 ≤ length (now out) ⌝ }
+    ensures { λ r. ⌜ Wrote r (now (out .exit)) (placeText place refusal name spot) (now (out .entry)) ⌝ }
+    ensures within { λ r. ⌜ r ≤ 58 ⌝ }
+{
+    let segment = refusal.segment;
+    let field = refusal.field;
+    match place {
+        Where::Nowhere => 0,
+        Where::AtSpot => spot_said(out, spot),
+        Where::AtSegment => numbered(out, b"segment ", segment, b": "),
+        Where::AtLine => numbered(out, b"line ", segment, b": "),
+        Where::AtField => field_said(out, name, field, segment),
+    }
+}
+
+fn spot_said(out: &mut [u8], spot: Spot) -> usize
+    requires { ⌜ 58 ≤ length (now out) ⌝ }
+    ensures { λ r. ⌜ Wrote r (now (out .exit)) (spotText spot) (now (out .entry)) ⌝ }
+    ensures within { λ r. ⌜ r ≤ 58 ⌝ }
+{
+    let line = spot.line;
+    let byte = spot.byte;
+    let k = numbered(out, b"line ", line, b", byte ");
+    numbered_at(out, k, b"", byte, b": ")
+}
+
+// A field by its segment's name, and by its segment too where a message may have several of the name.
+fn field_said(out: &mut [u8], name: Name, field: usize, segment: usize) -> usize
+    requires { ⌜ 58 ≤ length (now out) ⌝ }
+    ensures { λ r. ⌜ Wrote r (now (out .exit)) (fieldText name field segment) (now (out .entry)) ⌝ }
+    ensures within { λ r. ⌜ r ≤ 58 ⌝ }
+{
+    let j = name_said(out, name);
+    let k = numbered_at(out, j, b"-", field, b"");
+    if comes_once(name) {
+        return writer::put_at(out, k, b": ");
+    }
+    numbered_at(out, k, b" of segment ", segment, b": ")
+}
+
+fn name_said(out: &mut [u8], name: Name) -> usize
+    requires { ⌜ 3 ≤ length (now out) ⌝ }
+    ensures { λ r. ⌜ Wrote r (now (out .exit)) (spelling name) (now (out .entry)) ⌝ }
+    ensures within { λ r. ⌜ r ≤ 3 ⌝ }
+{
+    match name {
+        Name::Msh => writer::put(out, &rules::MSH),
+        Name::Pid => writer::put(out, &rules::PID),
+        Name::Pv1 => writer::put(out, &rules::PV1),
+        Name::Spm => writer::put(out, &rules::SPM),
+        Name::Obr => writer::put(out, &rules::OBR),
+        Name::Orc => writer::put(out, &rules::ORC),
+        Name::Obx => writer::put(out, &rules::OBX),
+        Name::Other => 0,
+    }
+}
+
+// Whether a message has one segment of this name.
+fn comes_once(name: Name) -> bool
+    ensures { λ r. ⌜ r ≡ once name ⌝ }
+{
+    match name {
+        Name::Msh => true,
+        Name::Pid => true,
+        Name::Pv1 => true,
+        Name::Spm => false,
+        Name::Obr => false,
+        Name::Orc => false,
+        Name::Obx => false,
+        Name::Other => false,
+    }
 }

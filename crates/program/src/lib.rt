@@ -1,0 +1,178 @@
+// What a program does around its call: its input is read whole or not at all, its output is handed over whole or told as failed, and wrong arguments are answered by how it
+// is called. No contract can say what is read or written; what fails is told on standard error, with the system's reason.
+use fetch::Found;
+use rules::Name;
+use rules::Refusal;
+ghost use mathlib.Core.Path.{_≡_};
+ghost use lib.ListN.{length, take};
+ghost use Rattle.program.specs.Reading.{endingOf, Within};
+
+// ---- input
+// A whole input of so many bytes, at the start of the lent buffer; or none, and why is told already.
+pub enum Input {
+    Whole(usize),
+    Failed,
+}
+
+// Reads the file that the last argument names, or standard input where there is none. Before it stand `words` words, the program's own name among them.
+pub fn read_input(program: &[u8], usage: &[u8], words: usize, buf: &mut [u8]) -> Input
+    ensures { λ r. ⌜ Within (length (now (buf .exit))) r ⌝ }
+{
+    let given = os::arg_count();
+    if given == words {
+        return read_standard(program, buf);
+    }
+    if given < words {
+        return explain(usage);
+    }
+    if given - words != 1 {
+        return explain(usage);
+    }
+    let mut path = io::buffer();
+    let n = os::arg(words, &mut path);
+    if os::errno() != 0 {
+        return fail(program, b"FILE");
+    }
+    read_file(program, usage, &path[..n], buf)
+}
+
+fn read_standard(program: &[u8], buf: &mut [u8]) -> Input
+    ensures { λ r. ⌜ Within (length (now (buf .exit))) r ⌝ }
+{
+    if libc::isatty(0) == 1 {
+        io::write_all(2, program);
+        io::write_all(2, b": waiting for standard input\n");
+    }
+    read_from(program, b"standard input", 0, buf)
+}
+
+// A word that begins with - names no file: ./-x does.
+fn read_file(program: &[u8], usage: &[u8], path: &[u8], buf: &mut [u8]) -> Input
+    ensures { λ r. ⌜ Within (length (now (buf .exit))) r ⌝ }
+{
+    if is_option(path) {
+        return explain(usage);
+    }
+    let fd = os::open_read(path);
+    if fd < 0 {
+        return fail(program, path);
+    }
+    read_from(program, path, fd, buf)
+}
+
+fn is_option(word: &[u8]) -> bool {
+    if word.len() == 0 {
+        return false;
+    }
+    word[0] == b'-'
+}
+
+fn read_from(program: &[u8], file: &[u8], fd: i32, buf: &mut [u8]) -> Input
+    ensures { λ r. ⌜ Within (length (now (buf .exit))) r ⌝ }
+{
+    match read_all(fd, buf) {
+        Input::Whole(n) => Input::Whole(n),
+        Input::Failed => fail(program, file),
+    }
+}
+
+// Reads until the input ends or the buffer is full.
+fn read_all(fd: i32, buf: &mut [u8]) -> Input
+    ensures { λ r. ⌜ Within (length (now (buf .exit))) r ⌝ }
+{
+    let mut done = 0;
+    while done < buf.len() {
+        let answer = libc::read(fd, &mut buf[done..]);
+        let more = io::count(answer, &buf[done..]);
+        if more == 0 {
+            return ending(answer, done);
+        }
+        done += more;
+    }
+    Input::Whole(done)
+}
+
+// What a read that brought nothing says: its answer is 0 at the end of the input, -1 where it failed. A failure is never taken for the end.
+fn ending(answer: isize, done: usize) -> Input
+    ensures { λ r. ⌜ r ≡ endingOf answer done ⌝ }
+{
+    if answer < 0 {
+        return Input::Failed;
+    }
+    Input::Whole(done)
+}
+
+// The first n bytes of a buffer; all of it where it has fewer.
+pub fn front(buf: &[u8], n: usize) -> &[u8]
+    ensures { λ r. ⌜ now r ≡ take n (now (buf .entry)) ⌝ }
+{
+    if buf.len() < n {
+        return buf;
+    }
+    &buf[..n]
+}
+
+// ---- what fails, and how the program is called
+// The program, the file, and the reason of the call that failed last: a write that succeeds leaves errno as it is.
+fn fail(program: &[u8], file: &[u8]) -> Input
+    ensures { λ r. ⌜ r ≡ Input.Failed ⌝ }
+{
+    io::write_all(2, program);
+    io::write_all(2, b": ");
+    os::fail(file);
+    Input::Failed
+}
+
+pub fn explain(usage: &[u8]) -> Input
+    ensures { λ r. ⌜ r ≡ Input.Failed ⌝ }
+{
+    io::write_all(2, usage);
+    Input::Failed
+}
+
+// ---- output
+// Hands bytes, and what ends them, to standard output, and closes it: some file systems tell a full disk only then.
+pub fn output(program: &[u8], bytes: &[u8], end: &[u8]) {
+    if !io::write_all(1, bytes) {
+        fail(program, b"standard output");
+        return;
+    }
+    if !io::write_all(1, end) {
+        fail(program, b"standard output");
+        return;
+    }
+    if libc::close(1) < 0 {
+        fail(program, b"standard output");
+    }
+}
+
+// ---- a refusal: three lines on standard output, and a line in words on standard error
+pub fn refuse_message(program: &[u8], m: &[u8], refusal: Refusal) {
+    let mut lines = [0u8; 96];
+    let n = told::of_message(&mut lines, refusal);
+    output(program, &lines[..n], b"");
+    say_in_words(m, refusal, segment_name(m, refusal.segment));
+}
+
+pub fn refuse_sheet(program: &[u8], sheet: &[u8], refusal: Refusal) {
+    let mut lines = [0u8; 96];
+    let n = told::of_sheet(&mut lines, refusal);
+    output(program, &lines[..n], b"");
+    say_in_words(sheet, refusal, Name::Other);
+}
+
+fn say_in_words(text: &[u8], refusal: Refusal, name: Name) {
+    let kind = refusal.kind;
+    let spot = oul::spot_of(text, rules::paper_number(kind));
+    let mut line = [0u8; 192];
+    let n = told::in_words(&mut line, refusal, name, spot);
+    io::write_all(2, &line[..n]);
+}
+
+// The name of the known segment with this ordinal, `Other` where there is none.
+fn segment_name(m: &[u8], ordinal: usize) -> Name {
+    match oul::known_segment(m, ordinal) {
+        Found::At(segment) => segment.name,
+        Found::Nothing => Name::Other,
+    }
+}

@@ -1,0 +1,17 @@
+-- `told::spot_said` meets its contract. Assumes nothing.
+use Rattle.rules.specs.Lists.{bytes}
+use Rattle.told.proofs.Laws.{spot-is}
+use borrow.Author.Needs.{needs}
+use Rattle.told.proofs.spot_said.Statement.{statement}
+use Rattle.told.proofs.spot_said.Tie as tie
+
+returns : tie.Need-returns
+unfolding bytes
+returns c = (search (spot-is, needs), search needs)
+
+pub spot-said-spec : {M : Type 1} → statement M
+spot-said-spec =
+    tie.close
+    (tie.spec
+    (λ c. search needs) (λ c. search needs) (λ c κs. search needs) (λ c. search needs) (λ c. search needs) (λ c κs. search needs) (λ c. search needs)
+    returns)

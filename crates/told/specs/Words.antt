@@ -1,0 +1,137 @@
+-- A refusal in words: one line, the place as people say it and then the words. THE TABLE of the words.
+use mathlib.Core.Bool.{Bool, true, false, cond}
+use mathlib.Core.List.{List, [], _∷_, _++_}
+use Prim.Native.Nat.{ℕ}
+use Prim.Native.String.{String}
+use lib.Dec.{eqb}
+use Rattle.rules.specs.declared.Kind.{Kind}
+use Rattle.rules.specs.declared.Kind.the-variants.{TooLong, Header, Bytes, Segment, TooMany, Order, Missing, Null, Repeated, Escape, Long, Value, Status, Differs, NoOrdinal, Zero, SheetTooLong, SheetBytes, Key, Line, Overflow, Room}
+use Rattle.rules.specs.declared.Name.{Name}
+use Rattle.rules.specs.declared.Name.the-variants.{Msh, Pid, Pv1}
+use Rattle.rules.specs.declared.Refusal.{Refusal}
+use Rattle.rules.specs.Lists.{bytes, all, any}
+use Rattle.rules.specs.Frame.{spelling, is}
+use Rattle.rules.specs.Value.{Rule, time, date, number, text, digits, capitals, words}
+use Rattle.rules.specs.Places.{Place, Form, charset, names, value, Field, reads, closed, places}
+use Rattle.rules.specs.Message.{decimal}
+use Rattle.spot.specs.declared.Spot.{Spot}
+use Rattle.told.specs.declared.Where.{Where}
+use Rattle.told.specs.declared.Where.the-variants.{Nowhere, AtSpot, AtSegment, AtLine, AtField}
+use Rattle.told.specs.declared.Breach.{Breach}
+use Rattle.told.specs.declared.Breach.the-variants.{NoTime, NoDate, NoNumber, NoText, NoDigits, NoCapitals, NoWord, NoCode, NoCharset, NoName, NoValue, Unlisted}
+
+-- ---- the place that is told, and the words
+pub record Saying : Type 0 where
+  pub tells : Where
+  pub words : String
+
+infix 5 _says_
+abbrev pub _says_ : Where → String → Saying
+p says w = record { tells = p; words = w }
+
+-- ---- 25: the words, and which of them a field has, by the table of read places
+abbrev pub breachWords : Breach → String
+breachWords NoTime = "not a time that exists"
+breachWords NoDate = "not a date that exists"
+breachWords NoNumber = "not a number"
+breachWords NoText = "not a text"
+breachWords NoDigits = "not the digits that it takes"
+breachWords NoCapitals = "not capitals and digits"
+breachWords NoWord = "not one of its words"
+breachWords NoCode = "not the code and coding system that it takes"
+breachWords NoCharset = "not the repetition separator and ISO IR87"
+breachWords NoName = "not a name"
+breachWords NoValue = "not a value of its type"
+breachWords Unlisted = "breaks its rule"
+
+abbrev pub ruleBreach : Rule → Breach
+ruleBreach time = NoTime
+ruleBreach date = NoDate
+ruleBreach number = NoNumber
+ruleBreach (text n) = NoText
+ruleBreach (digits n) = NoDigits
+ruleBreach (capitals n) = NoCapitals
+ruleBreach (words ws) = NoWord
+
+abbrev pub formBreach : Form → Breach
+formBreach charset = NoCharset
+formBreach names = NoName
+formBreach value = NoValue
+
+-- one component has its rule's words; several have those of words if they are words alone, else they are a code and its coding system
+abbrev pub isWords : Rule → Bool
+isWords time = false
+isWords date = false
+isWords number = false
+isWords (text n) = false
+isWords (digits n) = false
+isWords (capitals n) = false
+isWords (words ws) = true
+
+unfoldable pub readBreach : List Place → Breach
+readBreach [] = Unlisted
+readBreach (p ∷ []) = ruleBreach (p .rule)
+readBreach (p ∷ q ∷ ps) = cond (all (λ (r : Place). isWords (r .rule)) (p ∷ q ∷ ps)) NoWord NoCode
+
+unfoldable pub breachIn : List Field → ℕ → Breach
+breachIn [] f = Unlisted
+breachIn (reads n ps ∷ fs) f = cond (eqb n f) (readBreach ps) (breachIn fs f)
+breachIn (closed n k ∷ fs) f = cond (eqb n f) (formBreach k) (breachIn fs f)
+
+unfoldable pub breachOf : Name → ℕ → Breach
+breachOf n f = breachIn (places n) f
+
+-- ---- the table
+-- for the segment's name and the field that the refusal names
+module _ (n : Name) (f : ℕ) where
+  unfoldable pub saying : Kind → Saying
+  saying TooLong = Nowhere says "the message has more than 32,768 bytes"
+  saying Header = Nowhere says "the first nine bytes are no header"
+  saying Bytes = AtSpot says "a byte that is not allowed here, or a shift that is broken off"
+  saying Segment = AtSpot says "no segment: a bad name, more than 4,096 bytes, or no 0D at its end"
+  saying TooMany = Nowhere says "the message has more than 512 segments"
+  saying Order = AtSegment says "out of order, or missing"
+  saying Missing = AtField says "required, but empty"
+  saying Null = AtField says "exactly \"\""
+  saying Repeated = AtField says "a repetition, where one value is read"
+  saying Escape = AtField says "a bare subcomponent separator, a bad escape, or a component too many"
+  saying Long = AtField says "too long"
+  saying Value = AtField says breachWords (breachOf n f)
+  saying Status = AtField says "the value does not fit the status"
+  saying Differs = AtField says "not the order number of the OBR before it"
+  saying NoOrdinal = Nowhere says "no known segment has this ordinal"
+  saying Zero = Nowhere says "fields and components are counted from 1"
+  saying SheetTooLong = Nowhere says "the sheet has more than 65,536 bytes"
+  saying SheetBytes = AtSpot says "a byte that is not allowed here, a shift that is broken off, or no 0A at the end"
+  saying Key = AtLine says "not the key that must stand here"
+  saying Line = AtLine says "the value breaks its rule"
+  saying Overflow = Nowhere says "the message would have more than 32,768 bytes or 512 segments"
+  saying Room = Nowhere says "the lent buffer is too short"
+
+-- ---- the place
+-- "MSH PID PV1, then one or more specimens": these a message has once
+unfoldable pub once : Name → Bool
+once n = any (is n) (Msh ∷ Pid ∷ Pv1 ∷ [])
+
+unfoldable pub ofSegment : Name → ℕ → List ℕ
+ofSegment n i = cond (once n) [] (bytes " of segment " ++ decimal i)
+
+unfoldable pub fieldText : Name → ℕ → ℕ → List ℕ
+fieldText n f i = spelling n ++ bytes "-" ++ decimal f ++ ofSegment n i ++ bytes ": "
+
+unfoldable pub spotText : Spot → List ℕ
+spotText p = bytes "line " ++ decimal (p .line) ++ bytes ", byte " ++ decimal (p .byte) ++ bytes ": "
+
+unfoldable pub placeText : Where → Refusal → Name → Spot → List ℕ
+placeText Nowhere r n p = []
+placeText AtSpot r n p = spotText p
+placeText AtSegment r n p = bytes "segment " ++ decimal (r .segment) ++ bytes ": "
+placeText AtLine r n p = bytes "line " ++ decimal (r .segment) ++ bytes ": "
+placeText AtField r n p = fieldText n (r .field) (r .segment)
+
+-- ---- the line, ended by 0A, for a refusal, the name of the segment that it names, and the spot
+unfoldable pub saidText : Where → List ℕ → Refusal → Name → Spot → List ℕ
+saidText t w r n p = placeText t r n p ++ w ++ (0x0A ∷ [])
+
+unfoldable pub wordsText : Refusal → Name → Spot → List ℕ
+wordsText r n p = let s = saying n (r .field) (r .kind) in saidText (s .tells) (bytes (s .words)) r n p
