@@ -2,7 +2,6 @@
 //! prints the ratios. Start it by `bench/run`.
 
 mod inputs;
-mod library;
 
 use oul_tests::{check, locate, to_message, to_sheet, MESSAGE_LIMIT, SHEET_LIMIT};
 use std::hint::black_box;
@@ -14,6 +13,8 @@ const TURN: Duration = Duration::from_millis(2);
 const RACE: Duration = Duration::from_millis(1500);
 const TURNS: usize = 5;
 
+/// Makes a message of so many bytes at most.
+type Input = fn(usize) -> Vec<u8>;
 /// The read places of a segment: field and component.
 type Places = &'static [(usize, usize)];
 
@@ -56,7 +57,7 @@ fn ratios() {
             "check",
             race(
                 || keep(check(black_box(m))),
-                || keep(library::check(black_box(m))),
+                || keep(oul::check(black_box(m))),
             ),
         );
         row(
@@ -69,9 +70,9 @@ fn ratios() {
                     }
                 },
                 || {
-                    keep(library::check(m));
+                    keep(oul::check(m));
                     for &(ordinal, field, component) in &places {
-                        keep(library::locate(m, ordinal, field, component));
+                        keep(oul::locate(m, ordinal, field, component));
                     }
                 },
             ),
@@ -80,14 +81,14 @@ fn ratios() {
             "message to sheet",
             race(
                 || keep(to_sheet(m, SHEET_LIMIT)),
-                || keep(library::to_sheet(m, &mut out)),
+                || keep(oul::to_sheet(m, &mut out)),
             ),
         );
         row(
             "sheet to message",
             race(
                 || keep(to_message(&sheet, MESSAGE_LIMIT)),
-                || keep(library::to_message(&sheet, &mut out[..MESSAGE_LIMIT])),
+                || keep(oul::to_message(&sheet, &mut out[..MESSAGE_LIMIT])),
             ),
         );
     }
@@ -98,23 +99,21 @@ fn growth() {
     println!();
     println!("| Input | Call | 4 KiB, µs | 8 KiB | 16 KiB | 32 KiB | growth at each doubling |");
     println!("|---|---|---|---|---|---|---|");
-    let inputs: [(&str, fn(usize) -> Vec<u8>); 2] = [
+    let inputs: [(&str, Input); 2] = [
         ("small segments", inputs::small_segments),
         ("kanji", inputs::kanji),
     ];
     for (name, input) in inputs {
         let messages = [4, 8, 16, 32].map(|kib| input(kib * 1024));
-        let times = messages
-            .each_ref()
-            .map(|m| alone(|| keep(library::check(m))));
+        let times = messages.each_ref().map(|m| alone(|| keep(oul::check(m))));
         grown(name, "check", times);
         let mut out = vec![0; SHEET_LIMIT];
         let times = messages
             .each_ref()
-            .map(|m| alone(|| keep(library::to_sheet(m, &mut out))));
+            .map(|m| alone(|| keep(oul::to_sheet(m, &mut out))));
         grown(name, "message to sheet", times);
         let sheets = messages.map(|m| to_sheet(&m, SHEET_LIMIT).expect("a good message"));
-        let times = sheets.map(|sheet| alone(|| keep(library::to_message(&sheet, &mut out))));
+        let times = sheets.map(|sheet| alone(|| keep(oul::to_message(&sheet, &mut out))));
         grown(name, "sheet to message", times);
     }
 }
@@ -140,18 +139,20 @@ fn places(m: &[u8]) -> Vec<(usize, usize, usize)> {
 /// Both sides answer alike, and accept. Gives the message's sheet.
 fn agree(m: &[u8], places: &[(usize, usize, usize)]) -> Vec<u8> {
     let counts = check(m).expect("a good message");
-    let counts = [counts.specimens, counts.orders, counts.results];
-    assert_eq!(library::check(m), Ok(counts));
+    let ours = oul::check(m).expect("a good message");
+    assert_eq!(
+        (ours.specimens, ours.orders, ours.results),
+        (counts.specimens, counts.orders, counts.results)
+    );
     for &(ordinal, field, component) in places {
         let part = locate(m, ordinal, field, component).expect("a place that is there");
-        let told = library::locate(m, ordinal, field, component);
-        assert_eq!(told, Ok([part.start, part.len(), 0]));
+        assert_eq!(oul::locate(m, ordinal, field, component), Ok(part));
     }
     let sheet = to_sheet(m, SHEET_LIMIT).expect("a good message");
     let mut out = vec![0; SHEET_LIMIT];
-    assert_eq!(library::to_sheet(m, &mut out), Ok([sheet.len(), 0, 0]));
+    assert_eq!(oul::to_sheet(m, &mut out), Ok(sheet.len()));
     assert_eq!(out[..sheet.len()], sheet);
-    assert_eq!(library::to_message(&sheet, &mut out), Ok([m.len(), 0, 0]));
+    assert_eq!(oul::to_message(&sheet, &mut out), Ok(m.len()));
     assert_eq!(out[..m.len()], *m);
     sheet
 }

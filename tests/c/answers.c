@@ -1,17 +1,21 @@
 /* answers: reads cases from standard input and writes the library's answers to standard output, by way of include/oul.h. tests/compare holds them against the
  * independent Rust program.
  *
- * A case is six numbers of eight bytes, the lowest byte first, and the input: the call (0 check, 1 locate, 2 to_sheet, 3 to_message), three numbers (locate: ordinal,
- * field, component; to_sheet, to_message: the room of the lent buffer, 0, 0), the salt of what the buffer holds before, and the length of the input.
- * An answer is four such numbers, what the call returned and told, and for to_sheet and to_message the lent buffer, with GUARD bytes behind it.
+ * A case is six numbers of eight bytes, the lowest byte first, and the input: the call (0 check, 1 locate, 2 to_sheet, 3 to_message, 4 segment, 5 spot), three numbers
+ * (locate: ordinal, field, component; to_sheet, to_message: the room of the lent buffer, 0, 0; segment: ordinal, 0, 0; spot: the refusal, 0, 0), the salt of what
+ * the buffer holds before, and the length of the input. An answer is four such numbers, what the call returned and told, and for to_sheet and to_message the lent
+ * buffer, with GUARD bytes behind it. Where there is no input or no room the call is given NULL.
  */
 #include "oul.h"
 
 #include <stdio.h>
 #include <string.h>
 
-enum { CHECK, LOCATE, TO_SHEET, TO_MESSAGE };
+enum { CHECK, LOCATE, TO_SHEET, TO_MESSAGE, SEGMENT, SPOT };
 enum { INPUT = 1 << 20, ROOM = 1 << 17, GUARD = 16 };
+
+/* what stands in told before a call: no call leaves it */
+static const size_t UNTOLD = (size_t)-1;
 
 static unsigned char input[INPUT];
 static unsigned char buffer[ROOM + GUARD];
@@ -33,23 +37,33 @@ static size_t lend(const struct ask *a) {
     return a->one + GUARD;
 }
 
+static int writes(const struct ask *a) {
+    return a->call == TO_SHEET || a->call == TO_MESSAGE;
+}
+
 static int answer(const struct ask *a) {
-    size_t said[4] = {0};
-    size_t lent = 0;
+    size_t said[4] = {UNTOLD, UNTOLD, UNTOLD, UNTOLD};
+    size_t lent = writes(a) ? lend(a) : 0;
+    const unsigned char *from = a->length ? input : NULL;
+    unsigned char *out = a->one ? buffer : NULL;
     switch (a->call) {
     case CHECK:
-        said[0] = oul_check(input, a->length, said + 1);
+        said[0] = oul_check(from, a->length, said + 1);
         break;
     case LOCATE:
-        said[0] = oul_locate(input, a->length, a->one, a->two, a->three, said + 1);
+        said[0] = oul_locate(from, a->length, a->one, a->two, a->three, said + 1);
         break;
     case TO_SHEET:
-        lent = lend(a);
-        said[0] = oul_to_sheet(input, a->length, buffer, a->one, said + 1);
+        said[0] = oul_to_sheet(from, a->length, out, a->one, said + 1);
         break;
     case TO_MESSAGE:
-        lent = lend(a);
-        said[0] = oul_to_message(input, a->length, buffer, a->one, said + 1);
+        said[0] = oul_to_message(from, a->length, out, a->one, said + 1);
+        break;
+    case SEGMENT:
+        said[0] = oul_segment(from, a->length, a->one, said + 1);
+        break;
+    case SPOT:
+        said[0] = oul_spot(from, a->length, a->one, said + 1);
         break;
     default:
         return 0;
@@ -61,7 +75,7 @@ int main(void) {
     struct ask a;
     prepare();
     while (fread(&a, sizeof a, 1, stdin) == 1) {
-        int good = a.length <= INPUT && a.salt <= 255 && (a.call < TO_SHEET || a.one <= ROOM);
+        int good = a.length <= INPUT && a.salt <= 255 && (!writes(&a) || a.one <= ROOM);
         if (!good || fread(input, 1, a.length, stdin) != a.length || !answer(&a)) {
             fprintf(stderr, "answers: no case\n");
             return 1;

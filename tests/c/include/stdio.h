@@ -12,6 +12,8 @@ extern FILE *stderr;
 size_t fread(void *to, size_t size, size_t count, FILE *file);
 size_t fwrite(const void *from, size_t size, size_t count, FILE *file);
 int fflush(FILE *file);
+int ferror(FILE *file);
+void perror(const char *words);
 int printf(const char *format, ...);
 int fprintf(FILE *file, const char *format, ...);
 

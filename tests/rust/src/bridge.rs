@@ -2,7 +2,7 @@
 //! cases and writes the answers that the library gives by its C face, both as bytes.
 
 use crate::cases::{Call, Case};
-use crate::{check, locate, to_message, to_sheet, Refusal};
+use crate::{check, locate, segment, spot, to_message, to_sheet, Refusal};
 use std::fmt;
 use std::io::{self, Read, Write};
 
@@ -37,6 +37,12 @@ impl Said {
             ),
             Call::ToSheet { room } => Self::written(to_sheet(input, room), room, salt),
             Call::ToMessage { room } => Self::written(to_message(input, room), room, salt),
+            Call::Segment { ordinal } => Self::numbers(
+                segment(input, ordinal).map(|stretch| [stretch.start, stretch.len(), 0]),
+            ),
+            Call::Spot { refusal } => Self::numbers(Ok(
+                spot(input, refusal).map_or([0; 3], |spot| [spot.line, spot.byte, 0])
+            )),
         }
     }
 
@@ -107,6 +113,8 @@ pub fn ask(case: &Case, salt: u8, to: &mut impl Write) -> io::Result<()> {
         } => [1, ordinal, field, component],
         Call::ToSheet { room } => [2, room, 0, 0],
         Call::ToMessage { room } => [3, room, 0, 0],
+        Call::Segment { ordinal } => [4, ordinal, 0, 0],
+        Call::Spot { refusal } => [5, refusal, 0, 0],
     };
     for number in [call, one, two, three, salt.into(), case.input.len()] {
         to.write_all(&(number as u64).to_le_bytes())?;

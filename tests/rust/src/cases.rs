@@ -1,15 +1,19 @@
 //! Cases: a call with its input, and the answer to it, one case a line.
 //!
-//! A line holds, separated by tabs, the call (`check`, `fetch`, `to_sheet`, `to_message`), the
-//! input in hex, further arguments (fetch: ordinal, field, component; to_sheet and to_message:
-//! the room of the lent buffer) and the answer:
+//! A line holds, separated by tabs, the call (`check`, `fetch`, `to_sheet`, `to_message`,
+//! `segment`, `spot`), the input in hex, further arguments (fetch: ordinal, field, component;
+//! to_sheet and to_message: the room of the lent buffer; segment: ordinal; spot: the refusal's
+//! number) and the answer:
 //!
 //! * `ok SPM OBR OBX` from check,
+//! * `ok START LENGTH` from segment,
+//! * `ok LINE BYTE` from spot, `ok 0 0` where there is no place,
 //! * `ok HEX` from the others, or `ok` alone where the stretch is empty,
-//! * `refused NUMBER SEGMENT-OR-LINE FIELD` from any of them.
+//! * `refused NUMBER SEGMENT-OR-LINE FIELD` from any of them but spot.
 
-use crate::{check, locate, to_message, to_sheet, Counts, Refusal};
+use crate::{check, locate, segment, spot, to_message, to_sheet, Counts, Refusal, Spot};
 use std::fmt;
+use std::ops::Range;
 
 #[derive(Clone, Copy, Debug, PartialEq, Eq)]
 pub enum Call {
@@ -25,6 +29,12 @@ pub enum Call {
     ToMessage {
         room: usize,
     },
+    Segment {
+        ordinal: usize,
+    },
+    Spot {
+        refusal: usize,
+    },
 }
 
 #[derive(Clone, Debug, PartialEq, Eq)]
@@ -37,6 +47,8 @@ pub struct Case {
 pub enum Answer {
     Counts(Counts),
     Bytes(Vec<u8>),
+    Stretch(Range<usize>),
+    Spot(Option<Spot>),
     Refused(Refusal),
 }
 
@@ -54,6 +66,8 @@ impl Case {
                 .map(|stretch| Answer::Bytes(input[stretch].to_vec())),
             Call::ToSheet { room } => to_sheet(input, room).map(Answer::Bytes),
             Call::ToMessage { room } => to_message(input, room).map(Answer::Bytes),
+            Call::Segment { ordinal } => segment(input, ordinal).map(Answer::Stretch),
+            Call::Spot { refusal } => Ok(Answer::Spot(spot(input, refusal))),
         };
         answer.unwrap_or_else(Answer::Refused)
     }
@@ -78,6 +92,14 @@ impl Case {
             ["to_message", input, room, answer] => {
                 let room = parse_count(room)?;
                 (Call::ToMessage { room }, input, answer)
+            }
+            ["segment", input, ordinal, answer] => {
+                let ordinal = parse_count(ordinal)?;
+                (Call::Segment { ordinal }, input, answer)
+            }
+            ["spot", input, refusal, answer] => {
+                let refusal = parse_count(refusal)?;
+                (Call::Spot { refusal }, input, answer)
             }
             _ => return Err(format!("no case: {} columns", columns.len())),
         };
@@ -113,6 +135,8 @@ impl fmt::Display for Case {
             } => write!(out, "fetch\t{input}\t{ordinal}\t{field}\t{component}"),
             Call::ToSheet { room } => write!(out, "to_sheet\t{input}\t{room}"),
             Call::ToMessage { room } => write!(out, "to_message\t{input}\t{room}"),
+            Call::Segment { ordinal } => write!(out, "segment\t{input}\t{ordinal}"),
+            Call::Spot { refusal } => write!(out, "spot\t{input}\t{refusal}"),
         }
     }
 }
@@ -127,6 +151,9 @@ impl fmt::Display for Answer {
             ),
             Self::Bytes(bytes) if bytes.is_empty() => out.write_str("ok"),
             Self::Bytes(bytes) => write!(out, "ok {}", Hex(bytes)),
+            Self::Stretch(stretch) => write!(out, "ok {} {}", stretch.start, stretch.len()),
+            Self::Spot(Some(spot)) => write!(out, "ok {} {}", spot.line, spot.byte),
+            Self::Spot(None) => out.write_str("ok 0 0"),
             Self::Refused(refusal) => refusal.fmt(out),
         }
     }
@@ -152,6 +179,10 @@ mod tests {
             "fetch\t4d53\t1\t2\t3\trefused 11 0 0",
             "to_sheet\t0d\t65536\trefused 11 0 0",
             "to_message\t\t0\trefused 42 1 0",
+            "segment\t0d50494441420d\t1\tok 1 5",
+            "segment\t504944\t1\trefused 30 0 0",
+            "spot\t610d80\t12\tok 2 3",
+            "spot\t610d80\t20\tok 0 0",
         ] {
             let (case, answer) = Case::parse(line).unwrap();
             assert_eq!(case.answer().to_string(), answer);

@@ -2,12 +2,15 @@
 //! of HL7 v2.5, and the sheet that says the same line by line.
 //!
 //! It is written from the paper alone and shares no code with the proved library, so that each
-//! can be held against the other. Four calls cover the work:
+//! can be held against the other. The paper has no word on [`spot`]: that is written from its
+//! declaration in `include/oul.h`. Six calls cover the work:
 //!
 //! * [`check`] counts a message's specimens, orders and results, or refuses it;
 //! * [`locate`] finds a part of an accepted message;
 //! * [`to_sheet`] writes an accepted message as a sheet;
-//! * [`to_message`] writes an accepted sheet as a message.
+//! * [`to_message`] writes an accepted sheet as a message;
+//! * [`segment`] finds a known segment, and [`spot`] the place of a refusal that names none, both
+//!   in any bytes.
 //!
 //! Message and sheet meet in [`report`]: each has a reader that judges and tells entries of the
 //! report one by one, and a writer that takes them.
@@ -29,6 +32,7 @@ mod segments;
 mod sheet_reader;
 mod sheet_writer;
 pub mod shift;
+mod spot;
 
 use message_reader::Message;
 use message_writer::MessageWriter;
@@ -38,6 +42,7 @@ use std::ops::Range;
 
 pub use refusal::Refusal;
 pub use report::Counts;
+pub use spot::{spot, Spot};
 
 /// The most bytes of a message.
 pub const MESSAGE_LIMIT: usize = 32_768;
@@ -87,6 +92,12 @@ pub fn to_message(sheet: &[u8], room: usize) -> Result<Vec<u8>, Refusal> {
     let mut writer = MessageWriter::default();
     sheet_reader::read_sheet(sheet, |entry| writer.write(entry))?;
     within_room(writer.into_message()?, room)
+}
+
+/// Finds the known segment with this ordinal in any bytes, without its 0D; refusal 30 where there
+/// is none. What follows the last 0D is no segment.
+pub fn segment(m: &[u8], ordinal: usize) -> Result<Range<usize>, Refusal> {
+    segments::known_segment(m, ordinal).ok_or(Refusal::of_whole(number::NO_SUCH_ORDINAL))
 }
 
 /// Refusal 45 is given last.

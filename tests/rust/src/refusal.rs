@@ -1,4 +1,4 @@
-//! The refusal that each of the four calls gives in place of an answer.
+//! The refusal that a call gives in place of an answer.
 
 use std::fmt;
 

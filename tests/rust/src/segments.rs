@@ -27,7 +27,7 @@ pub enum SegmentName {
 
 impl SegmentName {
     fn of(segment: &[u8]) -> Option<Self> {
-        match &segment[..NAME_LENGTH] {
+        match segment.get(..NAME_LENGTH)? {
             b"MSH" => Some(Self::Msh),
             b"PID" => Some(Self::Pid),
             b"PV1" => Some(Self::Pv1),
@@ -95,6 +95,13 @@ pub fn known_segments(m: &[u8]) -> impl Iterator<Item = KnownSegment> + '_ {
     })
 }
 
+/// Where the known segment with this ordinal lies in any bytes, without its 0D.
+pub fn known_segment(m: &[u8], ordinal: usize) -> Option<Range<usize>> {
+    segments(m)
+        .filter(|segment| SegmentName::of(&m[segment.clone()]).is_some())
+        .nth(ordinal.checked_sub(1)?)
+}
+
 /// Where the segments lie, each without its 0D.
 ///
 /// Two-byte mode never holds 0D, so it is found raw once the byte and shift rule holds.
@@ -118,7 +125,7 @@ pub fn judge_segments(m: &[u8], field_separator: u8) -> Result<(), Refusal> {
     let mut order = OrderOfSegments::default();
     for segment in segments(m) {
         let segment = &m[segment];
-        if segment.len() > SEGMENT_LIMIT || !has_good_name(segment, field_separator) {
+        if !has_good_form(segment, field_separator) {
             return Err(bad_form);
         }
         count += 1;
@@ -130,6 +137,24 @@ pub fn judge_segments(m: &[u8], field_separator: u8) -> Result<(), Refusal> {
         return Err(Refusal::of_whole(number::TOO_MANY_SEGMENTS));
     }
     order.verdict()
+}
+
+/// Where the first segment of bad form starts in any bytes; where each is good, the rest behind
+/// the last 0D.
+pub fn start_of_bad_segment(m: &[u8]) -> usize {
+    let field_separator = m.get(NAME_LENGTH).copied().unwrap_or(0);
+    let mut start = 0;
+    for segment in segments(m) {
+        if !has_good_form(&m[segment.clone()], field_separator) {
+            break;
+        }
+        start = segment.end + 1;
+    }
+    start
+}
+
+fn has_good_form(segment: &[u8], field_separator: u8) -> bool {
+    segment.len() <= SEGMENT_LIMIT && has_good_name(segment, field_separator)
 }
 
 /// A name is a capital and two capitals or digits, followed by the field separator or the end.

@@ -23,6 +23,46 @@ pub fn keeps_shift_rule(bytes: &[u8], line_end: u8) -> bool {
     true
 }
 
+/// How many bytes stand before the first one that breaks the byte and shift rule, whatever
+/// follows it; all of them where the rule is broken off at the end, or kept.
+pub fn kept_bytes(bytes: &[u8], line_end: u8) -> usize {
+    let mut at = 0;
+    loop {
+        at += leading(&bytes[at..], |byte| {
+            matches!(byte, 0x20..=0x7E) || byte == line_end
+        });
+        let entered = in_common(&bytes[at..], &TO_TWO_BYTE);
+        at += entered;
+        if entered < TO_TWO_BYTE.len() {
+            return at;
+        }
+        let pairs = leading(&bytes[at..], |byte| matches!(byte, 0x21..=0x7E));
+        at += pairs;
+        if pairs % 2 == 1 {
+            return at;
+        }
+        let returned = in_common(&bytes[at..], &TO_ONE_BYTE);
+        at += returned;
+        if returned < TO_ONE_BYTE.len() {
+            return at;
+        }
+    }
+}
+
+/// How many bytes at the start are `wanted`.
+fn leading(bytes: &[u8], wanted: impl Fn(u8) -> bool) -> usize {
+    bytes.iter().take_while(|&&byte| wanted(byte)).count()
+}
+
+/// How many bytes at the start are those of the sequence.
+fn in_common(bytes: &[u8], sequence: &[u8]) -> usize {
+    bytes
+        .iter()
+        .zip(sequence)
+        .take_while(|(one, other)| one == other)
+        .count()
+}
+
 /// Walks the pairs of two-byte mode; gives what follows the return to one-byte mode.
 fn after_pairs(mut rest: &[u8]) -> Option<&[u8]> {
     loop {
@@ -91,6 +131,34 @@ mod tests {
             assert!(!keeps(bad.as_bytes()), "{bad:?}");
         }
         assert!(!keeps(&[0x80]) && !keeps(&[0xFF]));
+    }
+
+    /// What is left of a shift that is broken off, from each place in it.
+    const REMAINDERS: [&[u8]; 7] = [
+        b"",
+        b"$B\x1B(B",
+        b"B\x1B(B",
+        b"\x1B(B",
+        b"!\x1B(B",
+        b"(B",
+        b"B",
+    ];
+
+    /// Every text of up to six of the bytes that the rule tells apart.
+    #[test]
+    fn the_kept_bytes_can_be_gone_on_with_and_one_more_cannot() {
+        const TOLD_APART: [u8; 7] = [0x1B, 0x24, 0x28, 0x42, b'\r', b' ', 0x80];
+        let may_go_on = |start: &[u8]| REMAINDERS.iter().any(|end| keeps(&[start, end].concat()));
+        for length in 0..=6 {
+            for number in 0..TOLD_APART.len().pow(length) {
+                let bytes: Vec<u8> = (0..length)
+                    .map(|n| TOLD_APART[number / TOLD_APART.len().pow(n) % TOLD_APART.len()])
+                    .collect();
+                let kept = kept_bytes(&bytes, b'\r');
+                assert!(may_go_on(&bytes[..kept]), "{bytes:?}");
+                assert!(kept == bytes.len() || !may_go_on(&bytes[..kept + 1]));
+            }
+        }
     }
 
     #[test]

@@ -6,12 +6,13 @@ use oul_tests::parts;
 use oul_tests::refusal::number;
 use oul_tests::shift::{SHIFT, TO_TWO_BYTE};
 use oul_tests::{
-    check, generate, locate, to_message, to_sheet, Refusal, MESSAGE_LIMIT, SHEET_LIMIT,
+    check, generate, locate, segment, spot, to_message, to_sheet, Refusal, MESSAGE_LIMIT,
+    SHEET_LIMIT,
 };
 use std::collections::{BTreeMap, BTreeSet};
 
 /// So many cases meet every refusal number and every limit.
-const RUN: usize = 6_000;
+const RUN: usize = 9_000;
 
 fn run(seed: u64) -> impl Iterator<Item = Case> {
     generate::cases(seed).take(RUN)
@@ -19,7 +20,12 @@ fn run(seed: u64) -> impl Iterator<Item = Case> {
 
 fn messages(seed: u64) -> impl Iterator<Item = Vec<u8>> {
     run(seed)
-        .filter(|case| !matches!(case.call, Call::ToMessage { .. }))
+        .filter(|case| {
+            matches!(
+                case.call,
+                Call::Check | Call::Fetch { .. } | Call::ToSheet { .. }
+            )
+        })
         .map(|case| case.input)
 }
 
@@ -108,7 +114,7 @@ fn the_room_decides_last_and_by_the_byte() {
         let call = match case.call {
             Call::ToSheet { .. } => to_sheet,
             Call::ToMessage { .. } => to_message,
-            Call::Check | Call::Fetch { .. } => continue,
+            _ => continue,
         };
         match call(&case.input, usize::MAX) {
             Ok(output) => {
@@ -198,7 +204,7 @@ fn every_refusal_number_occurs_in_a_run() {
         let met: BTreeSet<u8> = run(seed)
             .filter_map(|case| match case.answer() {
                 Answer::Refused(refusal) => Some(refusal.number),
-                Answer::Counts(_) | Answer::Bytes(_) => None,
+                _ => None,
             })
             .collect();
         assert!(met.iter().eq(&number::ALL), "seed {seed}: {met:?}");
@@ -207,17 +213,84 @@ fn every_refusal_number_occurs_in_a_run() {
 
 #[test]
 fn every_call_is_accepted_in_a_run() {
-    let mut accepted = [0; 4];
+    let mut accepted = [0; 6];
     for case in run(9) {
         let call = match case.call {
             Call::Check => 0,
             Call::Fetch { .. } => 1,
             Call::ToSheet { .. } => 2,
             Call::ToMessage { .. } => 3,
+            Call::Segment { .. } => 4,
+            Call::Spot { .. } => 5,
         };
         accepted[call] += usize::from(!matches!(case.answer(), Answer::Refused(_)));
     }
     assert!(accepted.iter().all(|&count| count > 200), "{accepted:?}");
+}
+
+#[test]
+fn segments_are_found_in_refused_and_in_accepted_messages_of_a_run() {
+    let mut met = BTreeSet::new();
+    for case in run(18) {
+        if let Call::Segment { ordinal } = case.call {
+            let found = segment(&case.input, ordinal).is_ok();
+            met.insert((check(&case.input).is_ok(), found));
+        }
+    }
+    assert_eq!(met.len(), 4, "{met:?}");
+}
+
+#[test]
+fn every_kind_of_place_is_told_in_a_run() {
+    let mut met = BTreeSet::new();
+    for case in run(19) {
+        if let Call::Spot { refusal } = case.call {
+            met.insert((refusal, kind_of_place(&case.input, refusal)));
+        }
+    }
+    let of_bytes = [
+        "too long",
+        "the end",
+        "a shift byte",
+        "a plain byte",
+        "a line end",
+        "another byte",
+    ];
+    let of_segments = ["too long", "the end", "a rest", "a bad name", "a long one"];
+    for kind in of_bytes {
+        assert!(met.contains(&(12, kind)), "12: {kind}");
+        assert!(met.contains(&(41, kind)), "41: {kind}");
+    }
+    for kind in of_segments {
+        assert!(met.contains(&(13, kind)), "13: {kind}");
+    }
+    for refusal in number::ALL.map(usize::from).into_iter().chain([0, 268]) {
+        let named_elsewhere = ![12, 13, 41].contains(&refusal);
+        assert_eq!(met.contains(&(refusal, "no place")), named_elsewhere);
+    }
+}
+
+/// What stands where the rule of a refusal is broken.
+fn kind_of_place(text: &[u8], refusal: usize) -> &'static str {
+    let Some(spot) = spot(text, refusal) else {
+        return match text.len() {
+            0..=SHEET_LIMIT => "no place",
+            _ => "too long",
+        };
+    };
+    let rest = &text[spot.byte - 1..];
+    match (rest, refusal) {
+        ([], _) => "the end",
+        (_, 13) => match rest.iter().position(|&byte| byte == b'\r') {
+            None => "a rest",
+            Some(0..=4_096) => "a bad name",
+            Some(_) => "a long one",
+        },
+        ([SHIFT, ..], _) => "a shift byte",
+        ([0x20..=0x7E, ..], _) => "a plain byte",
+        ([b'\r' | b'\n', ..], _) => "a line end",
+        _ => "another byte",
+    }
 }
 
 #[test]
@@ -342,10 +415,12 @@ fn every_delimiter_serves_for_every_purpose_in_a_run() {
     assert_eq!(met.len(), 5 * ADMITTED.len(), "{met:?}");
 }
 
+type ReadFields = &'static [(usize, &'static [usize])];
+
 /// The known segments' fields that the profile reads, with the components read; none for a
 /// closed field, where nothing is unread.
 #[rustfmt::skip]
-const READ: &[(&str, &[(usize, &[usize])])] = &[
+const READ: &[(&str, ReadFields)] = &[
     ("MSH", &[(1, &[]), (2, &[]), (7, &[1]), (9, &[1, 2, 3]), (10, &[1]), (11, &[1]), (12, &[1]), (18, &[])]),
     ("PID", &[(3, &[1]), (5, &[]), (7, &[1]), (8, &[1])]),
     ("PV1", &[(2, &[1])]),

@@ -129,6 +129,8 @@ fn name(case: &Case) -> &'static str {
         Call::Fetch { .. } => "locate",
         Call::ToSheet { .. } => "to_sheet",
         Call::ToMessage { .. } => "to_message",
+        Call::Segment { .. } => "segment",
+        Call::Spot { .. } => "spot",
     }
 }
 

@@ -31,7 +31,7 @@ fn print_cases(seed: u64, count: u64) -> io::Result<()> {
         writeln!(out, "{case}\t{answer}")?;
         match answer {
             Answer::Refused(refusal) => refused[usize::from(refusal.number)] += 1,
-            Answer::Counts(_) | Answer::Bytes(_) => accepted += 1,
+            _ => accepted += 1,
         }
     }
     out.flush()?;

@@ -1,4 +1,4 @@
-//! `vectors CASES.TSV OUTSIDE` runs every listed case: those of a case list, and the check of
+//! `vectors LIST.TSV.. OUTSIDE` runs every listed case: those of the case lists, and the check of
 //! every message in a folder whose `index.tsv` names the files and their answers.
 //!
 //! Prints each difference, then how many cases passed and failed. The exit status is 1 if any
@@ -11,12 +11,14 @@ use std::process::ExitCode;
 
 fn main() -> ExitCode {
     let arguments: Vec<String> = std::env::args().skip(1).collect();
-    let [cases, outside] = &arguments[..] else {
-        eprintln!("usage: vectors CASES.TSV OUTSIDE-FOLDER");
+    let [lists @ .., outside] = &arguments[..] else {
+        eprintln!("usage: vectors LIST.TSV.. OUTSIDE-FOLDER");
         return ExitCode::from(2);
     };
     let mut tally = Tally::default();
-    let run = run_cases(Path::new(cases), &mut tally)
+    let run = lists
+        .iter()
+        .try_for_each(|list| run_cases(Path::new(list), &mut tally))
         .and_then(|()| run_outside(Path::new(outside), &mut tally));
     if let Err(trouble) = run {
         eprintln!("{trouble}");

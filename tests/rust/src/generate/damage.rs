@@ -5,7 +5,7 @@ use super::words;
 
 /// Bytes that mean something somewhere.
 #[rustfmt::skip]
-const MEANINGFUL: &[&[u8]] = &[
+pub const MEANINGFUL: &[&[u8]] = &[
     b"|", b"^", b"~", b"\\", b"&", b"=", b"\r", b"\n", b"\r\r", b"\n\n", b"\x1B", b"\x1B$B",
     b"\x1B(B", b"\x1B$B\x1B(B", b"\"\"", b"\\F\\", b"\\Q\\", b" ", b"\x7F", b"\x00", b"\x80",
     b"\x1B$BF|\x1B(B", b"\x1B$BF\x1B(B", b"\x1B$B",
