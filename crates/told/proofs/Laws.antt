@@ -15,6 +15,9 @@ use Rattle.rules.specs.Told.{number}
 use Rattle.rules.specs.Lists.{bytes}
 use Rattle.rules.specs.Frame.{spelling}
 use Rattle.rules.specs.Message.{decimal}
+use Rattle.scan.specs.Scan.{until, is}
+use Rattle.scan.proofs.Laws.{take-until}
+use lib.Seq.{length-take-le}
 use Rattle.rules.proofs.Measures.{tens, decimal-few}
 use Rattle.writer.specs.Over.{Wrote, Put}
 use Rattle.writer.proofs.Laws.{then, front-within, front-is}
@@ -23,7 +26,7 @@ use Rattle.told.specs.declared.Where.{Where}
 use Rattle.told.specs.declared.Breach.{Breach}
 use Rattle.told.specs.declared.Breach.the-variants.{Unlisted}
 use Rattle.told.specs.Told.{lineText, refusalText, countsText}
-use Rattle.told.specs.Words.{Saying, saying, breachOf, breachWords, once, ofSegment, fieldText, spotText, placeText, saidText, wordsText}
+use Rattle.told.specs.Words.{saying, breachWords, breachOf, wordsOf, once, ofSegment, fieldText, spotText, placeText, wordsText}
 
 -- ---- a number of 64 bits
 pub number-short : (n : ℕ) → n < 18446744073709551616 → length (decimal n) ≤ 20
@@ -91,9 +94,38 @@ module _ (t u : Where) (f : Refusal) (n : Name) (p : Spot) (r : ℕ) (x old : Li
   place-is e w = rw e w
 
 -- ---- the words
-pub said-is : (t : Where) (w : List ℕ) (f : Refusal) (n : Name) (p : Spot) (old x y z : List ℕ) (k m r : ℕ) → Wrote k x (placeText t f n p) old → Put k x w m y → Put m y (0x0A ∷ []) r z → Wrote r z (saidText t w f n p) old
-unfolding saidText
-said-is t w f n p old x y z k m r a b c = then (then a b) c
+module _ (f : Refusal) (n : Name) (p : Spot) (old x y z : List ℕ) (k m r : ℕ) (t : Where) (b : Breach) (e : t ≡ saying (f .kind) .tells) (h : b ≡ breachOf n (f .field))
+    (u : Wrote k x (placeText t f n p) old) (q : List ℕ) (g : until (is 0x7C) q ≡ bytes (wordsOf (f .kind) b)) (v : Put k x (until (is 0x7C) q) m y) (w : Put m y (0x0A ∷ []) r z) where
+  pub words-are : Wrote r z (wordsText f n p) old
+  unfolding wordsText
+  words-are = rw (sym e, sym h, sym g) (then (then u v) w)
+
+  pub words-within : r ≤ length z
+  words-within = front-within r z (wordsText f n p) old words-are
+
+  pub words-front : r ≡ length (take r z)
+  words-front = front-is r z (wordsText f n p) old words-are
+
+pub place-told : (k j : Kind) (t : Where) → k ≡ j → t ≡ saying j .tells → t ≡ saying k .tells
+place-told k j t e h = rw e h
+
+module _ (s : List ℕ) where
+  pub kind-words : (k j : Kind) (b : Breach) → k ≡ j → until (is 0x7C) s ≡ bytes (wordsOf j b) → until (is 0x7C) s ≡ bytes (wordsOf k b)
+  kind-words k j b e h = rw e h
+
+  pub breach-words : (b c : Breach) → b ≡ c → until (is 0x7C) s ≡ bytes (breachWords c) → until (is 0x7C) s ≡ bytes (breachWords b)
+  breach-words b c e h = rw e h
+
+-- they are written up to the bar
+module _ (at n r : ℕ) (s x y : List ℕ) (e : n ≡ length (until (is 0x7C) s)) where
+  pub said-is : Put at x (take n s) r y → Put at x (until (is 0x7C) s) r y
+  said-is p = rw (sym (take-until (is 0x7C) s), sym e) p
+
+  pub said-short : n ≤ length s → length s ≤ 82 → Put at x (take n s) r y → r ≤ at + 82
+  said-short h l p = omega (arith, p .ends, length-take-le n s h)
+
+  pub said-room : n ≤ length s → length s ≤ 82 → at + 82 ≤ length x → at + length (take n s) ≤ length x
+  said-room h l w = omega (arith, length-take-le n s h)
 
 -- what 25 says: the field is an entry of its segment's table, or none of them
 module _ (n j : Name) (f : ℕ) (e : n ≡ j) where
@@ -109,15 +141,3 @@ breach-past f k x y z h e = rw (ne-eqb k f (λ g. h (sym g))) e
 pub breach-past-three : (f i j k : ℕ) (x y w v z : Breach) → (f ≡ i → ⊥) → (f ≡ j → ⊥) → (f ≡ k → ⊥) → z ≡ v → z ≡ cond (eqb i f) x (cond (eqb j f) y (cond (eqb k f) w v))
 breach-past-three f i j k x y w v z hi hj hk e =
     breach-past f i x (cond (eqb j f) y (cond (eqb k f) w v)) z hi (breach-past f j y (cond (eqb k f) w v) z hj (breach-past f k w v z hk e))
-
--- which words: by the breach, by the kind
-module _ (f : Refusal) (n : Name) (p : Spot) (r : ℕ) (x old : List ℕ) where
-  pub breach-is : (b j : Breach) → b ≡ breachOf n (f .field) → b ≡ j → Wrote r x (saidText Where.AtField (bytes (breachWords j)) f n p) old → Wrote r x (saidText Where.AtField (bytes (breachWords (breachOf n (f .field)))) f n p) old
-  breach-is b j e h w = rw (sym e, h) w
-
-  said-as : (s t : Saying) → s ≡ t → Wrote r x (saidText (t .tells) (bytes (t .words)) f n p) old → Wrote r x (saidText (s .tells) (bytes (s .words)) f n p) old
-  said-as s t e w = rw e w
-
-  pub words-are : (k : Kind) → f .kind ≡ k → Wrote r x (saidText (saying n (f .field) k .tells) (bytes (saying n (f .field) k .words)) f n p) old → Wrote r x (wordsText f n p) old
-  unfolding wordsText
-  words-are k e w = said-as (saying n (f .field) (f .kind)) (saying n (f .field) k) (ap (saying n (f .field)) e) w

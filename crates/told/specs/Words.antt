@@ -9,6 +9,7 @@ use Rattle.rules.specs.declared.Kind.the-variants.{TooLong, Header, Bytes, Segm
 use Rattle.rules.specs.declared.Name.{Name}
 use Rattle.rules.specs.declared.Name.the-variants.{Msh, Pid, Pv1}
 use Rattle.rules.specs.declared.Refusal.{Refusal}
+use Rattle.rules.specs.Told as Told
 use Rattle.rules.specs.Lists.{bytes, all, any}
 use Rattle.rules.specs.Frame.{spelling, is}
 use Rattle.rules.specs.Value.{Rule, time, date, number, text, digits, capitals, words}
@@ -20,7 +21,7 @@ use Rattle.told.specs.declared.Where.the-variants.{Nowhere, AtSpot, AtSe
 use Rattle.told.specs.declared.Breach.{Breach}
 use Rattle.told.specs.declared.Breach.the-variants.{NoTime, NoDate, NoNumber, NoText, NoDigits, NoCapitals, NoWord, NoCode, NoCharset, NoName, NoValue, Unlisted}
 
--- ---- the place that is told, and the words
+-- ---- the table: the place that is told, and the words
 pub record Saying : Type 0 where
   pub tells : Where
   pub words : String
@@ -29,8 +30,32 @@ infix 5 _says_
 abbrev pub _says_ : Where → String → Saying
 p says w = record { tells = p; words = w }
 
--- ---- 25: the words, and which of them a field has, by the table of read places
-abbrev pub breachWords : Breach → String
+unfoldable pub saying : Kind → Saying
+saying TooLong = Nowhere says "the message has more than 32,768 bytes"
+saying Header = Nowhere says "the first nine bytes are no header"
+saying Bytes = AtSpot says "a byte that is not allowed here, or a shift that is broken off"
+saying Segment = AtSpot says "no segment: a bad name, more than 4,096 bytes, or no 0D at its end"
+saying TooMany = Nowhere says "the message has more than 512 segments"
+saying Order = AtSegment says "out of order, or missing"
+saying Missing = AtField says "required, but empty"
+saying Null = AtField says "exactly \"\""
+saying Repeated = AtField says "a repetition, where one value is read"
+saying Escape = AtField says "a bare subcomponent separator, a bad escape, or a component too many"
+saying Long = AtField says "too long"
+saying Value = AtField says "breaks its rule"
+saying Status = AtField says "the value does not fit the status"
+saying Differs = AtField says "not the order number of the OBR before it"
+saying NoOrdinal = Nowhere says "no known segment has this ordinal"
+saying Zero = Nowhere says "fields and components are counted from 1"
+saying SheetTooLong = Nowhere says "the sheet has more than 65,536 bytes"
+saying SheetBytes = AtSpot says "a byte that is not allowed here, a shift that is broken off, or no 0A at the end"
+saying Key = AtLine says "not the key that must stand here"
+saying Line = AtLine says "the value breaks its rule"
+saying Overflow = Nowhere says "the message would have more than 32,768 bytes or 512 segments"
+saying Room = Nowhere says "the lent buffer is too short"
+
+-- ---- 25 says more of a field that the table of read places lists
+unfoldable pub breachWords : Breach → String
 breachWords NoTime = "not a time that exists"
 breachWords NoDate = "not a date that exists"
 breachWords NoNumber = "not a number"
@@ -42,7 +67,7 @@ breachWords NoCode = "not the code and coding system that it takes"
 breachWords NoCharset = "not the repetition separator and ISO IR87"
 breachWords NoName = "not a name"
 breachWords NoValue = "not a value of its type"
-breachWords Unlisted = "breaks its rule"
+breachWords Unlisted = saying Value .words
 
 abbrev pub ruleBreach : Rule → Breach
 ruleBreach time = NoTime
@@ -81,32 +106,9 @@ breachIn (closed n k ∷ fs) f = cond (eqb n f) (formBreach k) (breachIn fs f)
 unfoldable pub breachOf : Name → ℕ → Breach
 breachOf n f = breachIn (places n) f
 
--- ---- the table
--- for the segment's name and the field that the refusal names
-module _ (n : Name) (f : ℕ) where
-  unfoldable pub saying : Kind → Saying
-  saying TooLong = Nowhere says "the message has more than 32,768 bytes"
-  saying Header = Nowhere says "the first nine bytes are no header"
-  saying Bytes = AtSpot says "a byte that is not allowed here, or a shift that is broken off"
-  saying Segment = AtSpot says "no segment: a bad name, more than 4,096 bytes, or no 0D at its end"
-  saying TooMany = Nowhere says "the message has more than 512 segments"
-  saying Order = AtSegment says "out of order, or missing"
-  saying Missing = AtField says "required, but empty"
-  saying Null = AtField says "exactly \"\""
-  saying Repeated = AtField says "a repetition, where one value is read"
-  saying Escape = AtField says "a bare subcomponent separator, a bad escape, or a component too many"
-  saying Long = AtField says "too long"
-  saying Value = AtField says breachWords (breachOf n f)
-  saying Status = AtField says "the value does not fit the status"
-  saying Differs = AtField says "not the order number of the OBR before it"
-  saying NoOrdinal = Nowhere says "no known segment has this ordinal"
-  saying Zero = Nowhere says "fields and components are counted from 1"
-  saying SheetTooLong = Nowhere says "the sheet has more than 65,536 bytes"
-  saying SheetBytes = AtSpot says "a byte that is not allowed here, a shift that is broken off, or no 0A at the end"
-  saying Key = AtLine says "not the key that must stand here"
-  saying Line = AtLine says "the value breaks its rule"
-  saying Overflow = Nowhere says "the message would have more than 32,768 bytes or 512 segments"
-  saying Room = Nowhere says "the lent buffer is too short"
+-- the words of a kind
+unfoldable pub wordsOf : Kind → Breach → String
+wordsOf k b = cond (eqb (Told.number k) 25) (breachWords b) (saying k .words)
 
 -- ---- the place
 -- "MSH PID PV1, then one or more specimens": these a message has once
@@ -130,8 +132,5 @@ placeText AtLine r n p = bytes "line " ++ decimal (r .segment) ++ bytes ": "
 placeText AtField r n p = fieldText n (r .field) (r .segment)
 
 -- ---- the line, ended by 0A, for a refusal, the name of the segment that it names, and the spot
-unfoldable pub saidText : Where → List ℕ → Refusal → Name → Spot → List ℕ
-saidText t w r n p = placeText t r n p ++ w ++ (0x0A ∷ [])
-
 unfoldable pub wordsText : Refusal → Name → Spot → List ℕ
-wordsText r n p = let s = saying n (r .field) (r .kind) in saidText (s .tells) (bytes (s .words)) r n p
+wordsText r n p = placeText (saying (r .kind) .tells) r n p ++ bytes (wordsOf (r .kind) (breachOf n (r .field))) ++ (0x0A ∷ [])

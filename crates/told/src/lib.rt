@@ -11,9 +11,10 @@ ghost use lib.ListN.{length};
 ghost use Rattle.rules.specs.Lists.{bytes};
 ghost use Rattle.rules.specs.Frame.{spelling};
 ghost use Rattle.rules.specs.Message.{decimal};
+ghost use Rattle.scan.specs.Scan.{until, is};
 ghost use Rattle.writer.specs.Over.{Wrote, Put};
 ghost use Rattle.told.specs.Told.{lineText, refusalText, countsText, Front};
-ghost use Rattle.told.specs.Words.{breachOf, breachWords, once, fieldText, spotText, placeText, saidText, wordsText};
+ghost use Rattle.told.specs.Words.{saying, breachWords, breachOf, wordsOf, once, fieldText, spotText, placeText, wordsText};
 
 // A message's refusal names its segment.
 pub fn of_message(out: &mut [u8; 96], refusal: Refusal) -> usize
@@ -127,242 +128,135 @@ pub fn in_words(out: &mut [u8; 192], refusal: Refusal, name: Name, spot: Spot) -
     ensures within { λ r. ⌜ Front r (now (out .exit)) ⌝ }
 {
     let kind = refusal.kind;
+    let field = refusal.field;
+    let place = place_of(kind);
+    let k = place_said(out, place, refusal, name, spot);
+    let words = words_of(kind, breach_of(name, field));
+    let m = words_said(out, k, &words);
+    writer::put_at(out, m, b"\n")
+}
+
+// Which place is told before the words.
+fn place_of(kind: Kind) -> Where
+    ensures { λ r. ⌜ r ≡ saying kind .tells ⌝ }
+{
     match kind {
-        Kind::TooLong => said(
-            out,
-            Where::Nowhere,
-            b"the message has more than 32,768 bytes",
-            refusal,
-            name,
-            spot,
-        ),
-        Kind::Header => said(
-            out,
-            Where::Nowhere,
-            b"the first nine bytes are no header",
-            refusal,
-            name,
-            spot,
-        ),
-        Kind::Bytes => said(
-            out,
-            Where::AtSpot,
-            b"a byte that is not allowed here, or a shift that is broken off",
-            refusal,
-            name,
-            spot,
-        ),
-        Kind::Segment => said(
-            out,
-            Where::AtSpot,
-            b"no segment: a bad name, more than 4,096 bytes, or no 0D at its end",
-            refusal,
-            name,
-            spot,
-        ),
-        Kind::TooMany => said(
-            out,
-            Where::Nowhere,
-            b"the message has more than 512 segments",
-            refusal,
-            name,
-            spot,
-        ),
-        Kind::Order => said(
-            out,
-            Where::AtSegment,
-            b"out of order, or missing",
-            refusal,
-            name,
-            spot,
-        ),
-        Kind::Missing => said(
-            out,
-            Where::AtField,
-            b"required, but empty",
-            refusal,
-            name,
-            spot,
-        ),
-        Kind::Null => said(out, Where::AtField, b"exactly \"\"", refusal, name, spot),
-        Kind::Repeated => said(
-            out,
-            Where::AtField,
-            b"a repetition, where one value is read",
-            refusal,
-            name,
-            spot,
-        ),
-        Kind::Escape => said(
-            out,
-            Where::AtField,
-            b"a bare subcomponent separator, a bad escape, or a component too many",
-            refusal,
-            name,
-            spot,
-        ),
-        Kind::Long => said(out, Where::AtField, b"too long", refusal, name, spot),
-        Kind::Value => breach_said(out, refusal, name, spot),
-        Kind::Status => said(
-            out,
-            Where::AtField,
-            b"the value does not fit the status",
-            refusal,
-            name,
-            spot,
-        ),
-        Kind::Differs => said(
-            out,
-            Where::AtField,
-            b"not the order number of the OBR before it",
-            refusal,
-            name,
-            spot,
-        ),
-        Kind::NoOrdinal => said(
-            out,
-            Where::Nowhere,
-            b"no known segment has this ordinal",
-            refusal,
-            name,
-            spot,
-        ),
-        Kind::Zero => said(
-            out,
-            Where::Nowhere,
-            b"fields and components are counted from 1",
-            refusal,
-            name,
-            spot,
-        ),
-        Kind::SheetTooLong => said(
-            out,
-            Where::Nowhere,
-            b"the sheet has more than 65,536 bytes",
-            refusal,
-            name,
-            spot,
-        ),
-        Kind::SheetBytes => said(
-            out,
-            Where::AtSpot,
-            b"a byte that is not allowed here, a shift that is broken off, or no 0A at the end",
-            refusal,
-            name,
-            spot,
-        ),
-        Kind::Key => said(
-            out,
-            Where::AtLine,
-            b"not the key that must stand here",
-            refusal,
-            name,
-            spot,
-        ),
-        Kind::Line => said(
-            out,
-            Where::AtLine,
-            b"the value breaks its rule",
-            refusal,
-            name,
-            spot,
-        ),
-        Kind::Overflow => said(
-            out,
-            Where::Nowhere,
-            b"the message would have more than 32,768 bytes or 512 segments",
-            refusal,
-            name,
-            spot,
-        ),
-        Kind::Room => said(
-            out,
-            Where::Nowhere,
-            b"the lent buffer is too short",
-            refusal,
-            name,
-            spot,
-        ),
+        Kind::TooLong => Where::Nowhere,
+        Kind::Header => Where::Nowhere,
+        Kind::Bytes => Where::AtSpot,
+        Kind::Segment => Where::AtSpot,
+        Kind::TooMany => Where::Nowhere,
+        Kind::Order => Where::AtSegment,
+        Kind::Missing => Where::AtField,
+        Kind::Null => Where::AtField,
+        Kind::Repeated => Where::AtField,
+        Kind::Escape => Where::AtField,
+        Kind::Long => Where::AtField,
+        Kind::Value => Where::AtField,
+        Kind::Status => Where::AtField,
+        Kind::Differs => Where::AtField,
+        Kind::NoOrdinal => Where::Nowhere,
+        Kind::Zero => Where::Nowhere,
+        Kind::SheetTooLong => Where::Nowhere,
+        Kind::SheetBytes => Where::AtSpot,
+        Kind::Key => Where::AtLine,
+        Kind::Line => Where::AtLine,
+        Kind::Overflow => Where::Nowhere,
+        Kind::Room => Where::Nowhere,
     }
 }
 
-// 25, by the rule of the place.
-fn breach_said(out: &mut [u8], refusal: Refusal, name: Name, spot: Spot) -> usize
-    requires { ⌜ 192 ≤ length (now out) ⌝ }
-    ensures { λ r. ⌜ Wrote r (now (out .exit)) (saidText Where.AtField (bytes (breachWords (breachOf name (refusal .field)))) refusal name spot) (now (out .entry)) ⌝ }
+// The words of a kind, up to the bar; those of 25 by what the place's rule asks.
+fn words_of(kind: Kind, breach: Breach) -> [u8; 82]
+    ensures { λ r. ⌜ until (is 0x7C) r ≡ bytes (wordsOf kind breach) ⌝ }
 {
-    let field = refusal.field;
-    let breach = breach_of(name, field);
-    match breach {
-        Breach::NoTime => said(
-            out,
-            Where::AtField,
-            b"not a time that exists",
-            refusal,
-            name,
-            spot,
-        ),
-        Breach::NoDate => said(
-            out,
-            Where::AtField,
-            b"not a date that exists",
-            refusal,
-            name,
-            spot,
-        ),
-        Breach::NoNumber => said(out, Where::AtField, b"not a number", refusal, name, spot),
-        Breach::NoText => said(out, Where::AtField, b"not a text", refusal, name, spot),
-        Breach::NoDigits => said(
-            out,
-            Where::AtField,
-            b"not the digits that it takes",
-            refusal,
-            name,
-            spot,
-        ),
-        Breach::NoCapitals => said(
-            out,
-            Where::AtField,
-            b"not capitals and digits",
-            refusal,
-            name,
-            spot,
-        ),
-        Breach::NoWord => said(
-            out,
-            Where::AtField,
-            b"not one of its words",
-            refusal,
-            name,
-            spot,
-        ),
-        Breach::NoCode => said(
-            out,
-            Where::AtField,
-            b"not the code and coding system that it takes",
-            refusal,
-            name,
-            spot,
-        ),
-        Breach::NoCharset => said(
-            out,
-            Where::AtField,
-            b"not the repetition separator and ISO IR87",
-            refusal,
-            name,
-            spot,
-        ),
-        Breach::NoName => said(out, Where::AtField, b"not a name", refusal, name, spot),
-        Breach::NoValue => said(
-            out,
-            Where::AtField,
-            b"not a value of its type",
-            refusal,
-            name,
-            spot,
-        ),
-        Breach::Unlisted => said(out, Where::AtField, b"breaks its rule", refusal, name, spot),
+    match kind {
+        Kind::TooLong =>
+            *b"the message has more than 32,768 bytes|                                           ",
+        Kind::Header =>
+            *b"the first nine bytes are no header|                                               ",
+        Kind::Bytes =>
+            *b"a byte that is not allowed here, or a shift that is broken off|                   ",
+        Kind::Segment =>
+            *b"no segment: a bad name, more than 4,096 bytes, or no 0D at its end|               ",
+        Kind::TooMany =>
+            *b"the message has more than 512 segments|                                           ",
+        Kind::Order =>
+            *b"out of order, or missing|                                                         ",
+        Kind::Missing =>
+            *b"required, but empty|                                                              ",
+        Kind::Null =>
+            *b"exactly \"\"|                                                                       ",
+        Kind::Repeated =>
+            *b"a repetition, where one value is read|                                            ",
+        Kind::Escape =>
+            *b"a bare subcomponent separator, a bad escape, or a component too many|             ",
+        Kind::Long =>
+            *b"too long|                                                                         ",
+        Kind::Value => breach_words(breach),
+        Kind::Status =>
+            *b"the value does not fit the status|                                                ",
+        Kind::Differs =>
+            *b"not the order number of the OBR before it|                                        ",
+        Kind::NoOrdinal =>
+            *b"no known segment has this ordinal|                                                ",
+        Kind::Zero =>
+            *b"fields and components are counted from 1|                                         ",
+        Kind::SheetTooLong =>
+            *b"the sheet has more than 65,536 bytes|                                             ",
+        Kind::SheetBytes =>
+            *b"a byte that is not allowed here, a shift that is broken off, or no 0A at the end| ",
+        Kind::Key =>
+            *b"not the key that must stand here|                                                 ",
+        Kind::Line =>
+            *b"the value breaks its rule|                                                        ",
+        Kind::Overflow =>
+            *b"the message would have more than 32,768 bytes or 512 segments|                    ",
+        Kind::Room =>
+            *b"the lent buffer is too short|                                                     ",
     }
+}
+
+fn breach_words(breach: Breach) -> [u8; 82]
+    ensures { λ r. ⌜ until (is 0x7C) r ≡ bytes (breachWords breach) ⌝ }
+{
+    match breach {
+        Breach::NoTime =>
+            *b"not a time that exists|                                                           ",
+        Breach::NoDate =>
+            *b"not a date that exists|                                                           ",
+        Breach::NoNumber =>
+            *b"not a number|                                                                     ",
+        Breach::NoText =>
+            *b"not a text|                                                                       ",
+        Breach::NoDigits =>
+            *b"not the digits that it takes|                                                     ",
+        Breach::NoCapitals =>
+            *b"not capitals and digits|                                                          ",
+        Breach::NoWord =>
+            *b"not one of its words|                                                             ",
+        Breach::NoCode =>
+            *b"not the code and coding system that it takes|                                     ",
+        Breach::NoCharset =>
+            *b"not the repetition separator and ISO IR87|                                        ",
+        Breach::NoName =>
+            *b"not a name|                                                                       ",
+        Breach::NoValue =>
+            *b"not a value of its type|                                                          ",
+        Breach::Unlisted =>
+            *b"breaks its rule|                                                                  ",
+    }
+}
+
+// They are written up to the bar.
+fn words_said(out: &mut [u8], at: usize, words: &[u8]) -> usize
+    requires { ⌜ at + 82 ≤ length (now out) ⌝ }
+    requires { ⌜ length (now words) ≤ 82 ⌝ }
+    ensures { λ r. ⌜ Put at (now (out .entry)) (until (is 0x7C) (now (words .entry))) r (now (out .exit)) ⌝ }
+    ensures within { λ r. ⌜ r ≤ at + 82 ⌝ }
+{
+    let n = value::before(words, b'|');
+    writer::put_at(out, at, &words[..n])
 }
 
 // Which words 25 has for a field of a segment: the table of read places.
@@ -462,23 +356,6 @@ fn breach_of(name: Name, field: usize) -> Breach
         }
         Name::Other => Breach::Unlisted,
     }
-}
-
-// The place, the words and 0A.
-fn said(
-    out: &mut [u8],
-    place: Where,
-    words: &[u8],
-    refusal: Refusal,
-    name: Name,
-    spot: Spot,
-) -> usize
-    requires { ⌜ (192 ≤ length (now out)) × (length (now words) ≤ 90) ⌝ }
-    ensures { λ r. ⌜ Wrote r (now (out .exit)) (saidText place (now (words .entry)) refusal name spot) (now (out .entry)) ⌝ }
-{
-    let k = place_said(out, place, refusal, name, spot);
-    let m = writer::put_at(out, k, words);
-    writer::put_at(out, m, b"\n")
 }
 
 fn place_said(out: &mut [u8], place: Where, refusal: Refusal, name: Name, spot: Spot) -> usize

@@ -1,0 +1,75 @@
+-- `told::breach_words` meets its contract. Assumes nothing.
+use Rattle.rules.specs.Lists.{bytes}
+use Rattle.scan.specs.Scan.{until}
+use Rattle.told.specs.Words.{saying, breachWords}
+use Rattle.told.proofs.Laws.{breach-words}
+use borrow.Author.Needs.{needs}
+use Rattle.told.proofs.breach_words.Statement.{statement}
+use Rattle.told.proofs.breach_words.Tie as tie
+
+returns : tie.Need-returns
+unfolding until bytes breachWords saying
+returns c = search (breach-words, needs)
+
+returns-2 : tie.Need-returns-2
+unfolding until bytes breachWords saying
+returns-2 c = search (breach-words, needs)
+
+returns-3 : tie.Need-returns-3
+unfolding until bytes breachWords saying
+returns-3 c = search (breach-words, needs)
+
+returns-4 : tie.Need-returns-4
+unfolding until bytes breachWords saying
+returns-4 c = search (breach-words, needs)
+
+returns-5 : tie.Need-returns-5
+unfolding until bytes breachWords saying
+returns-5 c = search (breach-words, needs)
+
+returns-6 : tie.Need-returns-6
+unfolding until bytes breachWords saying
+returns-6 c = search (breach-words, needs)
+
+returns-7 : tie.Need-returns-7
+unfolding until bytes breachWords saying
+returns-7 c = search (breach-words, needs)
+
+returns-8 : tie.Need-returns-8
+unfolding until bytes breachWords saying
+returns-8 c = search (breach-words, needs)
+
+returns-9 : tie.Need-returns-9
+unfolding until bytes breachWords saying
+returns-9 c = search (breach-words, needs)
+
+returns-10 : tie.Need-returns-10
+unfolding until bytes breachWords saying
+returns-10 c = search (breach-words, needs)
+
+returns-11 : tie.Need-returns-11
+unfolding until bytes breachWords saying
+returns-11 c = search (breach-words, needs)
+
+returns-12 : tie.Need-returns-12
+unfolding until bytes breachWords saying
+returns-12 c = search (breach-words, needs)
+
+pub breach-words-spec : {M : Type 1} → statement M
+breach-words-spec =
+    tie.close
+    (tie.spec
+    (λ c. search needs) (λ c. search needs) (λ c. search needs) (λ c. search needs) (λ c. search needs) (λ c. search needs) (λ c. search needs)
+    (λ c. search needs) (λ c. search needs) (λ c. search needs) (λ c. search needs) (λ c. search needs)
+    returns
+    returns-2
+    returns-3
+    returns-4
+    returns-5
+    returns-6
+    returns-7
+    returns-8
+    returns-9
+    returns-10
+    returns-11
+    returns-12)
