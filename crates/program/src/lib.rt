@@ -165,7 +165,7 @@ fn say_in_words(text: &[u8], refusal: Refusal, name: Name) {
     let kind = refusal.kind;
     let spot = oul::spot_of(text, rules::paper_number(kind));
     let mut line = [0u8; 192];
-    let n = told::in_words(&mut line, refusal, name, spot);
+    let n = words::in_words(&mut line, refusal, name, spot);
     io::write_all(2, &line[..n]);
 }
 

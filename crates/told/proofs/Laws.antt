@@ -1,32 +1,18 @@
--- Texts written one behind the other, and which text a case has. Assumes nothing.
-use mathlib.Core.Path.{_≡_, refl, ap, sym, _∙_}
-use mathlib.Core.Bool.{Bool, true, false, cond}
-use mathlib.Core.List.{List, [], _∷_, _++_, append-assoc, append-nil}
+-- Texts written one behind the other. Assumes nothing.
+use mathlib.Core.Path.{_≡_}
+use mathlib.Core.List.{List, [], _∷_, _++_}
 use Prim.Native.Nat.{ℕ, _+_, _≤_, _<_}
 use native.Mathlib.Omega.{arith}
-use lib.Dec.{eqb}
 use lib.ListN.{length, take}
-use borrow.Author.Tests.{ne-eqb}
 use Rattle.rules.specs.declared.Counts.{Counts}
-use Rattle.rules.specs.declared.Kind.{Kind}
-use Rattle.rules.specs.declared.Name.{Name}
 use Rattle.rules.specs.declared.Refusal.{Refusal}
 use Rattle.rules.specs.Told.{number}
 use Rattle.rules.specs.Lists.{bytes}
-use Rattle.rules.specs.Frame.{spelling}
 use Rattle.rules.specs.Message.{decimal}
-use Rattle.scan.specs.Scan.{until, is}
-use Rattle.scan.proofs.Laws.{take-until}
-use lib.Seq.{length-take-le}
 use Rattle.rules.proofs.Measures.{tens, decimal-few}
 use Rattle.writer.specs.Over.{Wrote, Put}
 use Rattle.writer.proofs.Laws.{then, front-within, front-is}
-use Rattle.spot.specs.declared.Spot.{Spot}
-use Rattle.told.specs.declared.Where.{Where}
-use Rattle.told.specs.declared.Breach.{Breach}
-use Rattle.told.specs.declared.Breach.the-variants.{Unlisted}
 use Rattle.told.specs.Told.{lineText, refusalText, countsText}
-use Rattle.told.specs.Words.{saying, breachWords, breachOf, wordsOf, once, ofSegment, fieldText, spotText, placeText, wordsText}
 
 -- ---- a number of 64 bits
 pub number-short : (n : ℕ) → n < 18446744073709551616 → length (decimal n) ≤ 20
@@ -59,85 +45,3 @@ module _ (n : Counts) (old x y z : List ℕ) (k m r : ℕ) (a : Wrote k x (lineT
 
   pub counts-front : r ≡ length (take r z)
   counts-front = front-is r z (countsText n) old counts-is
-
--- ---- the place
--- a name's bytes
-pub spelled : {n j : Name} {r : ℕ} {x old : List ℕ} → n ≡ j → Wrote r x (spelling j) old → Wrote r x (spelling n) old
-spelled e p = rw e p
-
--- how often it comes
-pub once-is : (n j : Name) (t : Bool) → n ≡ j → t ≡ once j → t ≡ once n
-once-is n j t e h = rw e h
-
-pub spelled-short : (n j : Name) (r : ℕ) (x old : List ℕ) → n ≡ j → Wrote r x (spelling j) old → length (spelling j) ≤ 3 → r ≤ 3
-spelled-short n j r x old e p h = omega (arith, p .ends)
-
-module _ (old x y z : List ℕ) (j k r : ℕ) (n : Name) (f i : ℕ) (a : Wrote j x (spelling n) old) (b : Put j x ((45 ∷ []) ++ decimal f ++ []) k y) where
-  named : Wrote k y (spelling n ++ bytes "-" ++ decimal f) old
-  unfolding bytes
-  named = rw (append-nil ((45 ∷ []) ++ decimal f), sym (append-assoc (spelling n) (45 ∷ []) (decimal f))) at (then a b)
-
-  pub field-once : {t : Bool} → t ≡ once n → t ≡ true → Put k y (58 ∷ 32 ∷ []) r z → Wrote r z (fieldText n f i) old
-  unfolding fieldText ofSegment bytes
-  field-once {t} e h c = rw (sym e, h, append-nil) (then named c)
-
-  pub field-again : {t : Bool} → t ≡ once n → t ≡ false → Put k y ((32 ∷ 111 ∷ 102 ∷ 32 ∷ 115 ∷ 101 ∷ 103 ∷ 109 ∷ 101 ∷ 110 ∷ 116 ∷ 32 ∷ []) ++ decimal i ++ (58 ∷ 32 ∷ [])) r z → Wrote r z (fieldText n f i) old
-  unfolding fieldText ofSegment bytes
-  field-again {t} e h c = rw (sym e, h, append-assoc) (then named c)
-
-pub spot-is : (p : Spot) (old x y : List ℕ) (k r : ℕ) → Wrote k x (bytes "line " ++ decimal (p .line) ++ bytes ", byte ") old → Put k x (decimal (p .byte) ++ bytes ": ") r y → Wrote r y (spotText p) old
-unfolding spotText
-spot-is p old x y k r a b = rw (append-assoc (bytes "line " ++ decimal (p .line) ++ bytes ", byte ") (decimal (p .byte)) (bytes ": ")) (then a b)
-
-module _ (t u : Where) (f : Refusal) (n : Name) (p : Spot) (r : ℕ) (x old : List ℕ) where
-  pub place-is : t ≡ u → Wrote r x (placeText u f n p) old → Wrote r x (placeText t f n p) old
-  place-is e w = rw e w
-
--- ---- the words
-module _ (f : Refusal) (n : Name) (p : Spot) (old x y z : List ℕ) (k m r : ℕ) (t : Where) (b : Breach) (e : t ≡ saying (f .kind) .tells) (h : b ≡ breachOf n (f .field))
-    (u : Wrote k x (placeText t f n p) old) (q : List ℕ) (g : until (is 0x7C) q ≡ bytes (wordsOf (f .kind) b)) (v : Put k x (until (is 0x7C) q) m y) (w : Put m y (0x0A ∷ []) r z) where
-  pub words-are : Wrote r z (wordsText f n p) old
-  unfolding wordsText
-  words-are = rw (sym e, sym h, sym g) (then (then u v) w)
-
-  pub words-within : r ≤ length z
-  words-within = front-within r z (wordsText f n p) old words-are
-
-  pub words-front : r ≡ length (take r z)
-  words-front = front-is r z (wordsText f n p) old words-are
-
-pub place-told : (k j : Kind) (t : Where) → k ≡ j → t ≡ saying j .tells → t ≡ saying k .tells
-place-told k j t e h = rw e h
-
-module _ (s : List ℕ) where
-  pub kind-words : (k j : Kind) (b : Breach) → k ≡ j → until (is 0x7C) s ≡ bytes (wordsOf j b) → until (is 0x7C) s ≡ bytes (wordsOf k b)
-  kind-words k j b e h = rw e h
-
-  pub breach-words : (b c : Breach) → b ≡ c → until (is 0x7C) s ≡ bytes (breachWords c) → until (is 0x7C) s ≡ bytes (breachWords b)
-  breach-words b c e h = rw e h
-
--- they are written up to the bar
-module _ (at n r : ℕ) (s x y : List ℕ) (e : n ≡ length (until (is 0x7C) s)) where
-  pub said-is : Put at x (take n s) r y → Put at x (until (is 0x7C) s) r y
-  said-is p = rw (sym (take-until (is 0x7C) s), sym e) p
-
-  pub said-short : n ≤ length s → length s ≤ 82 → Put at x (take n s) r y → r ≤ at + 82
-  said-short h l p = omega (arith, p .ends, length-take-le n s h)
-
-  pub said-room : n ≤ length s → length s ≤ 82 → at + 82 ≤ length x → at + length (take n s) ≤ length x
-  said-room h l w = omega (arith, length-take-le n s h)
-
--- what 25 says: the field is an entry of its segment's table, or none of them
-module _ (n j : Name) (f : ℕ) (e : n ≡ j) where
-  pub breach-there : (k : ℕ) (b : Breach) → f ≡ k → b ≡ breachOf j k → b ≡ breachOf n f
-  breach-there k b h g = rw (e, h) g
-
-  pub breach-other : Unlisted ≡ breachOf j f → Unlisted ≡ breachOf n f
-  breach-other g = rw e g
-
-pub breach-past : (f k : ℕ) (x y z : Breach) → (f ≡ k → ⊥) → z ≡ y → z ≡ cond (eqb k f) x y
-breach-past f k x y z h e = rw (ne-eqb k f (λ g. h (sym g))) e
-
-pub breach-past-three : (f i j k : ℕ) (x y w v z : Breach) → (f ≡ i → ⊥) → (f ≡ j → ⊥) → (f ≡ k → ⊥) → z ≡ v → z ≡ cond (eqb i f) x (cond (eqb j f) y (cond (eqb k f) w v))
-breach-past-three f i j k x y w v z hi hj hk e =
-    breach-past f i x (cond (eqb j f) y (cond (eqb k f) w v)) z hi (breach-past f j y (cond (eqb k f) w v) z hj (breach-past f k w v z hk e))

@@ -1,11 +1,11 @@
--- `told::name_said` meets its contract. Assumes nothing.
+-- `words::name_said` meets its contract. Assumes nothing.
 use Rattle.rules.specs.Lists.{bytes}
 use Rattle.rules.specs.Frame.{spelling}
-use Rattle.told.proofs.Laws.{spelled, spelled-short}
+use Rattle.words.proofs.Laws.{spelled, spelled-short}
 use Rattle.writer.proofs.Laws.{start}
 use borrow.Author.Needs.{needs}
-use Rattle.told.proofs.name_said.Statement.{statement}
-use Rattle.told.proofs.name_said.Tie as tie
+use Rattle.words.proofs.name_said.Statement.{statement}
+use Rattle.words.proofs.name_said.Tie as tie
 
 returns : tie.Need-returns
 unfolding spelling bytes

@@ -16,10 +16,10 @@ use Rattle.rules.specs.Value.{Rule, time, date, number, text, digits, capitals,
 use Rattle.rules.specs.Places.{Place, Form, charset, names, value, Field, reads, closed, places}
 use Rattle.rules.specs.Message.{decimal}
 use Rattle.spot.specs.declared.Spot.{Spot}
-use Rattle.told.specs.declared.Where.{Where}
-use Rattle.told.specs.declared.Where.the-variants.{Nowhere, AtSpot, AtSegment, AtLine, AtField}
-use Rattle.told.specs.declared.Breach.{Breach}
-use Rattle.told.specs.declared.Breach.the-variants.{NoTime, NoDate, NoNumber, NoText, NoDigits, NoCapitals, NoWord, NoCode, NoCharset, NoName, NoValue, Unlisted}
+use Rattle.words.specs.declared.Where.{Where}
+use Rattle.words.specs.declared.Where.the-variants.{Nowhere, AtSpot, AtSegment, AtLine, AtField}
+use Rattle.words.specs.declared.Breach.{Breach}
+use Rattle.words.specs.declared.Breach.the-variants.{NoTime, NoDate, NoNumber, NoText, NoDigits, NoCapitals, NoWord, NoCode, NoCharset, NoName, NoValue, Unlisted}
 
 -- ---- the table: the place that is told, and the words
 pub record Saying : Type 0 where

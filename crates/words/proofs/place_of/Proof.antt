@@ -1,9 +1,9 @@
--- `told::place_of` meets its contract. Assumes nothing.
-use Rattle.told.specs.Words.{saying}
-use Rattle.told.proofs.Laws.{place-told}
+-- `words::place_of` meets its contract. Assumes nothing.
+use Rattle.words.specs.Words.{saying}
+use Rattle.words.proofs.Laws.{place-told}
 use borrow.Author.Needs.{needs}
-use Rattle.told.proofs.place_of.Statement.{statement}
-use Rattle.told.proofs.place_of.Tie as tie
+use Rattle.words.proofs.place_of.Statement.{statement}
+use Rattle.words.proofs.place_of.Tie as tie
 
 returns : tie.Need-returns
 unfolding saying

@@ -1,8 +1,8 @@
--- `told::in_words` meets its contract. Assumes nothing.
-use Rattle.told.proofs.Laws.{words-are, words-within, words-front}
+-- `words::in_words` meets its contract. Assumes nothing.
+use Rattle.words.proofs.Laws.{words-are, words-within, words-front}
 use borrow.Author.Needs.{needs}
-use Rattle.told.proofs.in_words.Statement.{statement}
-use Rattle.told.proofs.in_words.Tie as tie
+use Rattle.words.proofs.in_words.Statement.{statement}
+use Rattle.words.proofs.in_words.Tie as tie
 
 returns : tie.Need-returns
 returns c = (search (words-are, needs), (search (words-within, needs), search (words-front, needs)))

@@ -1,11 +1,11 @@
--- `told::place_said` meets its contract. Assumes nothing.
+-- `words::place_said` meets its contract. Assumes nothing.
 use Rattle.rules.specs.Lists.{bytes}
-use Rattle.told.specs.Words.{placeText}
-use Rattle.told.proofs.Laws.{place-is}
+use Rattle.words.specs.Words.{placeText}
+use Rattle.words.proofs.Laws.{place-is}
 use Rattle.writer.proofs.Laws.{start}
 use borrow.Author.Needs.{needs}
-use Rattle.told.proofs.place_said.Statement.{statement}
-use Rattle.told.proofs.place_said.Tie as tie
+use Rattle.words.proofs.place_said.Statement.{statement}
+use Rattle.words.proofs.place_said.Tie as tie
 
 returns : tie.Need-returns
 unfolding placeText bytes

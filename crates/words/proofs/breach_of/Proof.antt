@@ -1,11 +1,11 @@
--- `told::breach_of` meets its contract. Assumes nothing.
+-- `words::breach_of` meets its contract. Assumes nothing.
 use Rattle.rules.specs.Lists.{all}
 use Rattle.rules.specs.Places.{places}
-use Rattle.told.specs.Words.{breachOf, breachIn, readBreach}
-use Rattle.told.proofs.Laws.{breach-there, breach-other, breach-past, breach-past-three}
+use Rattle.words.specs.Words.{breachOf, breachIn, readBreach}
+use Rattle.words.proofs.Laws.{breach-there, breach-other, breach-past, breach-past-three}
 use borrow.Author.Needs.{needs}
-use Rattle.told.proofs.breach_of.Statement.{statement}
-use Rattle.told.proofs.breach_of.Tie as tie
+use Rattle.words.proofs.breach_of.Statement.{statement}
+use Rattle.words.proofs.breach_of.Tie as tie
 
 returns : tie.Need-returns
 unfolding breachOf breachIn readBreach places all

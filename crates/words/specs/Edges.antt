@@ -9,7 +9,7 @@ use Rattle.rules.specs.declared.Name.{Name}
 use Rattle.rules.specs.declared.Name.the-variants.{Msh, Pid, Spm, Obr, Obx, Other}
 use Rattle.rules.specs.Lists.{bytes}
 use Rattle.rules.specs.All.{rules}
-use Rattle.told.specs.Words.{breachWords, wordsOf, breachIn, breachOf, readBreach, saying, once, ofSegment, fieldText, spotText, placeText, wordsText}
+use Rattle.words.specs.Words.{breachWords, wordsOf, breachIn, breachOf, readBreach, saying, once, ofSegment, fieldText, spotText, placeText, wordsText}
 
 -- a refusal's kind, segment (or line) and field; the segment's name; the spot's line and byte; and the line without its 0A
 pub data Edge : Type 0 where

@@ -1,11 +1,11 @@
--- `told::words_of` meets its contract. Assumes nothing.
+-- `words::words_of` meets its contract. Assumes nothing.
 use Rattle.rules.specs.Lists.{bytes}
 use Rattle.scan.specs.Scan.{until}
-use Rattle.told.specs.Words.{saying, wordsOf}
-use Rattle.told.proofs.Laws.{kind-words}
+use Rattle.words.specs.Words.{saying, wordsOf}
+use Rattle.words.proofs.Laws.{kind-words}
 use borrow.Author.Needs.{needs}
-use Rattle.told.proofs.words_of.Statement.{statement}
-use Rattle.told.proofs.words_of.Tie as tie
+use Rattle.words.proofs.words_of.Statement.{statement}
+use Rattle.words.proofs.words_of.Tie as tie
 
 returns : tie.Need-returns
 unfolding until bytes wordsOf saying

@@ -1,10 +1,10 @@
--- `told::comes_once` meets its contract. Assumes nothing.
-use Rattle.told.proofs.Laws.{once-is}
+-- `words::comes_once` meets its contract. Assumes nothing.
+use Rattle.words.proofs.Laws.{once-is}
 use Rattle.rules.specs.Lists.{any}
-use Rattle.told.specs.Words.{once}
+use Rattle.words.specs.Words.{once}
 use borrow.Author.Needs.{needs}
-use Rattle.told.proofs.comes_once.Statement.{statement}
-use Rattle.told.proofs.comes_once.Tie as tie
+use Rattle.words.proofs.comes_once.Statement.{statement}
+use Rattle.words.proofs.comes_once.Tie as tie
 
 returns : tie.Need-returns
 unfolding once any

@@ -1,9 +1,9 @@
--- `told::spot_said` meets its contract. Assumes nothing.
+-- `words::spot_said` meets its contract. Assumes nothing.
 use Rattle.rules.specs.Lists.{bytes}
-use Rattle.told.proofs.Laws.{spot-is}
+use Rattle.words.proofs.Laws.{spot-is}
 use borrow.Author.Needs.{needs}
-use Rattle.told.proofs.spot_said.Statement.{statement}
-use Rattle.told.proofs.spot_said.Tie as tie
+use Rattle.words.proofs.spot_said.Statement.{statement}
+use Rattle.words.proofs.spot_said.Tie as tie
 
 returns : tie.Need-returns
 unfolding bytes

@@ -1,9 +1,9 @@
--- `told::words_said` meets its contract. Assumes nothing.
+-- `words::words_said` meets its contract. Assumes nothing.
 use Rattle.rules.proofs.Lists.{part-length}
-use Rattle.told.proofs.Laws.{said-is, said-short, said-room}
+use Rattle.words.proofs.Laws.{said-is, said-short, said-room}
 use borrow.Author.Needs.{needs}
-use Rattle.told.proofs.words_said.Statement.{statement}
-use Rattle.told.proofs.words_said.Tie as tie
+use Rattle.words.proofs.words_said.Statement.{statement}
+use Rattle.words.proofs.words_said.Tie as tie
 
 slice-aggregate-put-at : tie.Need-slice-aggregate-put-at
 slice-aggregate-put-at c = search (part-length, needs)

@@ -1,8 +1,8 @@
--- `told::field_said` meets its contract. Assumes nothing.
-use Rattle.told.proofs.Laws.{field-once, field-again}
+-- `words::field_said` meets its contract. Assumes nothing.
+use Rattle.words.proofs.Laws.{field-once, field-again}
 use borrow.Author.Needs.{needs}
-use Rattle.told.proofs.field_said.Statement.{statement}
-use Rattle.told.proofs.field_said.Tie as tie
+use Rattle.words.proofs.field_said.Statement.{statement}
+use Rattle.words.proofs.field_said.Tie as tie
 
 returns : tie.Need-returns
 returns c = (search (field-once, field-again, needs), search needs)

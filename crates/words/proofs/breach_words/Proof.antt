@@ -1,11 +1,11 @@
--- `told::breach_words` meets its contract. Assumes nothing.
+-- `words::breach_words` meets its contract. Assumes nothing.
 use Rattle.rules.specs.Lists.{bytes}
 use Rattle.scan.specs.Scan.{until}
-use Rattle.told.specs.Words.{saying, breachWords}
-use Rattle.told.proofs.Laws.{breach-words}
+use Rattle.words.specs.Words.{saying, breachWords}
+use Rattle.words.proofs.Laws.{breach-words}
 use borrow.Author.Needs.{needs}
-use Rattle.told.proofs.breach_words.Statement.{statement}
-use Rattle.told.proofs.breach_words.Tie as tie
+use Rattle.words.proofs.breach_words.Statement.{statement}
+use Rattle.words.proofs.breach_words.Tie as tie
 
 returns : tie.Need-returns
 unfolding until bytes breachWords saying

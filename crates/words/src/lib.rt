@@ -1,0 +1,349 @@
+// A refusal in words: one line, with the place as people say it. The texts are those of the table `Words`.
+use rules::Kind;
+use rules::Name;
+use rules::Refusal;
+use spot::Spot;
+ghost use mathlib.Core.Path.{_≡_};
+ghost use Prim.Native.Nat.{_+_, _≤_};
+ghost use lib.ListN.{length};
+ghost use Rattle.rules.specs.Lists.{bytes};
+ghost use Rattle.rules.specs.Frame.{spelling};
+ghost use Rattle.scan.specs.Scan.{until, is};
+ghost use Rattle.writer.specs.Over.{Wrote, Put};
+ghost use Rattle.told.specs.Told.{Front};
+ghost use Rattle.words.specs.Words.{saying, breachWords, breachOf, wordsOf, once, fieldText, spotText, placeText, wordsText};
+
+// Which place is told before the words.
+pub enum Where {
+    Nowhere,
+    AtSpot,
+    AtSegment,
+    AtLine,
+    AtField,
+}
+
+// What 25 says of a field: what its value is not.
+pub enum Breach {
+    NoTime,
+    NoDate,
+    NoNumber,
+    NoText,
+    NoDigits,
+    NoCapitals,
+    NoWord,
+    NoCode,
+    NoCharset,
+    NoName,
+    NoValue,
+    Unlisted,
+}
+
+// A refusal in words, one line: `name` is that of the segment that it names (Other where it names none), `spot` the place in the text.
+pub fn in_words(out: &mut [u8; 192], refusal: Refusal, name: Name, spot: Spot) -> usize
+    ensures { λ r. ⌜ Wrote r (now (out .exit)) (wordsText refusal name spot) (now (out .entry)) ⌝ }
+    ensures within { λ r. ⌜ Front r (now (out .exit)) ⌝ }
+{
+    let kind = refusal.kind;
+    let field = refusal.field;
+    let place = place_of(kind);
+    let k = place_said(out, place, refusal, name, spot);
+    let words = words_of(kind, breach_of(name, field));
+    let m = words_said(out, k, &words);
+    writer::put_at(out, m, b"\n")
+}
+
+// Which place is told before the words.
+fn place_of(kind: Kind) -> Where
+    ensures { λ r. ⌜ r ≡ saying kind .tells ⌝ }
+{
+    match kind {
+        Kind::TooLong => Where::Nowhere,
+        Kind::Header => Where::Nowhere,
+        Kind::Bytes => Where::AtSpot,
+        Kind::Segment => Where::AtSpot,
+        Kind::TooMany => Where::Nowhere,
+        Kind::Order => Where::AtSegment,
+        Kind::Missing => Where::AtField,
+        Kind::Null => Where::AtField,
+        Kind::Repeated => Where::AtField,
+        Kind::Escape => Where::AtField,
+        Kind::Long => Where::AtField,
+        Kind::Value => Where::AtField,
+        Kind::Status => Where::AtField,
+        Kind::Differs => Where::AtField,
+        Kind::NoOrdinal => Where::Nowhere,
+        Kind::Zero => Where::Nowhere,
+        Kind::SheetTooLong => Where::Nowhere,
+        Kind::SheetBytes => Where::AtSpot,
+        Kind::Key => Where::AtLine,
+        Kind::Line => Where::AtLine,
+        Kind::Overflow => Where::Nowhere,
+        Kind::Room => Where::Nowhere,
+    }
+}
+
+// The words of a kind, up to the bar; those of 25 by what the place's rule asks.
+fn words_of(kind: Kind, breach: Breach) -> [u8; 82]
+    ensures { λ r. ⌜ until (is 0x7C) r ≡ bytes (wordsOf kind breach) ⌝ }
+{
+    match kind {
+        Kind::TooLong =>
+            *b"the message has more than 32,768 bytes|                                           ",
+        Kind::Header =>
+            *b"the first nine bytes are no header|                                               ",
+        Kind::Bytes =>
+            *b"a byte that is not allowed here, or a shift that is broken off|                   ",
+        Kind::Segment =>
+            *b"no segment: a bad name, more than 4,096 bytes, or no 0D at its end|               ",
+        Kind::TooMany =>
+            *b"the message has more than 512 segments|                                           ",
+        Kind::Order =>
+            *b"out of order, or missing|                                                         ",
+        Kind::Missing =>
+            *b"required, but empty|                                                              ",
+        Kind::Null =>
+            *b"exactly \"\"|                                                                       ",
+        Kind::Repeated =>
+            *b"a repetition, where one value is read|                                            ",
+        Kind::Escape =>
+            *b"a bare subcomponent separator, a bad escape, or a component too many|             ",
+        Kind::Long =>
+            *b"too long|                                                                         ",
+        Kind::Value => breach_words(breach),
+        Kind::Status =>
+            *b"the value does not fit the status|                                                ",
+        Kind::Differs =>
+            *b"not the order number of the OBR before it|                                        ",
+        Kind::NoOrdinal =>
+            *b"no known segment has this ordinal|                                                ",
+        Kind::Zero =>
+            *b"fields and components are counted from 1|                                         ",
+        Kind::SheetTooLong =>
+            *b"the sheet has more than 65,536 bytes|                                             ",
+        Kind::SheetBytes =>
+            *b"a byte that is not allowed here, a shift that is broken off, or no 0A at the end| ",
+        Kind::Key =>
+            *b"not the key that must stand here|                                                 ",
+        Kind::Line =>
+            *b"the value breaks its rule|                                                        ",
+        Kind::Overflow =>
+            *b"the message would have more than 32,768 bytes or 512 segments|                    ",
+        Kind::Room =>
+            *b"the lent buffer is too short|                                                     ",
+    }
+}
+
+fn breach_words(breach: Breach) -> [u8; 82]
+    ensures { λ r. ⌜ until (is 0x7C) r ≡ bytes (breachWords breach) ⌝ }
+{
+    match breach {
+        Breach::NoTime =>
+            *b"not a time that exists|                                                           ",
+        Breach::NoDate =>
+            *b"not a date that exists|                                                           ",
+        Breach::NoNumber =>
+            *b"not a number|                                                                     ",
+        Breach::NoText =>
+            *b"not a text|                                                                       ",
+        Breach::NoDigits =>
+            *b"not the digits that it takes|                                                     ",
+        Breach::NoCapitals =>
+            *b"not capitals and digits|                                                          ",
+        Breach::NoWord =>
+            *b"not one of its words|                                                             ",
+        Breach::NoCode =>
+            *b"not the code and coding system that it takes|                                     ",
+        Breach::NoCharset =>
+            *b"not the repetition separator and ISO IR87|                                        ",
+        Breach::NoName =>
+            *b"not a name|                                                                       ",
+        Breach::NoValue =>
+            *b"not a value of its type|                                                          ",
+        Breach::Unlisted =>
+            *b"breaks its rule|                                                                  ",
+    }
+}
+
+// They are written up to the bar.
+fn words_said(out: &mut [u8], at: usize, words: &[u8]) -> usize
+    requires { ⌜ at + 82 ≤ length (now out) ⌝ }
+    requires { ⌜ length (now words) ≤ 82 ⌝ }
+    ensures { λ r. ⌜ Put at (now (out .entry)) (until (is 0x7C) (now (words .entry))) r (now (out .exit)) ⌝ }
+    ensures within { λ r. ⌜ r ≤ at + 82 ⌝ }
+{
+    let n = value::before(words, b'|');
+    writer::put_at(out, at, &words[..n])
+}
+
+// Which words 25 has for a field of a segment: the table of read places.
+fn breach_of(name: Name, field: usize) -> Breach
+    ensures { λ r. ⌜ r ≡ breachOf name field ⌝ }
+{
+    match name {
+        Name::Msh => {
+            if field == 7 {
+                return Breach::NoTime;
+            }
+            if field == 9 {
+                return Breach::NoWord;
+            }
+            if field == 10 {
+                return Breach::NoText;
+            }
+            if field == 11 {
+                return Breach::NoWord;
+            }
+            if field == 12 {
+                return Breach::NoWord;
+            }
+            if field == 18 {
+                return Breach::NoCharset;
+            }
+            Breach::Unlisted
+        }
+        Name::Pid => {
+            if field == 3 {
+                return Breach::NoText;
+            }
+            if field == 5 {
+                return Breach::NoName;
+            }
+            if field == 7 {
+                return Breach::NoDate;
+            }
+            if field == 8 {
+                return Breach::NoWord;
+            }
+            Breach::Unlisted
+        }
+        Name::Pv1 => {
+            if field == 2 {
+                return Breach::NoWord;
+            }
+            Breach::Unlisted
+        }
+        Name::Spm => {
+            if field == 4 {
+                return Breach::NoCode;
+            }
+            if field == 17 {
+                return Breach::NoTime;
+            }
+            Breach::Unlisted
+        }
+        Name::Obr => {
+            if field == 2 {
+                return Breach::NoDigits;
+            }
+            if field == 4 {
+                return Breach::NoCode;
+            }
+            Breach::Unlisted
+        }
+        Name::Orc => {
+            if field == 1 {
+                return Breach::NoWord;
+            }
+            if field == 2 {
+                return Breach::NoDigits;
+            }
+            Breach::Unlisted
+        }
+        Name::Obx => {
+            if field == 2 {
+                return Breach::NoWord;
+            }
+            if field == 3 {
+                return Breach::NoCode;
+            }
+            if field == 5 {
+                return Breach::NoValue;
+            }
+            if field == 6 {
+                return Breach::NoText;
+            }
+            if field == 8 {
+                return Breach::NoWord;
+            }
+            if field == 11 {
+                return Breach::NoWord;
+            }
+            Breach::Unlisted
+        }
+        Name::Other => Breach::Unlisted,
+    }
+}
+
+fn place_said(out: &mut [u8], place: Where, refusal: Refusal, name: Name, spot: Spot) -> usize
+    requires { ⌜ 58 ≤ length (now out) ⌝ }
+    ensures { λ r. ⌜ Wrote r (now (out .exit)) (placeText place refusal name spot) (now (out .entry)) ⌝ }
+    ensures within { λ r. ⌜ r ≤ 58 ⌝ }
+{
+    let segment = refusal.segment;
+    let field = refusal.field;
+    match place {
+        Where::Nowhere => 0,
+        Where::AtSpot => spot_said(out, spot),
+        Where::AtSegment => told::numbered(out, b"segment ", segment, b": "),
+        Where::AtLine => told::numbered(out, b"line ", segment, b": "),
+        Where::AtField => field_said(out, name, field, segment),
+    }
+}
+
+fn spot_said(out: &mut [u8], spot: Spot) -> usize
+    requires { ⌜ 58 ≤ length (now out) ⌝ }
+    ensures { λ r. ⌜ Wrote r (now (out .exit)) (spotText spot) (now (out .entry)) ⌝ }
+    ensures within { λ r. ⌜ r ≤ 58 ⌝ }
+{
+    let line = spot.line;
+    let byte = spot.byte;
+    let k = told::numbered(out, b"line ", line, b", byte ");
+    told::numbered_at(out, k, b"", byte, b": ")
+}
+
+// A field by its segment's name, and by its segment too where a message may have several of the name.
+fn field_said(out: &mut [u8], name: Name, field: usize, segment: usize) -> usize
+    requires { ⌜ 58 ≤ length (now out) ⌝ }
+    ensures { λ r. ⌜ Wrote r (now (out .exit)) (fieldText name field segment) (now (out .entry)) ⌝ }
+    ensures within { λ r. ⌜ r ≤ 58 ⌝ }
+{
+    let j = name_said(out, name);
+    let k = told::numbered_at(out, j, b"-", field, b"");
+    if comes_once(name) {
+        return writer::put_at(out, k, b": ");
+    }
+    told::numbered_at(out, k, b" of segment ", segment, b": ")
+}
+
+fn name_said(out: &mut [u8], name: Name) -> usize
+    requires { ⌜ 3 ≤ length (now out) ⌝ }
+    ensures { λ r. ⌜ Wrote r (now (out .exit)) (spelling name) (now (out .entry)) ⌝ }
+    ensures within { λ r. ⌜ r ≤ 3 ⌝ }
+{
+    match name {
+        Name::Msh => writer::put(out, &rules::MSH),
+        Name::Pid => writer::put(out, &rules::PID),
+        Name::Pv1 => writer::put(out, &rules::PV1),
+        Name::Spm => writer::put(out, &rules::SPM),
+        Name::Obr => writer::put(out, &rules::OBR),
+        Name::Orc => writer::put(out, &rules::ORC),
+        Name::Obx => writer::put(out, &rules::OBX),
+        Name::Other => 0,
+    }
+}
+
+// Whether a message has one segment of this name.
+fn comes_once(name: Name) -> bool
+    ensures { λ r. ⌜ r ≡ once name ⌝ }
+{
+    match name {
+        Name::Msh => true,
+        Name::Pid => true,
+        Name::Pv1 => true,
+        Name::Spm => false,
+        Name::Obr => false,
+        Name::Orc => false,
+        Name::Obx => false,
+        Name::Other => false,
+    }
+}
