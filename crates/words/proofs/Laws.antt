@@ -17,7 +17,7 @@ use Rattle.scan.specs.Scan.{until, is}
 use Rattle.scan.proofs.Laws.{take-until}
 use lib.Seq.{length-take-le}
 use Rattle.writer.specs.Over.{Wrote, Put}
-use Rattle.writer.proofs.Laws.{then, front-within, front-is}
+use Rattle.writer.proofs.Laws.{start, then, front-within, front-is}
 use Rattle.spot.specs.declared.Spot.{Spot}
 use Rattle.words.specs.declared.Where.{Where}
 use Rattle.words.specs.declared.Breach.{Breach}
@@ -26,20 +26,18 @@ use Rattle.words.specs.Words.{saying, breachWords, breachOf, wordsOf, on
 
 -- ---- the place
 -- a name's bytes
-pub spelled : {n j : Name} {r : ℕ} {x old : List ℕ} → n ≡ j → Wrote r x (spelling j) old → Wrote r x (spelling n) old
-spelled e p = rw e p
+pub spelled-is : (n j : Name) (s : List ℕ) → n ≡ j → until (is 0x7C) s ≡ spelling j → until (is 0x7C) s ≡ spelling n
+spelled-is n j s e h = rw e h
 
 -- how often it comes
 pub once-is : (n j : Name) (t : Bool) → n ≡ j → t ≡ once j → t ≡ once n
 once-is n j t e h = rw e h
 
-pub spelled-short : (n j : Name) (r : ℕ) (x old : List ℕ) → n ≡ j → Wrote r x (spelling j) old → length (spelling j) ≤ 3 → r ≤ 3
-spelled-short n j r x old e p h = omega (arith, p .ends)
-
-module _ (old x y z : List ℕ) (j k r : ℕ) (n : Name) (f i : ℕ) (a : Wrote j x (spelling n) old) (b : Put j x ((45 ∷ []) ++ decimal f ++ []) k y) where
+module _ (old x y z : List ℕ) (j k r : ℕ) (n : Name) (f i : ℕ) (s : List ℕ) (g : until (is 0x7C) s ≡ spelling n) (a : Put 0 old (until (is 0x7C) s) j x)
+    (b : Put j x ((45 ∷ []) ++ decimal f ++ []) k y) where
   named : Wrote k y (spelling n ++ bytes "-" ++ decimal f) old
   unfolding bytes
-  named = rw (append-nil ((45 ∷ []) ++ decimal f), sym (append-assoc (spelling n) (45 ∷ []) (decimal f))) at (then a b)
+  named = rw (append-nil ((45 ∷ []) ++ decimal f), g, sym (append-assoc (spelling n) (45 ∷ []) (decimal f))) at (then (then (start old) a) b)
 
   pub field-once : {t : Bool} → t ≡ once n → t ≡ true → Put k y (58 ∷ 32 ∷ []) r z → Wrote r z (fieldText n f i) old
   unfolding fieldText ofSegment bytes
@@ -80,16 +78,16 @@ module _ (s : List ℕ) where
   pub breach-words : (b c : Breach) → b ≡ c → until (is 0x7C) s ≡ bytes (breachWords c) → until (is 0x7C) s ≡ bytes (breachWords b)
   breach-words b c e h = rw e h
 
--- they are written up to the bar
+-- a text written up to the bar
 module _ (at n r : ℕ) (s x y : List ℕ) (e : n ≡ length (until (is 0x7C) s)) where
-  pub said-is : Put at x (take n s) r y → Put at x (until (is 0x7C) s) r y
-  said-is p = rw (sym (take-until (is 0x7C) s), sym e) p
+  pub bar-is : Put at x (take n s) r y → Put at x (until (is 0x7C) s) r y
+  bar-is p = rw (sym (take-until (is 0x7C) s), sym e) p
 
-  pub said-short : n ≤ length s → length s ≤ 82 → Put at x (take n s) r y → r ≤ at + 82
-  said-short h l p = omega (arith, p .ends, length-take-le n s h)
+  pub bar-short : n ≤ length s → Put at x (take n s) r y → r ≤ at + length s
+  bar-short h p = omega (arith, p .ends, length-take-le n s h)
 
-  pub said-room : n ≤ length s → length s ≤ 82 → at + 82 ≤ length x → at + length (take n s) ≤ length x
-  said-room h l w = omega (arith, length-take-le n s h)
+  pub bar-room : n ≤ length s → at + length s ≤ length x → at + length (take n s) ≤ length x
+  bar-room h w = omega (arith, length-take-le n s h)
 
 -- what 25 says: the field is an entry of its segment's table, or none of them
 module _ (n j : Name) (f : ℕ) (e : n ≡ j) where

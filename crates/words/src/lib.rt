@@ -48,7 +48,7 @@ pub fn in_words(out: &mut [u8; 192], refusal: Refusal, name: Name, spot: Spot) -
     let place = place_of(kind);
     let k = place_said(out, place, refusal, name, spot);
     let words = words_of(kind, breach_of(name, field));
-    let m = words_said(out, k, &words);
+    let m = put_to_bar(out, k, &words);
     writer::put_at(out, m, b"\n")
 }
 
@@ -164,15 +164,14 @@ fn breach_words(breach: Breach) -> [u8; 82]
     }
 }
 
-// They are written up to the bar.
-fn words_said(out: &mut [u8], at: usize, words: &[u8]) -> usize
-    requires { ⌜ at + 82 ≤ length (now out) ⌝ }
-    requires { ⌜ length (now words) ≤ 82 ⌝ }
-    ensures { λ r. ⌜ Put at (now (out .entry)) (until (is 0x7C) (now (words .entry))) r (now (out .exit)) ⌝ }
-    ensures within { λ r. ⌜ r ≤ at + 82 ⌝ }
+// A text that ends at a bar, written up to there.
+fn put_to_bar(out: &mut [u8], at: usize, text: &[u8]) -> usize
+    requires { ⌜ at + length (now text) ≤ length (now out) ⌝ }
+    ensures { λ r. ⌜ Put at (now (out .entry)) (until (is 0x7C) (now (text .entry))) r (now (out .exit)) ⌝ }
+    ensures within { λ r. ⌜ r ≤ at + length (now (text .entry)) ⌝ }
 {
-    let n = value::before(words, b'|');
-    writer::put_at(out, at, &words[..n])
+    let n = value::before(text, b'|');
+    writer::put_at(out, at, &text[..n])
 }
 
 // Which words 25 has for a field of a segment: the table of read places.
@@ -307,7 +306,8 @@ fn field_said(out: &mut [u8], name: Name, field: usize, segment: usize) -> usize
     ensures { λ r. ⌜ Wrote r (now (out .exit)) (fieldText name field segment) (now (out .entry)) ⌝ }
     ensures within { λ r. ⌜ r ≤ 58 ⌝ }
 {
-    let j = name_said(out, name);
+    let own = spelled(name);
+    let j = put_to_bar(out, 0, &own);
     let k = told::numbered_at(out, j, b"-", field, b"");
     if comes_once(name) {
         return writer::put_at(out, k, b": ");
@@ -315,20 +315,19 @@ fn field_said(out: &mut [u8], name: Name, field: usize, segment: usize) -> usize
     told::numbered_at(out, k, b" of segment ", segment, b": ")
 }
 
-fn name_said(out: &mut [u8], name: Name) -> usize
-    requires { ⌜ 3 ≤ length (now out) ⌝ }
-    ensures { λ r. ⌜ Wrote r (now (out .exit)) (spelling name) (now (out .entry)) ⌝ }
-    ensures within { λ r. ⌜ r ≤ 3 ⌝ }
+// A segment's name; nothing for another.
+fn spelled(name: Name) -> [u8; 3]
+    ensures { λ r. ⌜ until (is 0x7C) r ≡ spelling name ⌝ }
 {
     match name {
-        Name::Msh => writer::put(out, &rules::MSH),
-        Name::Pid => writer::put(out, &rules::PID),
-        Name::Pv1 => writer::put(out, &rules::PV1),
-        Name::Spm => writer::put(out, &rules::SPM),
-        Name::Obr => writer::put(out, &rules::OBR),
-        Name::Orc => writer::put(out, &rules::ORC),
-        Name::Obx => writer::put(out, &rules::OBX),
-        Name::Other => 0,
+        Name::Msh => rules::MSH,
+        Name::Pid => rules::PID,
+        Name::Pv1 => rules::PV1,
+        Name::Spm => rules::SPM,
+        Name::Obr => rules::OBR,
+        Name::Orc => rules::ORC,
+        Name::Obx => rules::OBX,
+        Name::Other => *b"|||",
     }
 }
 
