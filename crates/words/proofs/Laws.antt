@@ -1,5 +1,5 @@
 -- The place and the words written one behind the other, and which words a case has. Assumes nothing.
-use mathlib.Core.Path.{_≡_, sym}
+use mathlib.Core.Path.{_≡_, refl, sym}
 use mathlib.Core.Bool.{Bool, true, false, cond}
 use mathlib.Core.List.{List, [], _∷_, _++_, append-assoc, append-nil}
 use Prim.Native.Nat.{ℕ, _+_, _≤_}
@@ -13,6 +13,7 @@ use Rattle.rules.specs.declared.Refusal.{Refusal}
 use Rattle.rules.specs.Lists.{bytes}
 use Rattle.rules.specs.Frame.{spelling}
 use Rattle.rules.specs.Message.{decimal}
+use Rattle.rules.proofs.Logic.{cases}
 use Rattle.scan.specs.Scan.{until, is}
 use Rattle.scan.proofs.Laws.{take-until}
 use lib.Seq.{length-take-le}
@@ -21,7 +22,7 @@ use Rattle.writer.proofs.Laws.{start, then, front-within, front-is}
 use Rattle.spot.specs.declared.Spot.{Spot}
 use Rattle.words.specs.declared.Where.{Where}
 use Rattle.words.specs.declared.Breach.{Breach}
-use Rattle.words.specs.declared.Breach.the-variants.{Unlisted}
+use Rattle.words.specs.declared.Breach.the-variants.{Unsaid}
 use Rattle.words.specs.Words.{saying, breachWords, breachOf, wordsOf, once, ofSegment, fieldText, spotText, placeText, wordsText}
 
 -- ---- the place
@@ -94,12 +95,11 @@ module _ (n j : Name) (f : ℕ) (e : n ≡ j) where
   pub breach-there : (k : ℕ) (b : Breach) → f ≡ k → b ≡ breachOf j k → b ≡ breachOf n f
   breach-there k b h g = rw (e, h) g
 
-  pub breach-other : Unlisted ≡ breachOf j f → Unlisted ≡ breachOf n f
+  pub breach-other : Unsaid ≡ breachOf j f → Unsaid ≡ breachOf n f
   breach-other g = rw e g
 
 pub breach-past : (f k : ℕ) (x y z : Breach) → (f ≡ k → ⊥) → z ≡ y → z ≡ cond (eqb k f) x y
 breach-past f k x y z h e = rw (ne-eqb k f (λ g. h (sym g))) e
 
-pub breach-past-three : (f i j k : ℕ) (x y w v z : Breach) → (f ≡ i → ⊥) → (f ≡ j → ⊥) → (f ≡ k → ⊥) → z ≡ v → z ≡ cond (eqb i f) x (cond (eqb j f) y (cond (eqb k f) w v))
-breach-past-three f i j k x y w v z hi hj hk e =
-    breach-past f i x (cond (eqb j f) y (cond (eqb k f) w v)) z hi (breach-past f j y (cond (eqb k f) w v) z hj (breach-past f k w v z hk e))
+pub breach-same : (t : Bool) (y z : Breach) → z ≡ y → z ≡ cond t z y
+breach-same t y z e = cases t (λ h. rw h refl) (λ h. rw h e)

@@ -19,7 +19,7 @@ use Rattle.spot.specs.declared.Spot.{Spot}
 use Rattle.words.specs.declared.Where.{Where}
 use Rattle.words.specs.declared.Where.the-variants.{Nowhere, AtSpot, AtSegment, AtLine, AtField}
 use Rattle.words.specs.declared.Breach.{Breach}
-use Rattle.words.specs.declared.Breach.the-variants.{NoTime, NoDate, NoNumber, NoText, NoDigits, NoCapitals, NoWord, NoCode, NoCharset, NoName, NoValue, Unlisted}
+use Rattle.words.specs.declared.Breach.the-variants.{NoTime, NoDate, NoDigits, NoWord, NoCode, NoCharset, NoValue, Unsaid}
 
 -- ---- the table: the place that is told, and the words
 pub record Saying : Type 0 where
@@ -58,29 +58,27 @@ saying Room = Nowhere says "the lent buffer is too short"
 unfoldable pub breachWords : Breach → String
 breachWords NoTime = "not a time that exists"
 breachWords NoDate = "not a date that exists"
-breachWords NoNumber = "not a number"
-breachWords NoText = "not a text"
 breachWords NoDigits = "not the digits that it takes"
-breachWords NoCapitals = "not capitals and digits"
 breachWords NoWord = "not one of its words"
 breachWords NoCode = "not the code and coding system that it takes"
 breachWords NoCharset = "not the repetition separator and ISO IR87"
-breachWords NoName = "not a name"
 breachWords NoValue = "not a value of its type"
-breachWords Unlisted = saying Value .words
+breachWords Unsaid = saying Value .words
 
+-- a text has no rule but its length, which is 24; no field is a number or capitals alone
 abbrev pub ruleBreach : Rule → Breach
 ruleBreach time = NoTime
 ruleBreach date = NoDate
-ruleBreach number = NoNumber
-ruleBreach (text n) = NoText
+ruleBreach number = Unsaid
+ruleBreach (text n) = Unsaid
 ruleBreach (digits n) = NoDigits
-ruleBreach (capitals n) = NoCapitals
+ruleBreach (capitals n) = Unsaid
 ruleBreach (words ws) = NoWord
 
+-- the names of PID-5 are texts
 abbrev pub formBreach : Form → Breach
 formBreach charset = NoCharset
-formBreach names = NoName
+formBreach names = Unsaid
 formBreach value = NoValue
 
 -- one component has its rule's words; several have those of words if they are words alone, else they are a code and its coding system
@@ -94,12 +92,12 @@ isWords (capitals n) = false
 isWords (words ws) = true
 
 unfoldable pub readBreach : List Place → Breach
-readBreach [] = Unlisted
+readBreach [] = Unsaid
 readBreach (p ∷ []) = ruleBreach (p .rule)
 readBreach (p ∷ q ∷ ps) = cond (all (λ (r : Place). isWords (r .rule)) (p ∷ q ∷ ps)) NoWord NoCode
 
 unfoldable pub breachIn : List Field → ℕ → Breach
-breachIn [] f = Unlisted
+breachIn [] f = Unsaid
 breachIn (reads n ps ∷ fs) f = cond (eqb n f) (readBreach ps) (breachIn fs f)
 breachIn (closed n k ∷ fs) f = cond (eqb n f) (formBreach k) (breachIn fs f)
 

@@ -22,20 +22,16 @@ pub enum Where {
     AtField,
 }
 
-// What 25 says of a field: what its value is not.
+// What 25 says of a field: what its value is not, or no more than that it breaks its rule.
 pub enum Breach {
     NoTime,
     NoDate,
-    NoNumber,
-    NoText,
     NoDigits,
-    NoCapitals,
     NoWord,
     NoCode,
     NoCharset,
-    NoName,
     NoValue,
-    Unlisted,
+    Unsaid,
 }
 
 // A refusal in words, one line: `name` is that of the segment that it names (Other where it names none), `spot` the place in the text.
@@ -141,25 +137,17 @@ fn breach_words(breach: Breach) -> [u8; 82]
             *b"not a time that exists|                                                           ",
         Breach::NoDate =>
             *b"not a date that exists|                                                           ",
-        Breach::NoNumber =>
-            *b"not a number|                                                                     ",
-        Breach::NoText =>
-            *b"not a text|                                                                       ",
         Breach::NoDigits =>
             *b"not the digits that it takes|                                                     ",
-        Breach::NoCapitals =>
-            *b"not capitals and digits|                                                          ",
         Breach::NoWord =>
             *b"not one of its words|                                                             ",
         Breach::NoCode =>
             *b"not the code and coding system that it takes|                                     ",
         Breach::NoCharset =>
             *b"not the repetition separator and ISO IR87|                                        ",
-        Breach::NoName =>
-            *b"not a name|                                                                       ",
         Breach::NoValue =>
             *b"not a value of its type|                                                          ",
-        Breach::Unlisted =>
+        Breach::Unsaid =>
             *b"breaks its rule|                                                                  ",
     }
 }
@@ -186,9 +174,6 @@ fn breach_of(name: Name, field: usize) -> Breach
             if field == 9 {
                 return Breach::NoWord;
             }
-            if field == 10 {
-                return Breach::NoText;
-            }
             if field == 11 {
                 return Breach::NoWord;
             }
@@ -198,28 +183,22 @@ fn breach_of(name: Name, field: usize) -> Breach
             if field == 18 {
                 return Breach::NoCharset;
             }
-            Breach::Unlisted
+            Breach::Unsaid
         }
         Name::Pid => {
-            if field == 3 {
-                return Breach::NoText;
-            }
-            if field == 5 {
-                return Breach::NoName;
-            }
             if field == 7 {
                 return Breach::NoDate;
             }
             if field == 8 {
                 return Breach::NoWord;
             }
-            Breach::Unlisted
+            Breach::Unsaid
         }
         Name::Pv1 => {
             if field == 2 {
                 return Breach::NoWord;
             }
-            Breach::Unlisted
+            Breach::Unsaid
         }
         Name::Spm => {
             if field == 4 {
@@ -228,7 +207,7 @@ fn breach_of(name: Name, field: usize) -> Breach
             if field == 17 {
                 return Breach::NoTime;
             }
-            Breach::Unlisted
+            Breach::Unsaid
         }
         Name::Obr => {
             if field == 2 {
@@ -237,7 +216,7 @@ fn breach_of(name: Name, field: usize) -> Breach
             if field == 4 {
                 return Breach::NoCode;
             }
-            Breach::Unlisted
+            Breach::Unsaid
         }
         Name::Orc => {
             if field == 1 {
@@ -246,7 +225,7 @@ fn breach_of(name: Name, field: usize) -> Breach
             if field == 2 {
                 return Breach::NoDigits;
             }
-            Breach::Unlisted
+            Breach::Unsaid
         }
         Name::Obx => {
             if field == 2 {
@@ -258,18 +237,15 @@ fn breach_of(name: Name, field: usize) -> Breach
             if field == 5 {
                 return Breach::NoValue;
             }
-            if field == 6 {
-                return Breach::NoText;
-            }
             if field == 8 {
                 return Breach::NoWord;
             }
             if field == 11 {
                 return Breach::NoWord;
             }
-            Breach::Unlisted
+            Breach::Unsaid
         }
-        Name::Other => Breach::Unlisted,
+        Name::Other => Breach::Unsaid,
     }
 }
 

@@ -2,7 +2,7 @@
 use Rattle.rules.specs.Lists.{all}
 use Rattle.rules.specs.Places.{places}
 use Rattle.words.specs.Words.{breachOf, breachIn, readBreach}
-use Rattle.words.proofs.Laws.{breach-there, breach-other, breach-past, breach-past-three}
+use Rattle.words.proofs.Laws.{breach-there, breach-other, breach-past, breach-same}
 use borrow.Author.Needs.{needs}
 use Rattle.words.proofs.breach_of.Statement.{statement}
 use Rattle.words.proofs.breach_of.Tie as tie
@@ -85,51 +85,35 @@ returns-19 c = search (breach-there, needs)
 
 returns-20 : tie.Need-returns-20
 unfolding breachOf breachIn readBreach places all
-returns-20 c = search (breach-there, needs)
+returns-20 c = search (breach-other, breach-past, breach-same, needs) depth 9
 
 returns-21 : tie.Need-returns-21
 unfolding breachOf breachIn readBreach places all
-returns-21 c = search (breach-there, needs)
+returns-21 c = search (breach-other, breach-past, breach-same, needs) depth 9
 
 returns-22 : tie.Need-returns-22
 unfolding breachOf breachIn readBreach places all
-returns-22 c = search (breach-there, needs)
+returns-22 c = search (breach-other, breach-past, breach-same, needs) depth 9
 
 returns-23 : tie.Need-returns-23
 unfolding breachOf breachIn readBreach places all
-returns-23 c = search (breach-there, needs)
+returns-23 c = search (breach-other, breach-past, breach-same, needs) depth 9
 
 returns-24 : tie.Need-returns-24
 unfolding breachOf breachIn readBreach places all
-returns-24 c = search (breach-other, breach-past-three, needs)
+returns-24 c = search (breach-other, breach-past, breach-same, needs) depth 9
 
 returns-25 : tie.Need-returns-25
 unfolding breachOf breachIn readBreach places all
-returns-25 c = search (breach-other, breach-past, needs)
+returns-25 c = search (breach-other, breach-past, breach-same, needs) depth 9
 
 returns-26 : tie.Need-returns-26
 unfolding breachOf breachIn readBreach places all
-returns-26 c = search (breach-other, breach-past, needs)
+returns-26 c = search (breach-other, breach-past, breach-same, needs) depth 9
 
 returns-27 : tie.Need-returns-27
 unfolding breachOf breachIn readBreach places all
-returns-27 c = search (breach-other, breach-past, needs)
-
-returns-28 : tie.Need-returns-28
-unfolding breachOf breachIn readBreach places all
-returns-28 c = search (breach-other, breach-past, needs)
-
-returns-29 : tie.Need-returns-29
-unfolding breachOf breachIn readBreach places all
-returns-29 c = search (breach-other, breach-past, needs)
-
-returns-30 : tie.Need-returns-30
-unfolding breachOf breachIn readBreach places all
-returns-30 c = search (breach-other, breach-past-three, needs)
-
-returns-31 : tie.Need-returns-31
-unfolding breachOf breachIn readBreach places all
-returns-31 c = search (breach-other, breach-past, needs)
+returns-27 c = search (breach-other, breach-past, breach-same, needs) depth 9
 
 pub breach-of-spec : {M : Type 1} → statement M
 breach-of-spec =
@@ -141,36 +125,32 @@ breach-of-spec =
     returns-3
     returns-4
     returns-5
-    returns-6
     (λ c. search needs)
+    returns-6
     returns-7
+    (λ c. search needs)
     returns-8
+    (λ c. search needs)
     returns-9
     returns-10
     (λ c. search needs)
     returns-11
-    (λ c. search needs)
     returns-12
+    (λ c. search needs)
     returns-13
-    (λ c. search needs)
     returns-14
-    returns-15
     (λ c. search needs)
+    returns-15
     returns-16
     returns-17
-    (λ c. search needs)
     returns-18
     returns-19
+    (λ c. search needs)
     returns-20
     returns-21
     returns-22
     returns-23
-    (λ c. search needs)
     returns-24
     returns-25
     returns-26
-    returns-27
-    returns-28
-    returns-29
-    returns-30
-    returns-31)
+    returns-27)

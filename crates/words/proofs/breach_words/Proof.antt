@@ -39,28 +39,12 @@ returns-8 : tie.Need-returns-8
 unfolding until bytes breachWords saying
 returns-8 c = search (breach-words, needs)
 
-returns-9 : tie.Need-returns-9
-unfolding until bytes breachWords saying
-returns-9 c = search (breach-words, needs)
-
-returns-10 : tie.Need-returns-10
-unfolding until bytes breachWords saying
-returns-10 c = search (breach-words, needs)
-
-returns-11 : tie.Need-returns-11
-unfolding until bytes breachWords saying
-returns-11 c = search (breach-words, needs)
-
-returns-12 : tie.Need-returns-12
-unfolding until bytes breachWords saying
-returns-12 c = search (breach-words, needs)
-
 pub breach-words-spec : {M : Type 1} → statement M
 breach-words-spec =
     tie.close
     (tie.spec
     (λ c. search needs) (λ c. search needs) (λ c. search needs) (λ c. search needs) (λ c. search needs) (λ c. search needs) (λ c. search needs)
-    (λ c. search needs) (λ c. search needs) (λ c. search needs) (λ c. search needs) (λ c. search needs)
+    (λ c. search needs)
     returns
     returns-2
     returns-3
@@ -68,8 +52,4 @@ breach-words-spec =
     returns-5
     returns-6
     returns-7
-    returns-8
-    returns-9
-    returns-10
-    returns-11
-    returns-12)
+    returns-8)
