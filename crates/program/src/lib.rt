@@ -14,22 +14,22 @@ pub enum Input {
     Failed,
 }
 
-// Reads the file that the last argument names, or standard input where there is none. Before it stand `words` words, the program's own name among them.
-pub fn read_input(program: &[u8], usage: &[u8], words: usize, buf: &mut [u8]) -> Input
+// Reads the file that the last argument names, or standard input where there is none. Before it stand `others` arguments, the program's own name among them.
+pub fn read_input(program: &[u8], usage: &[u8], others: usize, buf: &mut [u8]) -> Input
     ensures { λ r. ⌜ Within (length (now (buf .exit))) r ⌝ }
 {
     let given = os::arg_count();
-    if given == words {
+    if given == others {
         return read_standard(program, buf);
     }
-    if given < words {
+    if given < others {
         return explain(usage);
     }
-    if given - words != 1 {
+    if given - others != 1 {
         return explain(usage);
     }
     let mut path = io::buffer();
-    let n = os::arg(words, &mut path);
+    let n = os::arg(others, &mut path);
     if os::errno() != 0 {
         return fail(program, b"FILE");
     }
@@ -133,15 +133,7 @@ pub fn explain(usage: &[u8]) -> Input
 // ---- output
 // Hands bytes, and what ends them, to standard output, and closes it: some file systems tell a full disk only then.
 pub fn output(program: &[u8], bytes: &[u8], end: &[u8]) {
-    if !io::write_all(1, bytes) {
-        fail(program, b"standard output");
-        return;
-    }
-    if !io::write_all(1, end) {
-        fail(program, b"standard output");
-        return;
-    }
-    if libc::close(1) < 0 {
+    if !(io::write_all(1, bytes) && io::write_all(1, end) && libc::close(1) == 0) {
         fail(program, b"standard output");
     }
 }
