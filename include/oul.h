@@ -9,7 +9,8 @@
  * A pointer is to as many bytes as the length after it says. A length may be 0; its pointer may then be NULL. What a call is lent to read may overlap nothing that
  * it is lent to write, told among it. A refusal leaves every byte of a lent buffer.
  *
- * The library keeps no state: any number of threads may call it at once. It takes no memory but the stack, so many bytes at most:
+ * The library keeps no state: any number of threads may call it at once. It takes no memory but the stack, so many bytes at most (measured,
+ * not proved), beside what memcpy and memset take:
  *
  *     oul_check         2048
  *     oul_locate        2304

@@ -26,6 +26,8 @@ fn check(m: &[u8]) {
             let n = told::of_counts(&mut lines, counts);
             program::output(&NAME, &lines[..n], b"");
         }
-        Answer::Refused(refusal) => program::refuse_message(&NAME, m, refusal),
+        Answer::Refused(refusal) => {
+            program::refuse_message(&NAME, m, refusal);
+        }
     }
 }

@@ -95,6 +95,8 @@ fn fetch(m: &[u8], ordinal: usize, field: usize, component: usize) {
     let answer = oul::locate(m, ordinal, field, component);
     match answer {
         Fetched::At(_) => program::output(&NAME, oul::bytes_of(m, answer), b"\n"),
-        Fetched::NotFetched(refusal) => program::refuse_message(&NAME, m, refusal),
+        Fetched::NotFetched(refusal) => {
+            program::refuse_message(&NAME, m, refusal);
+        }
     }
 }

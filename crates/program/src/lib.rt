@@ -5,6 +5,8 @@ use rules::Name;
 use rules::Refusal;
 ghost use mathlib.Core.Path.{_≡_};
 ghost use lib.ListN.{length, take};
+ghost use Rattle.rules.specs.Lists.{bytes};
+ghost use Rattle.told.specs.Told.{refusalText};
 ghost use Rattle.program.specs.Reading.{endingOf, Within};
 
 // ---- input
@@ -138,19 +140,25 @@ pub fn output(program: &[u8], bytes: &[u8], end: &[u8]) {
     }
 }
 
-// ---- a refusal: three lines on standard output, and a line in words on standard error
-pub fn refuse_message(program: &[u8], m: &[u8], refusal: Refusal) {
+// ---- a refusal: three lines on standard output, how many bytes they have, and a line in words on standard error
+pub fn refuse_message(program: &[u8], m: &[u8], refusal: Refusal) -> usize
+    ensures { λ r. ⌜ r ≡ length (refusalText (bytes "segment=") refusal) ⌝ }
+{
     let mut lines = [0u8; 96];
     let n = told::of_message(&mut lines, refusal);
     output(program, &lines[..n], b"");
     say_in_words(m, refusal, segment_name(m, refusal.segment));
+    n
 }
 
-pub fn refuse_sheet(program: &[u8], sheet: &[u8], refusal: Refusal) {
+pub fn refuse_sheet(program: &[u8], sheet: &[u8], refusal: Refusal) -> usize
+    ensures { λ r. ⌜ r ≡ length (refusalText (bytes "line=") refusal) ⌝ }
+{
     let mut lines = [0u8; 96];
     let n = told::of_sheet(&mut lines, refusal);
     output(program, &lines[..n], b"");
     say_in_words(sheet, refusal, Name::Other);
+    n
 }
 
 fn say_in_words(text: &[u8], refusal: Refusal, name: Name) {
