@@ -157,7 +157,7 @@ pub back : (x y b : List ℕ) (at f r : ℕ) → f ≡ least at (length x) → F
 unfolding fillAt
 back x y b at f r e q = record { ends = omega (arith, q .ends); is = rw (q .is, rest-is, tail-none, append-nil, e) }
 
-add-twice : (at : ℕ) (b c x : List ℕ) → fillAt (at + length b) c (fillAt at b x) ≡ fillAt at (b ++ c) x
+pub add-twice : (at : ℕ) (b c x : List ℕ) → fillAt (at + length b) c (fillAt at b x) ≡ fillAt at (b ++ c) x
 unfolding fillAt least
 add-twice zero b c x = rw (zero-add, length-fill b x) (fill-more b c x)
 add-twice (suc at) b c [] = rw (fill-nil b, suc-add) (rw (fill-nil c, fill-nil (b ++ c)))

@@ -1,6 +1,6 @@
 -- What the call tells and leaves, case by case. Assumes nothing.
 use mathlib.Core.Path.{_≡_, refl, sym, ap, _∙_}
-use mathlib.Core.Bool.{Bool, true, false, not, _||_}
+use mathlib.Core.Bool.{Bool, true, false, not, _&&_, _||_}
 use mathlib.Core.List.{List, [], _∷_}
 use Prim.Native.Nat.{ℕ, suc, _-_, _≤_, _<_}
 use native.Mathlib.Omega.{arith}
@@ -28,7 +28,7 @@ use Rattle.compose.specs.declared.Size.{Size}
 use Rattle.compose.specs.declared.Passed.{Passed}
 use Rattle.compose.specs.declared.Passed.the-variants.{All, Not}
 use Rattle.compose.specs.Compose.{toldSize, refusalAt, sizeOf, rowsIn, sizeTold, Right, Pass}
-use Rattle.to_message.specs.Call.{composedTold}
+use Rattle.to_message.specs.Call.{judgedTold}
 
 -- the writer's delimiters keep the header rule
 pub base-proper : (d : Delims) → d ≡ base → Proper d
@@ -38,43 +38,47 @@ base-proper d e = rw e (proper base (unfold delimsOk base all any has distinct b
 kept : (x : List ℕ) (k : Refusal) → Call (refusal k) x (NotWritten k) x
 kept x k = record { told = refl; buffer = refl }
 
+-- ---- a sheet s that was read: its length, and its rows
+module _ (s : List ℕ) (rows : List Row) (e : readSheet s ≡ gives rows) where
+  read-short : length s ≤ 65536
+  unfolding readSheet
+  read-short = ltb-false 65536 (length s) (guard 40 0 0 (ltb 65536 (length s)) _ rows e .0)
+
+  read-rows : rowsIn s ≡ gives rows
+  unfolding readSheet
+  read-rows = guard 41 0 0 (not (keeps 0x0A s && empty (last (split 0x0A s)))) (rowsIn s) rows (guard 40 0 0 (ltb 65536 (length s)) _ rows e .1) .1
+
 -- ---- 44, 45, and the message, where the sheet s gives one of this size
-module _ (d : Delims) (s : List ℕ) (size : Size) (g : gives size ≡ sizeTold d s) where
+module _ (s : List ℕ) (size : Size) (g : gives size ≡ judgedTold s) where
   -- its rows
-  measured : {P : Type 0} → ((rows : List Row) → rowsIn s ≡ gives rows → size ≡ sizeOf d rows → P) → P
-  measured f = toldCases (rowsIn s) (λ rows e. f rows e (cc (rw e at g))) (λ n a b e. not-given (sym (rw e at g)))
+  measured : {P : Type 0} → ((rows : List Row) → readSheet s ≡ gives rows → size ≡ sizeOf base rows → P) → P
+  unfolding judgedTold
+  measured f = toldCases (readSheet s) (λ rows e. f rows e (cc (rw e at g))) (λ n a b e. not-given (sym (rw e at g)))
+
+  pub measured-short : length s ≤ 65536
+  measured-short = measured (λ rows e z. read-short s rows e)
 
   pub measured-right : Right s
-  measured-right = measured (λ rows e z. record { rows = rows; told = e })
+  measured-right = measured (λ rows e z. record { rows = rows; told = read-rows s rows e })
 
   module _ (x : List ℕ) where
     module _ (k : Refusal) where
-      pub write-44 : (ltb 32768 (size .bytes) || ltb 512 (size .segments)) ≡ true → k ≡ refusalAt Overflow 0 → Call (composedTold d s (length x)) x (NotWritten k) x
-      unfolding composedTold messageTold
+      pub write-44 : (ltb 32768 (size .bytes) || ltb 512 (size .segments)) ≡ true → k ≡ refusalAt Overflow 0 → Call (toMessage s (length x)) x (NotWritten k) x
+      unfolding toMessage messageTold
       write-44 h f = measured (λ rows e z. called-as {u = refusal k} (rw (e, rw z at h) (ap refusal (sym f))) (kept x k))
 
     module _ (h : (ltb 32768 (size .bytes) || ltb 512 (size .segments)) ≡ false) where
-      pub write-45 : (k : Refusal) → length x < size .bytes → k ≡ refusalAt Room 0 → Call (composedTold d s (length x)) x (NotWritten k) x
-      unfolding composedTold messageTold
+      pub write-45 : (k : Refusal) → length x < size .bytes → k ≡ refusalAt Room 0 → Call (toMessage s (length x)) x (NotWritten k) x
+      unfolding toMessage messageTold
       write-45 k l f = measured (λ rows e z. called-as {u = refusal k} (rw (e, rw z at h, lt-ltb (length x) _ (rw z at l)) (ap refusal (sym f))) (kept x k))
 
-      pub write-all : size .bytes ≤ length x → (p : Passed) (y : List ℕ) → Pass d s x p y → Call (composedTold d s (length x)) x (Wrote (size .bytes)) y
-      unfolding composedTold messageTold Over.over
-      write-all l p y t =
-          measured (λ rows e z. called-as {u = gives (messageOf d rows)} (rw (e, rw z at h, le-ltb (length x) _ (rw z at l)))
-          (record { told = ap (λ (v : Size). gives (v .bytes)) z; buffer = t .wrote rows e (rw z at l) }))
-
--- ---- the first pass over the sheet's groups: p is what it tells
-module _ (d : Delims) (s z : List ℕ) (p : Passed) (y : List ℕ) (t : Pass d s z p y) where
-  pub pass-all : (size : Size) → p ≡ All size → gives size ≡ sizeTold d s
-  pass-all size f = sym (ap toldSize f) ∙ t .told
-
-  pass-refused : (room : ℕ) (k : Refusal) → p ≡ Not k → composedTold d s room ≡ refusal k
-  unfolding composedTold
-  pass-refused room k f = toldCases (rowsIn s) (λ rows e. not-given (rw (f, e) at (t .told))) (λ n a b e. rw e (same n a b (rw (f, e) at (t .told))))
-    where
-      same : (n a b : ℕ) → _≡_ {A = Told Size} (refusal k) (refused n a b) → _≡_ {A = Told (List ℕ)} (refused n a b) (refusal k)
-      same n a b h = cc
+      pub write-all : size .bytes ≤ length x → (d : Delims) → d ≡ base → (p : Passed) (y : List ℕ) → Pass d s x p y →
+          Call (toMessage s (length x)) x (Wrote (size .bytes)) y
+      unfolding toMessage messageTold Over.over
+      write-all l d b p y t =
+          let t : Pass base s x p y = rw b at t in
+          measured (λ rows e z. called-as {u = gives (messageOf base rows)} (rw (e, rw z at h, le-ltb (length x) _ (rw z at l)))
+          (record { told = ap (λ (v : Size). gives (v .bytes)) z; buffer = t .wrote rows (read-rows s rows e) (rw z at l) }))
 
 -- ---- what is written has room
 has-room : (d : Delims) (rows : List Row) (room : ℕ) (m : List ℕ) → messageTold d rows room ≡ gives m → length m ≤ room
@@ -105,28 +109,38 @@ answers s {x} {t} {r} c e = let q : Call (toMessage s (length x)) x r _ = called
 pub refuses : (s : List ℕ) {x : List ℕ} {k : Refusal} → toMessage s (length x) ≡ refusal k → Promise s x (NotWritten k) x
 refuses s {x} {k} e = answers s (kept x k) e
 
-module _ (s : List ℕ) (room : ℕ) where
-  pub call-40 : (k : Refusal) → 65536 < length s → k ≡ refusalAt SheetTooLong 0 → toMessage s room ≡ refusal k
-  unfolding toMessage readSheet
-  call-40 k l f = rw (lt-ltb 65536 (length s) l) (ap refusal (sym f))
+-- a sheet that is judged to be wrong
+pub call-refused : (s : List ℕ) (room : ℕ) (p : Passed) → toldSize p ≡ judgedTold s → (k : Refusal) → p ≡ Not k → toMessage s room ≡ refusal k
+unfolding toMessage judgedTold
+call-refused s room p t k f = toldCases (readSheet s) (λ rows e. not-given (rw (f, e) at t)) (λ n a b e. rw e (same n a b (rw (f, e) at t)))
+  where
+    same : (n a b : ℕ) → _≡_ {A = Told Size} (refusal k) (refused n a b) → _≡_ {A = Told (List ℕ)} (refused n a b) (refusal k)
+    same n a b h = cc
+
+pub call-judged : (s : List ℕ) (p : Passed) → toldSize p ≡ judgedTold s → (size : Size) → p ≡ All size → gives size ≡ judgedTold s
+call-judged s p t size f = sym (ap toldSize f) ∙ t
+
+-- ---- 40, 41, and the first pass over the sheet's groups
+module _ (s : List ℕ) where
+  pub judge-40 : (k : Refusal) → 65536 < length s → k ≡ refusalAt SheetTooLong 0 → refusal k ≡ judgedTold s
+  unfolding judgedTold readSheet
+  judge-40 k l f = rw (lt-ltb 65536 (length s) l) (ap refusal f)
 
   module _ (l : length s ≤ 65536) (q : Bool) (e : q ≡ keeps 0x0A s) where
-    pub call-41 : (k : Refusal) → not q ≡ true → k ≡ refusalAt SheetBytes 0 → toMessage s room ≡ refusal k
-    unfolding toMessage readSheet
-    call-41 k h f = rw (le-ltb 65536 (length s) l, ← e, not-true q h) (ap refusal (sym f))
+    pub judge-41 : (k : Refusal) → not q ≡ true → k ≡ refusalAt SheetBytes 0 → refusal k ≡ judgedTold s
+    unfolding judgedTold readSheet
+    judge-41 k h f = rw (le-ltb 65536 (length s) l, ← e, not-true q h) (ap refusal f)
 
     module _ (h : not q ≡ false) (u : Bool) (g : u ≡ empty (last (split 0x0A s))) where
-      pub call-41-end : (k : Refusal) → not u ≡ true → k ≡ refusalAt SheetBytes 0 → toMessage s room ≡ refusal k
-      unfolding toMessage readSheet
-      call-41-end k w f = rw (le-ltb 65536 (length s) l, ← e, not-false q h, ← g, not-true u w) (ap refusal (sym f))
+      pub judge-41-end : (k : Refusal) → not u ≡ true → k ≡ refusalAt SheetBytes 0 → refusal k ≡ judgedTold s
+      unfolding judgedTold readSheet
+      judge-41-end k w f = rw (le-ltb 65536 (length s) l, ← e, not-false q h, ← g, not-true u w) (ap refusal f)
 
-      module _ (w : not u ≡ false) (d : Delims) (b : d ≡ base) where
-        pub call-all : toMessage s room ≡ composedTold d s room
-        unfolding toMessage readSheet composedTold
-        call-all = rw (le-ltb 65536 (length s) l, ← e, not-false q h, ← g, not-false u w, b)
-
-        pub call-refused : (z : List ℕ) (p : Passed) (y : List ℕ) → Pass d s z p y → (k : Refusal) → p ≡ Not k → toMessage s room ≡ refusal k
-        call-refused z p y t k f = call-all ∙ pass-refused d s z p y t room k f
+      pub judge-all : not u ≡ false → (d : Delims) → d ≡ base → (z : List ℕ) (p : Passed) (y : List ℕ) → Pass d s z p y → toldSize p ≡ judgedTold s
+      unfolding judgedTold readSheet
+      judge-all w d b z p y t =
+          t .told ∙ ap (λ (v : Delims). sizeTold v s) b
+          ∙ sym (rw (le-ltb 65536 (length s) l, ← e, not-false q h, ← g, not-false u w))
 
 -- ---- the end of a sheet
 last-more : (x y : ℕ) (p q : List ℕ) (ps : List (List ℕ)) → empty (last ((x ∷ p) ∷ ps)) ≡ empty (last ((y ∷ q) ∷ ps))

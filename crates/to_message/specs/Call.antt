@@ -1,11 +1,12 @@
--- What is told of a sheet whose bytes are read.
+-- What is told of a sheet that is judged.
 use mathlib.Core.List.{List}
 use Prim.Native.Nat.{ℕ}
-use Rattle.rules.specs.declared.Delims.{Delims}
-use Rattle.rules.specs.Told.{Told, _>>=_}
-use Rattle.rules.specs.Message.{messageTold}
-use Rattle.compose.specs.Compose.{rowsIn}
+use Rattle.rules.specs.Told.{Told, gives, _>>=_}
+use Rattle.rules.specs.Sheet.{readSheet}
+use Rattle.rules.specs.Message.{base}
+use Rattle.compose.specs.declared.Size.{Size}
+use Rattle.compose.specs.Compose.{sizeOf}
 
--- the message of its rows, or 42 to 45 for a buffer of this room
-unfoldable pub composedTold : Delims → List ℕ → ℕ → Told (List ℕ)
-composedTold d s room = rowsIn s >>= λ rows. messageTold d rows room
+-- how many bytes and segments its message has, or what reading it refuses, 40 to 43
+unfoldable pub judgedTold : List ℕ → Told Size
+judgedTold s = readSheet s >>= λ rows. gives (sizeOf base rows)

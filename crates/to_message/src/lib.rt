@@ -11,9 +11,8 @@ ghost use lib.ListN.{length};
 ghost use Rattle.rules.specs.Told.{gives, over, toldLength, lengthOf, Call};
 ghost use Rattle.rules.specs.Lists.{empty, last, split};
 ghost use Rattle.rules.specs.Message.{base, toMessage};
-ghost use Rattle.rules.specs.Proper.{Proper};
-ghost use Rattle.compose.specs.Compose.{sizeTold};
-ghost use Rattle.to_message.specs.Call.{composedTold};
+ghost use Rattle.compose.specs.Compose.{toldSize};
+ghost use Rattle.to_message.specs.Call.{judgedTold};
 
 // Whether a sheet is empty or ends in 0A.
 fn ends(s: &[u8]) -> bool
@@ -39,10 +38,28 @@ fn delimiters() -> Delims
     }
 }
 
+// 40 to 43 of a sheet, or how many bytes and segments its message has.
+pub fn judge(sheet: &[u8]) -> Passed
+    ensures { λ r. ⌜ toldSize r ≡ judgedTold (now (sheet .entry)) ⌝ }
+{
+    if 65536 < sheet.len() {
+        return Passed::Not(compose::refused(Kind::SheetTooLong, 0));
+    }
+    if !scan::keeps(sheet, 0x0A) {
+        return Passed::Not(compose::refused(Kind::SheetBytes, 0));
+    }
+    if !ends(sheet) {
+        return Passed::Not(compose::refused(Kind::SheetBytes, 0));
+    }
+    let d = delimiters();
+    let mut nothing = [0u8; 0];
+    compose::pass(&mut nothing, sheet, d, false)
+}
+
 // 44, 45, or the message of a sheet that was judged and whose message has this size.
-fn write(out: &mut [u8], sheet: &[u8], d: Delims, size: Size) -> Written
-    requires { ⌜ (length (now sheet) ≤ 65536) × (gives size ≡ sizeTold d (now sheet)) × Proper d ⌝ }
-    ensures { λ r. ⌜ Call (composedTold d (now (sheet .entry)) (length (now (out .entry)))) (now (out .entry)) r (now (out .exit)) ⌝ }
+fn write(out: &mut [u8], sheet: &[u8], size: Size) -> Written
+    requires { ⌜ gives size ≡ judgedTold (now sheet) ⌝ }
+    ensures { λ r. ⌜ Call (toMessage (now (sheet .entry)) (length (now (out .entry)))) (now (out .entry)) r (now (out .exit)) ⌝ }
 {
     let bytes = size.bytes;
     let segments = size.segments;
@@ -52,6 +69,7 @@ fn write(out: &mut [u8], sheet: &[u8], d: Delims, size: Size) -> Written
     if out.len() < bytes {
         return Written::NotWritten(compose::refused(Kind::Room, 0));
     }
+    let d = delimiters();
     compose::pass(out, sheet, d, true);
     Written::Wrote(bytes)
 }
@@ -62,19 +80,8 @@ pub fn to_message(sheet: &[u8], out: &mut [u8]) -> Written
     ensures buffer { λ r. ⌜ now (out .exit) ≡ over (toMessage (now (sheet .entry)) (length (now (out .entry)))) (now (out .entry)) ⌝ }
     ensures within { λ r. ⌜ ((n : ℕ) → r ≡ Written.Wrote n → n ≤ length (now (out .entry))) ⌝ }
 {
-    if 65536 < sheet.len() {
-        return Written::NotWritten(compose::refused(Kind::SheetTooLong, 0));
-    }
-    if !scan::keeps(sheet, 0x0A) {
-        return Written::NotWritten(compose::refused(Kind::SheetBytes, 0));
-    }
-    if !ends(sheet) {
-        return Written::NotWritten(compose::refused(Kind::SheetBytes, 0));
-    }
-    let d = delimiters();
-    let mut nothing = [0u8; 0];
-    match compose::pass(&mut nothing, sheet, d, false) {
+    match judge(sheet) {
         Passed::Not(r) => Written::NotWritten(r),
-        Passed::All(size) => write(out, sheet, d, size),
+        Passed::All(size) => write(out, sheet, size),
     }
 }

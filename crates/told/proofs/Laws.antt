@@ -10,9 +10,11 @@ use Rattle.rules.specs.Told.{number}
 use Rattle.rules.specs.Lists.{bytes}
 use Rattle.rules.specs.Message.{decimal}
 use Rattle.rules.proofs.Measures.{tens, decimal-few}
+use Rattle.csv_rules.specs.declared.Fault.{Fault}
+use Rattle.csv_rules.specs.Answers.{faultNumber}
 use Rattle.writer.specs.Over.{Wrote, Put}
 use Rattle.writer.proofs.Laws.{then, front-within, front-is}
-use Rattle.told.specs.Told.{lineText, refusalText, countsText}
+use Rattle.told.specs.Told.{lineText, threeText, refusalText, faultText, countsText}
 
 -- ---- a number of 64 bits
 pub number-short : (n : ℕ) → n < 18446744073709551616 → length (decimal n) ≤ 20
@@ -28,11 +30,20 @@ module _ (left right : List ℕ) (n : ℕ) (old x y z : List ℕ) (k m r : ℕ) 
   numbered-short h = omega (arith, number-short n h, a .ends, b .ends, c .ends)
 
 -- ---- three lines
-module _ (place : List ℕ) (f : Refusal) (old x y z : List ℕ) (i k m r : ℕ) (e : i ≡ number (f .kind)) (a : Wrote k x (lineText (114 ∷ 101 ∷ 102 ∷ 117 ∷ 115 ∷ 101 ∷ 100 ∷ 61 ∷ []) i) old)
-    (b : Put k x (lineText place (f .segment)) m y) (c : Put m y (lineText (102 ∷ 105 ∷ 101 ∷ 108 ∷ 100 ∷ 61 ∷ []) (f .field)) r z) where
-  pub three-is : Wrote r z (refusalText place f) old
-  unfolding refusalText bytes
-  three-is = then (then (rw e at a) b) c
+module _ (place : List ℕ) (n s f : ℕ) (old x y z : List ℕ) (k m r : ℕ) (a : Wrote k x (lineText (114 ∷ 101 ∷ 102 ∷ 117 ∷ 115 ∷ 101 ∷ 100 ∷ 61 ∷ []) n) old)
+    (b : Put k x (lineText place s) m y) (c : Put m y (lineText (102 ∷ 105 ∷ 101 ∷ 108 ∷ 100 ∷ 61 ∷ []) f) r z) where
+  pub three-is : Wrote r z (threeText place n s f) old
+  unfolding threeText bytes
+  three-is = then (then a b) c
+
+module _ (old z : List ℕ) (n r : ℕ) where
+  pub refused-is : (place : List ℕ) (f : Refusal) → n ≡ number (f .kind) → Wrote r z (threeText place n (f .segment) (f .field)) old → Wrote r z (refusalText place f) old
+  unfolding refusalText
+  refused-is place f e w = rw e at w
+
+  pub fault-is : (f : Fault) → n ≡ faultNumber f → Wrote r z (threeText (108 ∷ 105 ∷ 110 ∷ 101 ∷ 61 ∷ []) n 0 0) old → Wrote r z (faultText f) old
+  unfolding faultText bytes
+  fault-is f e w = rw e at w
 
 module _ (n : Counts) (old x y z : List ℕ) (k m r : ℕ) (a : Wrote k x (lineText (bytes "spm=") (n .spm)) old) (b : Put k x (lineText (bytes "obr=") (n .obr)) m y)
     (c : Put m y (lineText (bytes "obx=") (n .obx)) r z) where

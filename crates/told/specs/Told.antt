@@ -8,13 +8,22 @@ use Rattle.rules.specs.declared.Refusal.{Refusal}
 use Rattle.rules.specs.Told.{number}
 use Rattle.rules.specs.Lists.{bytes}
 use Rattle.rules.specs.Message.{decimal}
+use Rattle.csv_rules.specs.declared.Fault.{Fault}
+use Rattle.csv_rules.specs.Answers.{faultNumber}
 
 -- a key, a number and 0A
 unfoldable pub lineText : List ℕ → ℕ → List ℕ
 lineText key n = key ++ decimal n ++ (0x0A ∷ [])
 
+unfoldable pub threeText : List ℕ → ℕ → ℕ → ℕ → List ℕ
+threeText place n s f = lineText (bytes "refused=") n ++ lineText place s ++ lineText (bytes "field=") f
+
 unfoldable pub refusalText : List ℕ → Refusal → List ℕ
-refusalText place r = lineText (bytes "refused=") (number (r .kind)) ++ lineText place (r .segment) ++ lineText (bytes "field=") (r .field)
+refusalText place r = threeText place (number (r .kind)) (r .segment) (r .field)
+
+-- 50 to 54 name no line
+unfoldable pub faultText : Fault → List ℕ
+faultText f = threeText (bytes "line=") (faultNumber f) 0 0
 
 -- "The check gives the counts of SPM, OBR and OBX."
 unfoldable pub countsText : Counts → List ℕ

@@ -1,4 +1,5 @@
-// What the programs print on standard output, as texts: the counts, and a refusal in three lines.
+// What the programs print on standard output, as texts: the counts, a number, and a refusal in three lines.
+use csv_rules::Fault;
 use rules::Counts;
 use rules::Refusal;
 ghost use mathlib.Core.Path.{_≡_};
@@ -8,14 +9,14 @@ ghost use lib.ListN.{length};
 ghost use Rattle.rules.specs.Lists.{bytes};
 ghost use Rattle.rules.specs.Message.{decimal};
 ghost use Rattle.writer.specs.Over.{Wrote, Put};
-ghost use Rattle.told.specs.Told.{lineText, refusalText, countsText, Front};
+ghost use Rattle.told.specs.Told.{lineText, threeText, refusalText, faultText, countsText, Front};
 
 // A message's refusal names its segment.
 pub fn of_message(out: &mut [u8; 96], refusal: Refusal) -> usize
     ensures { λ r. ⌜ Wrote r (now (out .exit)) (refusalText (bytes "segment=") refusal) (now (out .entry)) ⌝ }
     ensures within { λ r. ⌜ Front r (now (out .exit)) ⌝ }
 {
-    three(out, b"segment=", refusal)
+    refused(out, b"segment=", refusal)
 }
 
 // A sheet's refusal names its line.
@@ -23,7 +24,24 @@ pub fn of_sheet(out: &mut [u8; 96], refusal: Refusal) -> usize
     ensures { λ r. ⌜ Wrote r (now (out .exit)) (refusalText (bytes "line=") refusal) (now (out .entry)) ⌝ }
     ensures within { λ r. ⌜ Front r (now (out .exit)) ⌝ }
 {
-    three(out, b"line=", refusal)
+    refused(out, b"line=", refusal)
+}
+
+// A file's fault names no line.
+pub fn of_fault(out: &mut [u8; 96], fault: Fault) -> usize
+    ensures { λ r. ⌜ Wrote r (now (out .exit)) (faultText fault) (now (out .entry)) ⌝ }
+    ensures within { λ r. ⌜ Front r (now (out .exit)) ⌝ }
+{
+    three(out, b"line=", csv_rules::fault_number(fault), 0, 0)
+}
+
+// A number, as how many sheets there are or which one.
+pub fn of_number(out: &mut [u8; 96], key: &[u8], n: usize) -> usize
+    requires { ⌜ length (now key) ≤ 8 ⌝ }
+    ensures { λ r. ⌜ Wrote r (now (out .exit)) (lineText (now (key .entry)) n) (now (out .entry)) ⌝ }
+    ensures within { λ r. ⌜ Front r (now (out .exit)) ⌝ }
+{
+    line(out, key, n)
 }
 
 // The counts of an accepted message.
@@ -39,14 +57,20 @@ pub fn of_counts(out: &mut [u8; 96], counts: Counts) -> usize
     line_at(out, second, b"obx=", obx)
 }
 
-fn three(out: &mut [u8], place: &[u8], refusal: Refusal) -> usize
+fn refused(out: &mut [u8], place: &[u8], refusal: Refusal) -> usize
     requires { ⌜ (96 ≤ length (now out)) × (length (now place) ≤ 8) ⌝ }
     ensures { λ r. ⌜ Wrote r (now (out .exit)) (refusalText (now (place .entry)) refusal) (now (out .entry)) ⌝ }
 {
     let kind = refusal.kind;
-    let number = rules::paper_number(kind);
     let segment = refusal.segment;
     let field = refusal.field;
+    three(out, place, rules::paper_number(kind), segment, field)
+}
+
+fn three(out: &mut [u8], place: &[u8], number: usize, segment: usize, field: usize) -> usize
+    requires { ⌜ (96 ≤ length (now out)) × (length (now place) ≤ 8) ⌝ }
+    ensures { λ r. ⌜ Wrote r (now (out .exit)) (threeText (now (place .entry)) number segment field) (now (out .entry)) ⌝ }
+{
     let first = line(out, b"refused=", number);
     let second = line_at(out, first, place, segment);
     line_at(out, second, b"field=", field)

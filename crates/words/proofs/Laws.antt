@@ -19,11 +19,12 @@ use Rattle.scan.proofs.Laws.{take-until}
 use lib.Seq.{length-take-le}
 use Rattle.writer.specs.Over.{Wrote, Put}
 use Rattle.writer.proofs.Laws.{start, then, front-within, front-is}
+use Rattle.csv_rules.specs.declared.Fault.{Fault}
 use Rattle.spot.specs.declared.Spot.{Spot}
 use Rattle.words.specs.declared.Where.{Where}
 use Rattle.words.specs.declared.Breach.{Breach}
 use Rattle.words.specs.declared.Breach.the-variants.{Unsaid}
-use Rattle.words.specs.Words.{saying, breachWords, breachOf, wordsOf, once, ofSegment, fieldText, spotText, placeText, wordsText}
+use Rattle.words.specs.Words.{saying, breachWords, breachOf, wordsOf, once, ofSegment, fieldText, spotText, placeText, wordsText, faultWords, faultText}
 
 -- ---- the place
 -- a name's bytes
@@ -103,3 +104,19 @@ breach-past f k x y z h e = rw (ne-eqb k f (λ g. h (sym g))) e
 
 pub breach-same : (t : Bool) (y z : Breach) → z ≡ y → z ≡ cond t z y
 breach-same t y z e = cases t (λ h. rw h refl) (λ h. rw h e)
+
+-- ---- a file's fault
+pub fault-words : (s : List ℕ) (f g : Fault) → f ≡ g → until (is 0x7C) s ≡ bytes (faultWords g) → until (is 0x7C) s ≡ bytes (faultWords f)
+fault-words s f g e h = rw e h
+
+module _ (f : Fault) (line : ℕ) (s old x y z : List ℕ) (k m r : ℕ) (a : Wrote k x ((108 ∷ 105 ∷ 110 ∷ 101 ∷ 32 ∷ []) ++ decimal line ++ (58 ∷ 32 ∷ [])) old) (e : until (is 0x7C) s ≡ bytes (faultWords f)) (b : Put k x (until (is 0x7C) s) m y)
+    (c : Put m y (0x0A ∷ []) r z) where
+  pub fault-are : Wrote r z (faultText f line) old
+  unfolding faultText bytes
+  fault-are = rw e at (then (then a b) c)
+
+  pub fault-within : r ≤ length z
+  fault-within = front-within r z (faultText f line) old fault-are
+
+  pub fault-front : r ≡ length (take r z)
+  fault-front = front-is r z (faultText f line) old fault-are

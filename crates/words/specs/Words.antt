@@ -15,6 +15,8 @@ use Rattle.rules.specs.Frame.{spelling, is}
 use Rattle.rules.specs.Value.{Rule, time, date, number, text, digits, capitals, words}
 use Rattle.rules.specs.Places.{Place, Form, charset, names, value, Field, reads, closed, places}
 use Rattle.rules.specs.Message.{decimal}
+use Rattle.csv_rules.specs.declared.Fault.{Fault}
+use Rattle.csv_rules.specs.declared.Fault.the-variants.{Quoting, Columns, Unconverted, HeaderDiffers, Returns}
 use Rattle.spot.specs.declared.Spot.{Spot}
 use Rattle.words.specs.declared.Where.{Where}
 use Rattle.words.specs.declared.Where.the-variants.{Nowhere, AtSpot, AtSegment, AtLine, AtField}
@@ -132,3 +134,14 @@ placeText AtField r n p = fieldText n (r .field) (r .segment)
 -- ---- the line, ended by 0A, for a refusal, the name of the segment that it names, and the spot
 unfoldable pub wordsText : Refusal → Name → Spot → List ℕ
 wordsText r n p = placeText (saying (r .kind) .tells) r n p ++ bytes (wordsOf (r .kind) (breachOf n (r .field))) ++ (0x0A ∷ [])
+
+-- ---- 50 to 54, with the line of the file
+unfoldable pub faultWords : Fault → String
+faultWords Quoting = "an item is not quoted as it must be, or a line does not end in CR LF"
+faultWords Columns = "no version or heading line, a bad column count, or a row with another count"
+faultWords Unconverted = "a byte that cannot be converted, as half-width kana or a byte below 20"
+faultWords HeaderDiffers = "a patient key or the class differs from a row before with this result number"
+faultWords Returns = "a result number that comes back after another"
+
+unfoldable pub faultText : Fault → ℕ → List ℕ
+faultText f line = bytes "line " ++ decimal line ++ bytes ": " ++ bytes (faultWords f) ++ (0x0A ∷ [])

@@ -1,4 +1,5 @@
 // A refusal in words: one line, with the place as people say it. The texts are those of the table `Words`.
+use csv_rules::Fault;
 use rules::Kind;
 use rules::Name;
 use rules::Refusal;
@@ -11,7 +12,7 @@ ghost use Rattle.rules.specs.Frame.{spelling};
 ghost use Rattle.scan.specs.Scan.{until, is};
 ghost use Rattle.writer.specs.Over.{Wrote, Put};
 ghost use Rattle.told.specs.Told.{Front};
-ghost use Rattle.words.specs.Words.{saying, breachWords, breachOf, wordsOf, once, fieldText, spotText, placeText, wordsText};
+ghost use Rattle.words.specs.Words.{saying, breachWords, breachOf, wordsOf, once, fieldText, spotText, placeText, wordsText, faultWords, faultText};
 
 // Which place is told before the words.
 pub enum Where {
@@ -46,6 +47,34 @@ pub fn in_words(out: &mut [u8; 192], refusal: Refusal, name: Name, spot: Spot) -
     let words = words_of(kind, breach_of(name, field));
     let m = put_to_bar(out, k, &words);
     writer::put_at(out, m, b"\n")
+}
+
+// A file's fault in words, with the line where it is met.
+pub fn fault_in_words(out: &mut [u8; 192], fault: Fault, line: usize) -> usize
+    ensures { λ r. ⌜ Wrote r (now (out .exit)) (faultText fault line) (now (out .entry)) ⌝ }
+    ensures within { λ r. ⌜ Front r (now (out .exit)) ⌝ }
+{
+    let k = told::numbered(out, b"line ", line, b": ");
+    let words = words_of_fault(fault);
+    let m = put_to_bar(out, k, &words);
+    writer::put_at(out, m, b"\n")
+}
+
+fn words_of_fault(fault: Fault) -> [u8; 82]
+    ensures { λ r. ⌜ until (is 0x7C) r ≡ bytes (faultWords fault) ⌝ }
+{
+    match fault {
+        Fault::Quoting =>
+            *b"an item is not quoted as it must be, or a line does not end in CR LF|             ",
+        Fault::Columns =>
+            *b"no version or heading line, a bad column count, or a row with another count|      ",
+        Fault::Unconverted =>
+            *b"a byte that cannot be converted, as half-width kana or a byte below 20|           ",
+        Fault::HeaderDiffers =>
+            *b"a patient key or the class differs from a row before with this result number|     ",
+        Fault::Returns =>
+            *b"a result number that comes back after another|                                    ",
+    }
 }
 
 // Which place is told before the words.

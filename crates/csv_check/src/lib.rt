@@ -1,0 +1,171 @@
+// 50, 51 and 52 over the commercial centre's file (Req 01), in one walk over its lines, once the column count is read.
+ghost use mathlib.Core.Path.{_≡_};
+ghost use mathlib.Core.Bool.{true, false, cond};
+ghost use lib.Dec.{ltb};
+ghost use Rattle.rules.specs.Frame.{digit};
+ghost use Rattle.csv_rules.specs.Quote.{cut, linesIn};
+ghost use Rattle.csv_rules.specs.Written.{halved};
+ghost use Rattle.csv_check.specs.Walk.{goesOn, firstFound, countSpot, ColumnsAre, columnItem, WalkIs};
+ghost use Rattle.csv_check.specs.Looked.{LookedIs};
+
+// Whether the quoting is broken; the lines before the end, or before the one that breaks it; where 51 and 52 are met, by line, 0 where they
+// aren't; where the first row begins.
+pub struct Looked {
+    pub broken: bool,
+    pub lines: usize,
+    pub miscounted: usize,
+    pub unconverted: usize,
+    pub first: usize,
+}
+
+// The column count: whether it is a number from 7 up; the number, and 10,000,000,000,000,000,000 for it and all above: no row has so many items.
+struct Columns {
+    counts: bool,
+    number: usize,
+}
+
+fn is_digit(b: u8) -> bool
+    ensures { λ r. ⌜ r ≡ digit b ⌝ }
+{
+    (48 <= b) & (b <= 57)
+}
+
+// A number with one more digit.
+fn one_more(n: usize, b: u8) -> usize
+    requires { ⌜ digit b ≡ true ⌝ }
+    ensures { λ r. ⌜ r ≡ goesOn n b ⌝ }
+{
+    if n < 1000000000000000000 {
+        return 10 * n + (b - 48) as usize;
+    }
+    10000000000000000000
+}
+
+// The column count, by its bytes as they lie in the file: digits, one at least, meaning 7 or more.
+fn column_count(raw: &[u8]) -> Columns
+    ensures { λ r. ⌜ ColumnsAre (halved false (now (raw .entry))) (r .counts) (r .number) ⌝ }
+{
+    let mut number = 0;
+    let mut i = 0;
+    while i < raw.len() {
+        let b = raw[i];
+        if !is_digit(b) {
+            return Columns {
+                counts: false,
+                number: 0,
+            };
+        }
+        number = one_more(number, b);
+        i += 1;
+    }
+    Columns {
+        counts: 7 <= number,
+        number,
+    }
+}
+
+// The first line that a test refuses: the one found before, else this one, where it doesn't pass.
+fn first_found(found: usize, line: usize, passes: bool) -> usize
+    ensures { λ r. ⌜ r ≡ firstFound found line passes ⌝ }
+{
+    if (found == 0) & !passes {
+        return line;
+    }
+    found
+}
+
+// The bytes of a line before the rows: the version line or the heading line.
+fn before_rows(line: usize, size: usize) -> usize
+    ensures { λ r. ⌜ r ≡ cond (ltb line 3) size 0 ⌝ }
+{
+    if line < 3 {
+        return size;
+    }
+    0
+}
+
+// 51: "no version or heading line, a column count there that isn't a number from 7 up, or a row with another count".
+fn count_spot(lines: usize, counts: bool, miscounted: usize) -> usize
+    ensures { λ r. ⌜ r ≡ countSpot lines counts miscounted ⌝ }
+{
+    if lines == 0 {
+        return 1;
+    }
+    if lines == 1 {
+        return 2;
+    }
+    if counts {
+        return miscounted;
+    }
+    1
+}
+
+// The column count of a file: the second item of its version line.
+fn columns_of(file: &[u8]) -> Columns
+    ensures { λ r. ⌜ ColumnsAre (columnItem (linesIn (cut (now (file .entry))))) (r .counts) (r .number) ⌝ }
+{
+    if file.len() == 0 {
+        return Columns {
+            counts: false,
+            number: 0,
+        };
+    }
+    let version = csv_rows::row(file, 0, true);
+    if version.bad {
+        return Columns {
+            counts: false,
+            number: 0,
+        };
+    }
+    column_count(csv_rows::item(file, &version.spans, 1))
+}
+
+// The walk over the lines, where the rows should have this many items; the version line and the heading line are no rows.
+fn walked(file: &[u8], number: usize) -> Looked
+    ensures { λ r. ⌜ WalkIs (now (file .entry)) number (r .broken) (r .lines) (r .miscounted) (r .unconverted) (r .first) ⌝ }
+{
+    let mut at = 0;
+    let mut lines = 0;
+    let mut miscounted = 0;
+    let mut unconverted = 0;
+    let mut first = 0;
+    while at < file.len() {
+        let row = csv_rows::row(file, at, false);
+        if row.bad {
+            return Looked {
+                broken: true,
+                lines,
+                miscounted,
+                unconverted,
+                first,
+            };
+        }
+        lines += 1;
+        miscounted = first_found(miscounted, lines, (lines < 3) | (row.count == number));
+        unconverted = first_found(unconverted, lines, row.good);
+        first += before_rows(lines, row.size);
+        at += row.size;
+    }
+    Looked {
+        broken: false,
+        lines,
+        miscounted,
+        unconverted,
+        first,
+    }
+}
+
+// Looks over a file: 50, 51 and 52.
+pub fn look(file: &[u8]) -> Looked
+    ensures { λ r. ⌜ LookedIs (now (file .entry)) (r .broken) (r .lines) (r .miscounted) (r .unconverted) (r .first) ⌝ }
+{
+    let columns = columns_of(file);
+    let w = walked(file, columns.number);
+    Looked {
+        broken: w.broken,
+        lines: w.lines,
+        miscounted: count_spot(w.lines, columns.counts, w.miscounted),
+        unconverted: w.unconverted,
+        first: w.first,
+    }
+}

@@ -1,0 +1,4 @@
+pub mod Items
+pub mod Codes
+pub mod Compare
+pub mod Rows

@@ -1,0 +1,12 @@
+pub mod Quote
+pub mod Written
+pub mod Count
+pub mod Kanji
+pub mod Columns
+pub mod Sheets
+pub mod Raw
+pub mod Spot
+pub mod Answers
+pub mod AllCsv
+pub mod Sample
+pub mod Claims
