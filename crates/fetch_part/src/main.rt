@@ -1,6 +1,7 @@
 // Fetches a part of the message on standard input, or in the file that is named, by its ordinal, field and component, the first three arguments: prints its bytes and 0A, or
 // its refusal.
 use program::Input;
+use program::Number;
 use rules::Fetched;
 
 const NAME: [u8; 10] = *b"fetch_part";
@@ -12,7 +13,7 @@ fn main() {
     if os::arg_count() < 4 {
         explain();
     } else {
-        with_ordinal(argument(1));
+        with_ordinal(program::number_at(1));
     }
 }
 
@@ -21,21 +22,16 @@ fn explain() {
 }
 
 // ---- the arguments
-enum Number {
-    Is(usize),
-    Wrong,
-}
-
 fn with_ordinal(ordinal: Number) {
     match ordinal {
-        Number::Is(o) => with_field(o, argument(2)),
+        Number::Is(o) => with_field(o, program::number_at(2)),
         Number::Wrong => explain(),
     }
 }
 
 fn with_field(ordinal: usize, field: Number) {
     match field {
-        Number::Is(f) => with_component(ordinal, f, argument(3)),
+        Number::Is(f) => with_component(ordinal, f, program::number_at(3)),
         Number::Wrong => explain(),
     }
 }
@@ -45,36 +41,6 @@ fn with_component(ordinal: usize, field: usize, component: Number) {
         Number::Is(c) => part(ordinal, field, c),
         Number::Wrong => explain(),
     }
-}
-
-fn argument(i: usize) -> Number {
-    let mut digits = [0u8; 9];
-    let n = os::arg(i, &mut digits);
-    read_number(&digits[..n])
-}
-
-// At least one digit, and nothing else.
-fn read_number(s: &[u8]) -> Number {
-    if s.len() == 0 {
-        return Number::Wrong;
-    }
-    let mut value = 0;
-    let mut i = 0;
-    while i < s.len() {
-        let b = s[i];
-        if b < 48 {
-            return Number::Wrong;
-        }
-        if 57 < b {
-            return Number::Wrong;
-        }
-        if 99999999 < value {
-            return Number::Wrong;
-        }
-        value = 10 * value + ((b - 48) as usize);
-        i += 1;
-    }
-    Number::Is(value)
 }
 
 // ---- the part

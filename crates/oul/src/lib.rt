@@ -1,4 +1,7 @@
 // The face of the library: its calls, each with its whole promise. None asks anything of its caller.
+use csv_rules::Counted;
+use csv_rules::Made;
+use csv_rules::Next;
 use fetch::Found;
 use rules::Answer;
 use rules::Fetched;
@@ -15,6 +18,9 @@ ghost use Rattle.rules.specs.Fetch.{fetchTold, bytesAt, partTold};
 ghost use Rattle.rules.specs.Fetch as Fetch;
 ghost use Rattle.rules.specs.Sheet.{toSheet};
 ghost use Rattle.rules.specs.Message.{toMessage};
+ghost use Rattle.csv_rules.specs.Answers.{toldCount, SheetCall, NextCall};
+ghost use Rattle.csv_rules.specs.Sheets.{csvCount, csvSheet, csvNext, placeAfter};
+ghost use Rattle.csv_rules.specs.Spot.{csvSpot};
 ghost use Rattle.fetch.specs.declared.Segment.{Segment};
 ghost use Rattle.fetch.specs.Place.{shown, startTold, spanIn, foundTold};
 ghost use Rattle.spot.specs.Spot.{spotOf};
@@ -79,4 +85,49 @@ pub fn spot_of(text: &[u8], number: usize) -> Spot
     ensures { λ r. ⌜ r ≡ spotOf number (now (text .entry)) ⌝ }
 {
     spot::spot_of(text, number)
+}
+
+// ---- the commercial centre's file
+// How many sheets a file holds, and where its first row stands; or its refusal (50 to 54).
+pub fn csv_count(file: &[u8]) -> Counted
+    ensures { λ r. ⌜ toldCount r ≡ csvCount (now (file .entry)) ⌝ }
+{
+    csv::csv_count(file)
+}
+
+// Writes the which-th sheet of a file, from 1, into the lent buffer, whose bytes past the sheet stay; mode, sent and control are the caller's. Its length, or the refusal,
+// which leaves the buffer: 50 to 54, 30, the sheet's own 40 to 43 with the line of the sheet, 45.
+pub fn csv_sheet(
+    file: &[u8],
+    which: usize,
+    mode: &[u8],
+    sent: &[u8],
+    control: &[u8],
+    out: &mut [u8],
+) -> Made
+    ensures { λ r. ⌜ SheetCall (csvSheet (now (file .entry)) which (record { mode = now (mode .entry); sent = now (sent .entry); control = now (control .entry) }) (length (now (out .entry)))) (now (out .entry)) r (now (out .exit)) ⌝ }
+{
+    csv::csv_sheet(file, which, mode, sent, control, out)
+}
+
+// Writes the sheet that begins at a place of a file in the same way, and tells the place behind its rows: from the first row on, sheet after sheet. It takes any bytes and
+// any place: 50, 30; 52 and 53 of the sheet's own rows; 40 to 43; 45.
+pub fn csv_next(
+    file: &[u8],
+    at: usize,
+    mode: &[u8],
+    sent: &[u8],
+    control: &[u8],
+    out: &mut [u8],
+) -> Next
+    ensures { λ r. ⌜ NextCall (csvNext (now (file .entry)) at (record { mode = now (mode .entry); sent = now (sent .entry); control = now (control .entry) }) (length (now (out .entry)))) (placeAfter (now (file .entry)) at) (now (out .entry)) r (now (out .exit)) ⌝ }
+{
+    csv::csv_next(file, at, mode, sent, control, out)
+}
+
+// The line, from 1, where a file is refused by 50 to 54, which name no place; 0 where it isn't.
+pub fn csv_spot(file: &[u8]) -> usize
+    ensures { λ r. ⌜ r ≡ csvSpot (now (file .entry)) ⌝ }
+{
+    csv::csv_spot(file)
 }

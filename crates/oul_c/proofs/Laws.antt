@@ -3,7 +3,7 @@ use mathlib.Core.Path.{_≡_, ap, sym, _∙_}
 use mathlib.Core.List.{List, [], _∷_}
 use Prim.Native.Nat.{ℕ, _+_, _≤_}
 use native.Mathlib.Omega.{arith}
-use lib.ListN.{length, take, drop, length-drop}
+use lib.ListN.{length, take, drop, set, length-drop}
 use lib.Seq.{length-take-le}
 use Rattle.rules.specs.declared.Kind.the-variants.{NoOrdinal}
 use Rattle.rules.specs.Shift.{met}
@@ -23,8 +23,16 @@ use Rattle.rules.specs.declared.Fetched.{Fetched}
 use Rattle.rules.specs.declared.Fetched.the-variants.{At, NotFetched}
 use Rattle.rules.specs.declared.Written.{Written}
 use Rattle.rules.specs.declared.Written.the-variants.{Wrote, NotWritten}
-use Rattle.rules.specs.Told.{Told, number, told, toldSpan, toldLength}
-use Rattle.oul_c.specs.Numbers.{numberOf, placeOf, countsOf, stretchOf, writtenOf, segmentOf, spotIn, Says}
+use Rattle.rules.specs.Told.{Told, number, told, toldSpan, toldLength, over, lengthOf}
+use Rattle.csv_rules.specs.declared.Fault.{Fault}
+use Rattle.csv_rules.specs.declared.CsvSheets.{CsvSheets}
+use Rattle.csv_rules.specs.declared.Counted.{Counted}
+use Rattle.csv_rules.specs.declared.Counted.the-variants.{Sheets, NotCounted}
+use Rattle.csv_rules.specs.declared.Made.{Made}
+use Rattle.csv_rules.specs.declared.Made.the-variants.{Sheet, Unfit, Faulty}
+use Rattle.csv_rules.specs.declared.Next.{Next}
+use Rattle.csv_rules.specs.Answers.{faultNumber, toldCount, SheetCall, NextCall}
+use Rattle.oul_c.specs.Numbers.{numberOf, placeOf, countsOf, stretchOf, writtenOf, segmentOf, spotIn, sheetsOf, besideOf, Says, SaysMade}
 
 -- ---- the check
 module _ (t : Told Counts) (a : Answer) (e : told a ≡ t) where
@@ -89,3 +97,50 @@ module _ (t : Told ℕ) (a : Written) (e : toldLength a ≡ t) where
 
   pub says-written : (n : ℕ) (x : List ℕ) → Says a n x → x ≡ writtenOf t
   says-written n x s = s .fills ∙ ap writtenOf e
+
+-- ---- the commercial centre's file
+module _ (t : Told CsvSheets) (a : Counted) (e : toldCount a ≡ t) where
+  pub sheets-number : (c : CsvSheets) → a ≡ Sheets c → 0 ≡ numberOf t
+  sheets-number c h = rw (← e, h)
+
+  pub sheets-told : (c : CsvSheets) → a ≡ Sheets c → (c .count ∷ c .first ∷ 0 ∷ []) ≡ sheetsOf t
+  sheets-told c h = rw (← e, h)
+
+  pub uncounted-number : (f : Fault) (n : ℕ) → a ≡ NotCounted f → n ≡ faultNumber f → n ≡ numberOf t
+  uncounted-number f n h k = rw (← e, h) k
+
+  pub uncounted-place : (f : Fault) (x : List ℕ) → a ≡ NotCounted f → x ≡ placeOf 0 0 → x ≡ sheetsOf t
+  uncounted-place f x h k = rw (← e, h) k
+
+pub sheet-says : (a : Made) (n : ℕ) → a ≡ Sheet n → SaysMade a 0 (n ∷ 0 ∷ 0 ∷ [])
+sheet-says a n h = record { answers = rw h; fills = rw h }
+
+pub unfit-says : (a : Made) (r : Refusal) (n : ℕ) (x : List ℕ) → a ≡ Unfit r → n ≡ number (r .kind) → x ≡ placeOf (r .segment) (r .field) → SaysMade a n x
+unfit-says a r n x h k p = record { answers = rw h k; fills = rw h p }
+
+pub faulty-says : (a : Made) (f : Fault) (n : ℕ) (x : List ℕ) → a ≡ Faulty f → n ≡ faultNumber f → x ≡ placeOf 0 0 → SaysMade a n x
+faulty-says a f n x h k p = record { answers = rw h k; fills = rw h p }
+
+module _ (t : Told (List ℕ)) (before : List ℕ) (a : Made) (after : List ℕ) (n : ℕ) (x : List ℕ) where
+  pub made-number : SheetCall t before a after → SaysMade a n x → n ≡ numberOf (lengthOf t)
+  made-number c s = s .answers ∙ ap numberOf (c .told)
+
+  pub made-told : SheetCall t before a after → SaysMade a n x → x ≡ writtenOf (lengthOf t)
+  made-told c s = s .fills ∙ ap writtenOf (c .told)
+
+  pub made-buffer : SheetCall t before a after → SaysMade a n x → after ≡ over t before
+  made-buffer c s = c .buffer
+
+module _ (t : Told (List ℕ)) (place : ℕ) (before : List ℕ) (a : Next) (after : List ℕ) (n : ℕ) (x : List ℕ) (c : NextCall t place before a after) where
+  pub next-number : SaysMade (a .made) n x → n ≡ numberOf (lengthOf t)
+  next-number s = made-number t before (a .made) after n x (c .call) s
+
+  pub next-told : SaysMade (a .made) n x → set x 2 (a .place) ≡ besideOf (writtenOf (lengthOf t)) place
+  unfolding besideOf
+  next-told s = ap (λ (l : List ℕ). set l 2 (a .place)) (made-told t before (a .made) after n x (c .call) s) ∙ ap (set (writtenOf (lengthOf t)) 2) (c .place)
+
+  pub next-buffer : after ≡ over t before
+  next-buffer = c .call .buffer
+
+pub line-told : (n k : ℕ) → n ≡ k → (n ∷ 0 ∷ 0 ∷ []) ≡ (k ∷ 0 ∷ 0 ∷ [])
+line-told n k e = ap (λ (i : ℕ). i ∷ 0 ∷ 0 ∷ []) e

@@ -2,12 +2,15 @@
 use mathlib.Core.Path.{_≡_}
 use mathlib.Core.List.{List, [], _∷_}
 use Prim.Native.Nat.{ℕ}
-use lib.ListN.{length}
+use lib.ListN.{length, set}
 use Rattle.rules.specs.declared.Counts.{Counts}
 use Rattle.rules.specs.declared.Span.{Span}
 use Rattle.rules.specs.declared.Written.{Written}
 use Rattle.rules.specs.Told.{Told, gives, refused, toldLength}
 use Rattle.rules.specs.Frame.{Known}
+use Rattle.csv_rules.specs.declared.CsvSheets.{CsvSheets}
+use Rattle.csv_rules.specs.declared.Made.{Made}
+use Rattle.csv_rules.specs.Answers.{toldMade}
 use Rattle.spot.specs.declared.Spot.{Spot}
 
 -- 0 where what was asked for is given, else the number of the refusal
@@ -47,3 +50,16 @@ spotIn p = p .line ∷ p .byte ∷ 0 ∷ []
 pub record Says (a : Written) (n : ℕ) (x : List ℕ) : Type 0 where
   pub answers : n ≡ numberOf (toldLength a)
   pub fills : x ≡ writtenOf (toldLength a)
+
+-- how many sheets a file holds, where its first row stands, and 0
+abbrev pub sheetsOf : Told CsvSheets → List ℕ
+sheetsOf (gives c) = c .count ∷ c .first ∷ 0 ∷ []
+sheetsOf (refused n s f) = placeOf s f
+
+-- the third number is a place
+unfoldable pub besideOf : List ℕ → ℕ → List ℕ
+besideOf x place = set x 2 place
+
+pub record SaysMade (a : Made) (n : ℕ) (x : List ℕ) : Type 0 where
+  pub answers : n ≡ numberOf (toldMade a)
+  pub fills : x ≡ writtenOf (toldMade a)

@@ -1,5 +1,8 @@
 // The face of the library for C: the calls of `oul` on numbers and bytes. Each answers 0, or the number of the refusal, and fills three numbers that the caller
 // lends: what was asked for, or the refusal's segment (or line), its field and 0. include/oul.h declares them.
+use csv_rules::Counted;
+use csv_rules::Fault;
+use csv_rules::Made;
 use fetch::Found;
 use rules::Answer;
 use rules::Fetched;
@@ -7,6 +10,7 @@ use rules::Kind;
 use rules::Refusal;
 use rules::Written;
 ghost use mathlib.Core.Path.{_≡_};
+ghost use mathlib.Core.List.{[], _∷_};
 ghost use lib.ListN.{length};
 ghost use Rattle.rules.specs.Told.{number, lengthOf, over};
 ghost use Rattle.rules.specs.Frame.{known};
@@ -14,8 +18,11 @@ ghost use Rattle.rules.specs.Check.{checkTold};
 ghost use Rattle.rules.specs.Fetch.{fetchTold, ordinal};
 ghost use Rattle.rules.specs.Sheet.{toSheet};
 ghost use Rattle.rules.specs.Message.{toMessage};
+ghost use Rattle.csv_rules.specs.Answers.{faultNumber};
+ghost use Rattle.csv_rules.specs.Sheets.{csvCount, csvSheet, csvNext, placeAfter};
+ghost use Rattle.csv_rules.specs.Spot.{csvSpot};
 ghost use Rattle.spot.specs.Spot.{spotOf};
-ghost use Rattle.oul_c.specs.Numbers.{numberOf, placeOf, countsOf, stretchOf, writtenOf, segmentOf, spotIn, Says};
+ghost use Rattle.oul_c.specs.Numbers.{numberOf, placeOf, countsOf, stretchOf, writtenOf, segmentOf, spotIn, sheetsOf, besideOf, Says, SaysMade};
 
 // The counts of the specimens, orders and results of a message.
 #[no_mangle]
@@ -106,6 +113,73 @@ pub extern "C" fn oul_spot(text: &[u8], refusal: usize, told: &mut [usize; 3]) -
     0
 }
 
+// ---- the commercial centre's file
+// How many sheets a file holds, and where its first row stands.
+#[no_mangle]
+pub extern "C" fn oul_csv_count(file: &[u8], told: &mut [usize; 3]) -> usize
+    ensures { λ r. ⌜ r ≡ numberOf (csvCount (now (file .entry))) ⌝ }
+    ensures { λ _. ⌜ now (told .exit) ≡ sheetsOf (csvCount (now (file .entry))) ⌝ }
+{
+    match oul::csv_count(file) {
+        Counted::Sheets(sheets) => {
+            *told = [sheets.count, sheets.first, 0];
+            0
+        }
+        Counted::NotCounted(fault) => faulty(fault, told),
+    }
+}
+
+// Writes the which-th sheet of a file into the lent buffer: how many bytes it has.
+#[no_mangle]
+pub extern "C" fn oul_csv_sheet(
+    file: &[u8],
+    which: usize,
+    mode: &[u8],
+    sent: &[u8],
+    control: &[u8],
+    out: &mut [u8],
+    told: &mut [usize; 3],
+) -> usize
+    ensures { λ r. ⌜ r ≡ numberOf (lengthOf (csvSheet (now (file .entry)) which (record { mode = now (mode .entry); sent = now (sent .entry); control = now (control .entry) }) (length (now (out .entry))))) ⌝ }
+    ensures { λ _. ⌜ now (told .exit) ≡ writtenOf (lengthOf (csvSheet (now (file .entry)) which (record { mode = now (mode .entry); sent = now (sent .entry); control = now (control .entry) }) (length (now (out .entry))))) ⌝ }
+    ensures buffer { λ _. ⌜ now (out .exit) ≡ over (csvSheet (now (file .entry)) which (record { mode = now (mode .entry); sent = now (sent .entry); control = now (control .entry) }) (length (now (out .entry)))) (now (out .entry)) ⌝ }
+{
+    made(oul::csv_sheet(file, which, mode, sent, control, out), told)
+}
+
+// Writes the sheet that begins at a place; the third number is the place behind its rows, for refusals as well.
+#[no_mangle]
+pub extern "C" fn oul_csv_next(
+    file: &[u8],
+    at: usize,
+    mode: &[u8],
+    sent: &[u8],
+    control: &[u8],
+    out: &mut [u8],
+    told: &mut [usize; 3],
+) -> usize
+    ensures { λ r. ⌜ r ≡ numberOf (lengthOf (csvNext (now (file .entry)) at (record { mode = now (mode .entry); sent = now (sent .entry); control = now (control .entry) }) (length (now (out .entry))))) ⌝ }
+    ensures { λ _. ⌜ now (told .exit) ≡ besideOf (writtenOf (lengthOf (csvNext (now (file .entry)) at (record { mode = now (mode .entry); sent = now (sent .entry); control = now (control .entry) }) (length (now (out .entry)))))) (placeAfter (now (file .entry)) at) ⌝ }
+    ensures buffer { λ _. ⌜ now (out .exit) ≡ over (csvNext (now (file .entry)) at (record { mode = now (mode .entry); sent = now (sent .entry); control = now (control .entry) }) (length (now (out .entry)))) (now (out .entry)) ⌝ }
+{
+    let next = oul::csv_next(file, at, mode, sent, control, out);
+    let answer = next.made;
+    let number = made(answer, told);
+    told[2] = next.place;
+    number
+}
+
+// The line where a file is refused, 0 where it isn't. It always answers 0.
+#[no_mangle]
+pub extern "C" fn oul_csv_spot(file: &[u8], told: &mut [usize; 3]) -> usize
+    ensures { λ r. ⌜ r ≡ 0 ⌝ }
+    ensures { λ _. ⌜ now (told .exit) ≡ csvSpot (now (file .entry)) ∷ 0 ∷ 0 ∷ [] ⌝ }
+{
+    *told = [oul::csv_spot(file), 0, 0];
+    0
+}
+
+// ---- answers as numbers
 // How many bytes were written, as numbers.
 fn written(answer: Written, told: &mut [usize; 3]) -> usize
     ensures { λ r. ⌜ Says answer r (now (told .exit)) ⌝ }
@@ -127,4 +201,27 @@ fn refuse(r: Refusal, told: &mut [usize; 3]) -> usize
     *told = [r.segment, r.field, 0];
     let kind = r.kind;
     rules::paper_number(kind)
+}
+
+// A file's fault, which names no place.
+fn faulty(fault: Fault, told: &mut [usize; 3]) -> usize
+    ensures { λ n. ⌜ n ≡ faultNumber fault ⌝ }
+    ensures { λ _. ⌜ now (told .exit) ≡ placeOf 0 0 ⌝ }
+{
+    *told = [0, 0, 0];
+    csv_rules::fault_number(fault)
+}
+
+// How many bytes the sheet has, or its refusal.
+fn made(answer: Made, told: &mut [usize; 3]) -> usize
+    ensures { λ r. ⌜ SaysMade answer r (now (told .exit)) ⌝ }
+{
+    match answer {
+        Made::Sheet(n) => {
+            *told = [n, 0, 0];
+            0
+        }
+        Made::Unfit(r) => refuse(r, told),
+        Made::Faulty(fault) => faulty(fault, told),
+    }
 }

@@ -49,3 +49,10 @@ whole-within n k r e h = rw e at h
 -- ---- the front of a short buffer
 pub front-all : (n : ℕ) (s : List ℕ) → length s < n → s ≡ take n s
 front-all n s h = sym (take-all n s (omega arith))
+
+-- ---- a file that was read, where the buffer has the length that it had
+pub fits-room : (k room : ℕ) (i : Input) (n : ℕ) → Within k i → i ≡ Whole n → k ≡ room → n ≤ room
+fits-room k room i n w e r = rw (← r) (rw e at w)
+
+pub within-room : (k room : ℕ) (i : Input) → Within room i → k ≡ room → Within k i
+within-room k room i w r = rw r w

@@ -1,5 +1,7 @@
 // What a program does around its call: its input is read whole or not at all, its output is handed over whole or told as failed, and wrong arguments are answered by how it
 // is called. No contract can say what is read or written; what fails is told on standard error, with the system's reason.
+pub mod file;
+
 use fetch::Found;
 use rules::Name;
 use rules::Refusal;
@@ -116,7 +118,7 @@ pub fn front(buf: &[u8], n: usize) -> &[u8]
 
 // ---- what fails, and how the program is called
 // The program, the file, and the reason of the call that failed last: a write that succeeds leaves errno as it is.
-fn fail(program: &[u8], file: &[u8]) -> Input
+pub fn fail(program: &[u8], file: &[u8]) -> Input
     ensures { λ r. ⌜ r ≡ Input.Failed ⌝ }
 {
     io::write_all(2, program);
@@ -130,6 +132,43 @@ pub fn explain(usage: &[u8]) -> Input
 {
     io::write_all(2, usage);
     Input::Failed
+}
+
+// ---- a number among the arguments
+// A whole number of at most nine digits.
+pub enum Number {
+    Is(usize),
+    Wrong,
+}
+
+pub fn number_at(i: usize) -> Number {
+    let mut digits = [0u8; 9];
+    let n = os::arg(i, &mut digits);
+    read_number(&digits[..n])
+}
+
+// At least one digit, and nothing else.
+fn read_number(s: &[u8]) -> Number {
+    if s.len() == 0 {
+        return Number::Wrong;
+    }
+    let mut value = 0;
+    let mut i = 0;
+    while i < s.len() {
+        let b = s[i];
+        if b < 48 {
+            return Number::Wrong;
+        }
+        if 57 < b {
+            return Number::Wrong;
+        }
+        if 99999999 < value {
+            return Number::Wrong;
+        }
+        value = 10 * value + ((b - 48) as usize);
+        i += 1;
+    }
+    Number::Is(value)
 }
 
 // ---- output

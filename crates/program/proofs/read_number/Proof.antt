@@ -1,9 +1,9 @@
--- `read_number` meets its contract: its numbers fit. Assumes nothing.
+-- `program::read_number` meets its contract: its numbers fit. Assumes nothing.
 use borrow.Author.Needs.{needs}
 use Prim.Native.Nat.{_-_, _≤_}
 use lib.ListN.{length}
-use Rattle.fetch_part.proofs.read_number.Statement.{statement}
-use Rattle.fetch_part.proofs.read_number.Tie as tie
+use Rattle.program.proofs.read_number.Statement.{statement}
+use Rattle.program.proofs.read_number.Tie as tie
 
 abbrev Inv-loop : tie.InvT-loop
 Inv-loop s value₀ i₀ value i = (i ≤ length s) × (value ≤ 999999999)

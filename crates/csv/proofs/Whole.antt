@@ -1,0 +1,182 @@
+-- 50 to 54 over the whole file, in order, each with the line where it is met. Assumes nothing.
+use mathlib.Core.Path.{_≡_, refl, sym, ap, _∙_}
+use mathlib.Core.Bool.{Bool, true, false, cond, not, _&&_}
+use mathlib.Core.List.{List, [], _∷_}
+use Prim.Native.Nat.{ℕ, suc, _+_, _*_, _≤_, _<_}
+use native.Mathlib.Numerals.{add-one}
+use native.Mathlib.Omega.{arith}
+use borrow.Author.Tests.{ne-eqb, eqb-true}
+use lib.Dec.{eqb}
+use lib.ListN.{length, take, drop, take-append-drop}
+use Rattle.rules.specs.Told.{Told, gives, refused, _>>=_}
+use Rattle.rules.specs.Lists.{nth, all}
+use Rattle.rules.proofs.Logic.{cases}
+use Rattle.csv_rules.specs.declared.Fault.{Fault}
+use Rattle.csv_rules.specs.declared.Fault.the-variants.{Quoting, Columns, Unconverted, HeaderDiffers, Returns}
+use Rattle.csv_rules.specs.declared.CsvSheets.{CsvSheets}
+use Rattle.csv_rules.specs.declared.Counted.{Counted}
+use Rattle.csv_rules.specs.declared.Counted.the-variants.{Sheets, NotCounted}
+use Rattle.csv_rules.specs.Quote.{cut, isBroken, Line, linesIn}
+use Rattle.csv_rules.specs.Count.{numeral, counts, counted}
+use Rattle.csv_rules.specs.Sheets.{rowConverts, differ, runs, returns, csvTold, firstRow, csvCount}
+use Rattle.csv_rules.specs.Spot.{firstNot, firstAfter, countLine, clashes, comesBack, rowsIn, csvSpot}
+use Rattle.csv_rules.specs.Answers.{toldCount}
+use Rattle.csv_rules.proofs.Order.{Behind, skip, all-parts}
+use Rattle.csv_check.specs.Looked.{LookedIs}
+use Rattle.csv_repeats.specs.Repeats.{Sound, RepeatsIs}
+use Rattle.csv_repeats.proofs.Tells.{clash-told, back-told}
+use Rattle.csv.specs.declared.Blame.{Blame}
+use Rattle.csv.specs.declared.Verdict.{Verdict}
+use Rattle.csv.specs.declared.Verdict.the-variants.{Right, Wrong}
+use Rattle.csv.specs.Calls.{toldVerdict, lineOf, Clean}
+
+-- ---- a test of all lines, by the first that it refuses
+all-tells : (p : Line → Bool) (k : ℕ) (ls : List Line) → all p ls ≡ eqb (firstNot p (suc k) ls) 0
+unfolding all firstNot
+all-tells p k [] = refl
+all-tells p k (l ∷ ls) = cases (p l) (λ e. rw (e, all, firstNot) (all-tells p (suc k) ls)) (λ e. rw (e, all, firstNot) (sym (ne-eqb (suc k) 0 (λ z. absurd (omega (arith, z))))))
+
+count-tells : (ls : List Line) → counted ls ≡ eqb (countLine ls) 0
+unfolding counted countLine
+count-tells [] = refl
+count-tells (version ∷ []) = refl
+count-tells (version ∷ (heading ∷ rows)) =
+    let n = nth (version .items) 1 in
+    cases (counts n) (λ e. rw e (all-tells (λ (r : Line). eqb (length (r .items)) (numeral 0 n)) 2 rows)) (λ e. rw e)
+
+rows-are : (ls : List Line) → rowsIn ls ≡ drop 2 ls
+rows-are [] = refl
+rows-are (version ∷ []) = refl
+rows-are (version ∷ (heading ∷ rows)) = refl
+
+-- ---- each refusal in its turn
+abbrev wrong : Fault → ℕ → Verdict
+wrong f k = Wrong (record { fault = f; line = k })
+
+-- the line of a fault is some line
+some-line : (k : ℕ) → (k ≡ 0 → ⊥) → eqb k 0 ≡ false
+some-line k h = ne-eqb k 0 h
+
+module _ {f : List ℕ} {broken : Bool} {lines miscounted unconverted first : ℕ} (L : LookedIs f broken lines miscounted unconverted first) where
+  abbrev ls : List Line
+  ls = linesIn (cut f)
+
+  pub quoting-told : (v : Verdict) → broken ≡ true → v ≡ wrong Quoting (lines + 1) → toldVerdict v ≡ csvCount f
+  unfolding csvCount csvTold
+  quoting-told v h e = rw (e, sym (L .quoting) ∙ h)
+
+  pub quoting-line : (v : Verdict) → broken ≡ true → v ≡ wrong Quoting (lines + 1) → lineOf v ≡ csvSpot f
+  unfolding csvSpot
+  quoting-line v h e = rw (e, sym (L .quoting) ∙ h, ← L .counts) (add-one lines)
+
+  module _ (h : broken ≡ false) where
+    pub columns-told : (v : Verdict) → (miscounted ≡ 0 → ⊥) → v ≡ wrong Columns miscounted → toldVerdict v ≡ csvCount f
+    unfolding csvCount csvTold
+    columns-told v k e = rw (e, sym (L .quoting) ∙ h, count-tells ls, ← L .counted, some-line miscounted k)
+
+    pub columns-line : (v : Verdict) → (miscounted ≡ 0 → ⊥) → v ≡ wrong Columns miscounted → lineOf v ≡ csvSpot f
+    unfolding csvSpot
+    columns-line v k e = rw (e, sym (L .quoting) ∙ h, ← L .counted, some-line miscounted k)
+
+    module _ (m : miscounted ≡ 0) where
+      zero-count : countLine ls ≡ 0
+      zero-count = sym (L .counted) ∙ m
+
+      pub unconverted-told : (v : Verdict) → (unconverted ≡ 0 → ⊥) → v ≡ wrong Unconverted unconverted → toldVerdict v ≡ csvCount f
+      unfolding csvCount csvTold
+      unconverted-told v k e = rw (e, sym (L .quoting) ∙ h, count-tells ls, zero-count, all-tells rowConverts 0 ls, ← L .converted, some-line unconverted k)
+
+      pub unconverted-line : (v : Verdict) → (unconverted ≡ 0 → ⊥) → v ≡ wrong Unconverted unconverted → lineOf v ≡ csvSpot f
+      unfolding csvSpot
+      unconverted-line v k e = rw (e, sym (L .quoting) ∙ h, zero-count, ← L .converted, some-line unconverted k)
+
+      pub clean : unconverted ≡ 0 → Clean f first
+      clean k = record { quoted = sym (L .quoting) ∙ h; counted = zero-count; converts = sym (L .converted) ∙ k; rows = L .rows; inside = L .inside }
+
+-- ---- 53 and 54
+module _ {f : List ℕ} {first : ℕ} (C : Clean f first) where
+  abbrev all-lines : List Line
+  all-lines = linesIn (cut f)
+
+  good-lines : all rowConverts all-lines ≡ true
+  good-lines = all-tells rowConverts 0 all-lines ∙ ap (λ (n : ℕ). eqb n 0) (C .converts)
+
+  good-count : counted all-lines ≡ true
+  good-count = count-tells all-lines ∙ ap (λ (n : ℕ). eqb n 0) (C .counted)
+
+  behind : Behind (cut f) 2 (cut (drop first f))
+  unfolding firstRow
+  behind = rw (C .rows) (skip 2 f (cut f) refl)
+
+  rows-from : linesIn (cut (drop first f)) ≡ drop 2 all-lines
+  rows-from = behind .rows
+
+  pub sound : Sound f first
+  sound = record {
+    quoted = behind .good ∙ C .quoted;
+    good = ap (all rowConverts) rows-from ∙ all-parts rowConverts (take 2 all-lines) (drop 2 all-lines) (rw (take-append-drop 2 all-lines) good-lines) .1;
+  }
+
+  module _ {differs returned count : ℕ} (R : RepeatsIs f first differs returned count) where
+    first-clash : firstAfter clashes 3 [] (drop 2 all-lines) ≡ differs
+    first-clash = ap (firstAfter clashes 3 []) (sym rows-from) ∙ sym (R .clash)
+
+    differs-told : differ (drop 2 all-lines) ≡ not (eqb differs 0)
+    differs-told = clash-told (drop 2 all-lines) ∙ ap (λ (n : ℕ). not (eqb n 0)) first-clash
+
+    pub header-told : (v : Verdict) → (differs ≡ 0 → ⊥) → v ≡ wrong HeaderDiffers differs → toldVerdict v ≡ csvCount f
+    unfolding csvCount csvTold
+    header-told v k e = rw (e, C .quoted, good-count, good-lines, differs-told, some-line differs k)
+
+    pub header-line : (v : Verdict) → (differs ≡ 0 → ⊥) → v ≡ wrong HeaderDiffers differs → lineOf v ≡ csvSpot f
+    unfolding csvSpot
+    header-line v k e = rw (e, C .quoted, C .counted, C .converts, rows-are all-lines, first-clash, some-line differs k)
+
+    module _ (d : differs ≡ 0) where
+      no-clash : differ (drop 2 all-lines) ≡ false
+      no-clash = differs-told ∙ ap (λ (n : ℕ). not (eqb n 0)) d
+
+      first-back : firstAfter comesBack 3 [] (drop 2 all-lines) ≡ returned
+      first-back = ap (firstAfter comesBack 3 []) (sym rows-from) ∙ sym (R .back d)
+
+      back-is : returns (runs (drop 2 all-lines)) ≡ not (eqb returned 0)
+      back-is = back-told (drop 2 all-lines) ∙ ap (λ (n : ℕ). not (eqb n 0)) first-back
+
+      pub returns-told : (v : Verdict) → (returned ≡ 0 → ⊥) → v ≡ wrong Returns returned → toldVerdict v ≡ csvCount f
+      unfolding csvCount csvTold
+      returns-told v k e = rw (e, C .quoted, good-count, good-lines, no-clash, back-is, some-line returned k)
+
+      pub returns-line : (v : Verdict) → (returned ≡ 0 → ⊥) → v ≡ wrong Returns returned → lineOf v ≡ csvSpot f
+      unfolding csvSpot
+      returns-line v k e = rw (e, C .quoted, C .counted, C .converts, rows-are all-lines, first-clash, d, first-back)
+
+      module _ (b : returned ≡ 0) where
+        pub right-told : (c : CsvSheets) → c ≡ record { count = count; first = first } → toldVerdict (Right c) ≡ csvCount f
+        unfolding csvCount csvTold
+        right-told c e =
+            rw (e, C .quoted, good-count, good-lines, no-clash, back-is, b)
+            (ap (λ (k : CsvSheets). gives k) (ap (λ (n : ℕ). sheets n first) (R .runs d ∙ ap (λ (x : List Line). length (runs x)) rows-from) ∙ ap (sheets (length (runs (drop 2 all-lines)))) (C .rows)))
+          where
+            sheets : ℕ → ℕ → CsvSheets
+            sheets n k = record { count = n; first = k }
+
+        pub right-line : 0 ≡ csvSpot f
+        unfolding csvSpot
+        right-line = rw (C .quoted, C .counted, C .converts, rows-are all-lines, first-clash, d, first-back, b)
+
+-- ---- the answers
+module _ (f : List ℕ) (v : Verdict) (t : toldVerdict v ≡ csvCount f) where
+  pub counted-right : (c : CsvSheets) → v ≡ Right c → toldCount (Sheets c) ≡ csvCount f
+  counted-right c e = ap toldVerdict (sym e) ∙ t
+
+  pub counted-wrong : (b : Blame) → v ≡ Wrong b → toldCount (NotCounted (b .fault)) ≡ csvCount f
+  counted-wrong b e = ap toldVerdict (sym e) ∙ t
+
+  pub given-sheets : (c : CsvSheets) → v ≡ Right c → csvCount f ≡ gives c
+  given-sheets c e = sym t ∙ ap toldVerdict e
+
+pub spot-right : (f : List ℕ) (v : Verdict) → lineOf v ≡ csvSpot f → (c : CsvSheets) → v ≡ Right c → 0 ≡ csvSpot f
+spot-right f v t c e = ap lineOf (sym e) ∙ t
+
+pub spot-wrong : (f : List ℕ) (v : Verdict) → lineOf v ≡ csvSpot f → (b : Blame) → v ≡ Wrong b → b .line ≡ csvSpot f
+spot-wrong f v t b e = ap lineOf (sym e) ∙ t

@@ -1,0 +1,281 @@
+// The calls on the commercial centre's file (Req 01): how many sheets it holds, one of them, the one that begins at a place; and where the file is
+// refused. They take any bytes, any ordinal and any place.
+use compose::Passed;
+use csv_rules::Counted;
+use csv_rules::CsvSheets;
+use csv_rules::Fault;
+use csv_rules::Made;
+use csv_rules::Next;
+use rules::Kind;
+use rules::Refusal;
+ghost use mathlib.Core.Path.{_≡_};
+ghost use Prim.Native.Nat.{_≤_, _<_};
+ghost use lib.ListN.{length};
+ghost use Rattle.rules.specs.Told.{gives};
+ghost use Rattle.csv_rules.specs.Answers.{toldCount, SheetCall, NextCall};
+ghost use Rattle.csv_rules.specs.Sheets.{csvCount, csvSheet, csvNext, placeAfter};
+ghost use Rattle.csv_rules.specs.Spot.{csvSpot};
+ghost use Rattle.csv_rules.specs.Claims.{placeOf};
+ghost use Rattle.csv_lines.specs.Lines.{sheetAt, Convertible};
+ghost use Rattle.csv.specs.Calls.{toldVerdict, lineOf, Clean, copiedTold, madeTold};
+
+// ---- the whole file
+// A fault of the file, and the line where it is met.
+pub struct Blame {
+    pub fault: Fault,
+    pub line: usize,
+}
+
+pub enum Verdict {
+    Right(CsvSheets),
+    Wrong(Blame),
+}
+
+fn wrong(fault: Fault, line: usize) -> Verdict
+    ensures { λ r. ⌜ r ≡ Verdict.Wrong (record { fault = fault; line = line }) ⌝ }
+{
+    Verdict::Wrong(Blame { fault, line })
+}
+
+// 50 to 54, "in that order, each over the whole file".
+fn verdict_on(file: &[u8]) -> Verdict
+    ensures { λ r. ⌜ toldVerdict r ≡ csvCount (now (file .entry)) ⌝ }
+    ensures line { λ r. ⌜ lineOf r ≡ csvSpot (now (file .entry)) ⌝ }
+{
+    let found = csv_check::look(file);
+    if found.broken {
+        return wrong(Fault::Quoting, found.lines + 1);
+    }
+    if found.miscounted != 0 {
+        return wrong(Fault::Columns, found.miscounted);
+    }
+    if found.unconverted != 0 {
+        return wrong(Fault::Unconverted, found.unconverted);
+    }
+    verdict_on_rows(file, found.first)
+}
+
+fn verdict_on_rows(file: &[u8], first: usize) -> Verdict
+    requires { ⌜ Clean (now file) first ⌝ }
+    ensures { λ r. ⌜ toldVerdict r ≡ csvCount (now (file .entry)) ⌝ }
+    ensures line { λ r. ⌜ lineOf r ≡ csvSpot (now (file .entry)) ⌝ }
+{
+    let found = csv_repeats::repeats(file, first);
+    if found.differs != 0 {
+        return wrong(Fault::HeaderDiffers, found.differs);
+    }
+    if found.returns != 0 {
+        return wrong(Fault::Returns, found.returns);
+    }
+    Verdict::Right(CsvSheets {
+        count: found.count,
+        first,
+    })
+}
+
+// How many sheets a file holds, and where its first row stands; or 50 to 54.
+pub fn csv_count(file: &[u8]) -> Counted
+    ensures { λ r. ⌜ toldCount r ≡ csvCount (now (file .entry)) ⌝ }
+{
+    match verdict_on(file) {
+        Verdict::Right(sheets) => Counted::Sheets(sheets),
+        Verdict::Wrong(blame) => {
+            let fault = blame.fault;
+            Counted::NotCounted(fault)
+        }
+    }
+}
+
+// The line where a file is refused, from 1; 0 where it isn't.
+pub fn csv_spot(file: &[u8]) -> usize
+    ensures { λ r. ⌜ r ≡ csvSpot (now (file .entry)) ⌝ }
+{
+    match verdict_on(file) {
+        Verdict::Right(_) => 0,
+        Verdict::Wrong(blame) => blame.line,
+    }
+}
+
+// ---- one sheet
+fn refused(kind: Kind) -> Made
+    ensures { λ r. ⌜ r ≡ Made.Unfit (record { kind = kind; segment = 0; field = 0 }) ⌝ }
+{
+    Made::Unfit(Refusal {
+        kind,
+        segment: 0,
+        field: 0,
+    })
+}
+
+// One byte past the limit of a sheet, so that a longer one gives 40.
+fn room() -> [u8; 65537]
+    ensures { λ r. ⌜ length r ≡ 65537 ⌝ }
+{
+    [0; 65537]
+}
+
+// A right sheet, copied where there is room: 45.
+fn copied(sheet: &[u8], out: &mut [u8]) -> Made
+    ensures { λ r. ⌜ SheetCall (copiedTold (now (sheet .entry)) (length (now (out .entry)))) (now (out .entry)) r (now (out .exit)) ⌝ }
+{
+    if out.len() < sheet.len() {
+        return refused(Kind::Room);
+    }
+    Made::Sheet(writer::put(out, sheet))
+}
+
+// A sheet that was made is judged before it is copied: 40 to 43, 45.
+fn handed(sheet: &[u8], out: &mut [u8]) -> Made
+    ensures { λ r. ⌜ SheetCall (madeTold (now (sheet .entry)) (length (now (out .entry)))) (now (out .entry)) r (now (out .exit)) ⌝ }
+{
+    match to_message::judge(sheet) {
+        Passed::Not(refusal) => Made::Unfit(refusal),
+        Passed::All(_) => copied(sheet, out),
+    }
+}
+
+// The sheet of the rows from a place up to another, made in a buffer of its own, since a refusal leaves the lent one.
+fn made_in(
+    sheet: &mut [u8],
+    file: &[u8],
+    at: usize,
+    end: usize,
+    mode: &[u8],
+    sent: &[u8],
+    control: &[u8],
+    out: &mut [u8],
+) -> Made
+    requires { ⌜ (length (now sheet) ≡ 65537) × Convertible (now file) at end ⌝ }
+    ensures { λ r. ⌜ SheetCall (madeTold (sheetAt (now (file .entry)) at (record { mode = now (mode .entry); sent = now (sent .entry); control = now (control .entry) })) (length (now (out .entry)))) (now (out .entry)) r (now (out .exit)) ⌝ }
+{
+    let n = csv_lines::put_sheet(sheet, file, at, end, mode, sent, control);
+    handed(&sheet[..n], out)
+}
+
+fn sheet_from(
+    file: &[u8],
+    at: usize,
+    end: usize,
+    mode: &[u8],
+    sent: &[u8],
+    control: &[u8],
+    out: &mut [u8],
+) -> Made
+    requires { ⌜ Convertible (now file) at end ⌝ }
+    ensures { λ r. ⌜ SheetCall (madeTold (sheetAt (now (file .entry)) at (record { mode = now (mode .entry); sent = now (sent .entry); control = now (control .entry) })) (length (now (out .entry)))) (now (out .entry)) r (now (out .exit)) ⌝ }
+{
+    let mut sheet = room();
+    made_in(&mut sheet, file, at, end, mode, sent, control, out)
+}
+
+// The sheet that begins at a place, and the place behind its rows: 50, 30; 52 and 53 of its rows; its own 40 to 43; 45.
+pub fn csv_next(
+    file: &[u8],
+    at: usize,
+    mode: &[u8],
+    sent: &[u8],
+    control: &[u8],
+    out: &mut [u8],
+) -> Next
+    ensures { λ r. ⌜ NextCall (csvNext (now (file .entry)) at (record { mode = now (mode .entry); sent = now (sent .entry); control = now (control .entry) }) (length (now (out .entry)))) (placeAfter (now (file .entry)) at) (now (out .entry)) r (now (out .exit)) ⌝ }
+{
+    if file.len() <= at {
+        return Next {
+            made: refused(Kind::NoOrdinal),
+            place: file.len(),
+        };
+    }
+    let run = csv_runs::run(file, at);
+    if run.bad {
+        return Next {
+            made: Made::Faulty(Fault::Quoting),
+            place: file.len(),
+        };
+    }
+    let place = at + run.size;
+    if !run.good {
+        return Next {
+            made: Made::Faulty(Fault::Unconverted),
+            place,
+        };
+    }
+    if run.differs {
+        return Next {
+            made: Made::Faulty(Fault::HeaderDiffers),
+            place,
+        };
+    }
+    let made = sheet_from(file, at, place, mode, sent, control, out);
+    Next { made, place }
+}
+
+// ---- the which-th sheet
+fn place_after(file: &[u8], at: usize) -> usize
+    ensures { λ r. ⌜ r ≡ placeAfter (now (file .entry)) at ⌝ }
+{
+    if file.len() <= at {
+        return file.len();
+    }
+    let run = csv_runs::run(file, at);
+    if run.bad {
+        return file.len();
+    }
+    at + run.size
+}
+
+// The place behind n sheets.
+fn place_behind(file: &[u8], first: usize, n: usize) -> usize
+    ensures { λ r. ⌜ r ≡ placeOf (now (file .entry)) first n ⌝ }
+{
+    let mut at = first;
+    let mut left = n;
+    while 0 < left {
+        at = place_after(file, at);
+        left -= 1;
+    }
+    at
+}
+
+// The which-th sheet, from 1, into the lent buffer: 50 to 54, 30, the sheet's own 40 to 43, 45.
+pub fn csv_sheet(
+    file: &[u8],
+    which: usize,
+    mode: &[u8],
+    sent: &[u8],
+    control: &[u8],
+    out: &mut [u8],
+) -> Made
+    ensures { λ r. ⌜ SheetCall (csvSheet (now (file .entry)) which (record { mode = now (mode .entry); sent = now (sent .entry); control = now (control .entry) }) (length (now (out .entry)))) (now (out .entry)) r (now (out .exit)) ⌝ }
+{
+    match verdict_on(file) {
+        Verdict::Wrong(blame) => {
+            let fault = blame.fault;
+            Made::Faulty(fault)
+        }
+        Verdict::Right(sheets) => sheet_of(file, sheets, which, mode, sent, control, out),
+    }
+}
+
+// The same of a file that is right.
+fn sheet_of(
+    file: &[u8],
+    sheets: CsvSheets,
+    which: usize,
+    mode: &[u8],
+    sent: &[u8],
+    control: &[u8],
+    out: &mut [u8],
+) -> Made
+    requires { ⌜ csvCount (now file) ≡ gives sheets ⌝ }
+    ensures { λ r. ⌜ SheetCall (csvSheet (now (file .entry)) which (record { mode = now (mode .entry); sent = now (sent .entry); control = now (control .entry) }) (length (now (out .entry)))) (now (out .entry)) r (now (out .exit)) ⌝ }
+{
+    if which == 0 {
+        return refused(Kind::NoOrdinal);
+    }
+    if sheets.count < which {
+        return refused(Kind::NoOrdinal);
+    }
+    let at = place_behind(file, sheets.first, which - 1);
+    let next = csv_next(file, at, mode, sent, control, out);
+    next.made
+}

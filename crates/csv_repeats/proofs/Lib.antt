@@ -1,0 +1,4 @@
+pub mod Tells
+pub mod Seen
+pub mod Standings
+pub mod Laws

@@ -1,0 +1,71 @@
+// What the programs over the commercial centre's file share: the file is read whole or not at all, and its refusals are told.
+use crate::Input;
+use csv_rules::Fault;
+use rules::Name;
+use rules::Refusal;
+use spot::Spot;
+ghost use lib.ListN.{length};
+ghost use Prim.Native.Nat.{_≤_};
+ghost use Rattle.program.specs.Reading.{Within};
+
+// Reads the file in the way of `read_input`, into a buffer that is longer by one byte than the longest file.
+pub fn read(program: &[u8], usage: &[u8], others: usize, buf: &mut [u8]) -> Input
+    ensures { λ r. ⌜ Within (length (now (buf .exit))) r ⌝ }
+{
+    let room = buf.len();
+    match crate::read_input(program, usage, others, buf) {
+        Input::Whole(n) => fitting(program, n, room),
+        Input::Failed => Input::Failed,
+    }
+}
+
+fn fitting(program: &[u8], n: usize, room: usize) -> Input
+    requires { ⌜ n ≤ room ⌝ }
+    ensures { λ r. ⌜ Within room r ⌝ }
+{
+    if n < room {
+        return Input::Whole(n);
+    }
+    io::write_all(2, program);
+    io::write_all(2, b": the file has more than 4,194,304 bytes\n");
+    Input::Failed
+}
+
+// A file's fault: three lines behind `before`, and where it is met in words.
+pub fn refuse(program: &[u8], before: &[u8], file: &[u8], fault: Fault) {
+    let mut lines = [0u8; 96];
+    let n = told::of_fault(&mut lines, fault);
+    crate::output(program, before, &lines[..n]);
+    let mut words = [0u8; 192];
+    let k = words::fault_in_words(&mut words, fault, oul::csv_spot(file));
+    io::write_all(2, &words[..k]);
+}
+
+// The refusal of a sheet: three lines behind `before`, and the words behind `said`.
+pub fn refuse_sheet(program: &[u8], before: &[u8], said: &[u8], refusal: Refusal) {
+    let mut lines = [0u8; 96];
+    let n = told::of_sheet(&mut lines, refusal);
+    crate::output(program, before, &lines[..n]);
+    io::write_all(2, said);
+    say(refusal);
+}
+
+// The sheet that is refused isn't kept, so that no byte of it can be named: 41 is a fault of what the caller gives.
+fn say(refusal: Refusal) {
+    let kind = refusal.kind;
+    let number = rules::paper_number(kind);
+    if number == 30 {
+        io::write_all(2, b"the file has no such sheet\n");
+    } else if number == 41 {
+        io::write_all(2, b"MODE, SENT or CONTROL has a byte or a shift that is not allowed\n");
+    } else {
+        let mut line = [0u8; 192];
+        let n = words::in_words(
+            &mut line,
+            refusal,
+            Name::Other,
+            Spot { line: 0, byte: 0 },
+        );
+        io::write_all(2, &line[..n]);
+    }
+}
