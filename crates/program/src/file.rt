@@ -41,13 +41,27 @@ pub fn refuse(program: &[u8], before: &[u8], file: &[u8], fault: Fault) {
     io::write_all(2, &words[..k]);
 }
 
-// The refusal of a sheet: three lines behind `before`, and the words behind `said`.
-pub fn refuse_sheet(program: &[u8], before: &[u8], said: &[u8], refusal: Refusal) {
+// The refusal of a sheet: three lines, and the words.
+pub fn refuse_sheet(program: &[u8], refusal: Refusal) {
+    three(program, b"", refusal);
+    say(refusal);
+}
+
+// The same of the k-th of several, which is named before.
+pub fn refuse_one(program: &[u8], k: usize, refusal: Refusal) {
+    let mut before = [0u8; 96];
+    let n = told::of_number(&mut before, b"sheet=", k);
+    three(program, &before[..n], refusal);
+    io::write_all(2, b"sheet ");
+    io::print_decimal(2, k as u64);
+    io::write_all(2, b": ");
+    say(refusal);
+}
+
+fn three(program: &[u8], before: &[u8], refusal: Refusal) {
     let mut lines = [0u8; 96];
     let n = told::of_sheet(&mut lines, refusal);
     crate::output(program, before, &lines[..n]);
-    io::write_all(2, said);
-    say(refusal);
 }
 
 // The sheet that is refused isn't kept, so that no byte of it can be named: 41 is a fault of what the caller gives.
@@ -68,4 +82,9 @@ fn say(refusal: Refusal) {
         );
         io::write_all(2, &line[..n]);
     }
+}
+
+// A buffer for the longest file that the programs take, and one byte more.
+pub fn room() -> [u8; 4194305] {
+    [0; 4194305]
 }
