@@ -4,7 +4,7 @@
  * says what to do about each). It always fills told[0] to told[2], which the caller lends:
  *
  *     answer 0     what was asked for, as each call says
- *     a refusal    told[0] the known segment, or the line of a sheet; told[1] the field; told[2] 0. Each is 0 where none is named.
+ *     a refusal    told[0] the known segment, or the line of a sheet; told[1] the field; told[2] 0, but for oul_csv_next. Each is 0 where none is named.
  *
  * A pointer is to as many bytes as the length after it says. A length may be 0; its pointer may then be NULL. What a call is lent to read may overlap nothing that
  * it is lent to write, told among it. A refusal leaves every byte of a lent buffer.
@@ -18,8 +18,12 @@
  *     oul_to_message    2048
  *     oul_segment        256
  *     oul_spot           256
+ *     oul_csv_count    77824
+ *     oul_csv_sheet    77824
+ *     oul_csv_next     77824
+ *     oul_csv_spot     77824
  *
- * The archive defines these six symbols and no others, and asks for memcpy and memset.
+ * The archive defines these ten symbols and no others, and asks for memcpy and memset.
  */
 #ifndef OUL_H
 #define OUL_H
@@ -28,9 +32,9 @@
 
 /* The minor number grows with what is added, the major one with what is changed or taken away. */
 #define OUL_VERSION_MAJOR 1
-#define OUL_VERSION_MINOR 1
+#define OUL_VERSION_MINOR 2
 
-/* The most bytes of a message and of a sheet: buffers that hold any. */
+/* The most bytes of a message and of a sheet: buffers that hold any. A file has no limit. */
 #define OUL_MESSAGE_MAX 32768
 #define OUL_SHEET_MAX 65536
 
@@ -55,8 +59,8 @@ enum oul_refusal {
     OUL_VALUE = 25,          /* any other rule of a value */
     OUL_STATUS = 26,         /* the value against the status */
     OUL_DIFFERS = 27,        /* ORC-2 differs from OBR-2 */
-    /* a part of a message */
-    OUL_NO_ORDINAL = 30,     /* no known segment has this ordinal */
+    /* a part of a message, a sheet of a file */
+    OUL_NO_ORDINAL = 30,     /* no known segment, or no sheet, has this ordinal */
     OUL_ZERO = 31,           /* field or component 0 */
     /* a sheet */
     OUL_SHEET_TOO_LONG = 40, /* longer than OUL_SHEET_MAX */
@@ -65,7 +69,13 @@ enum oul_refusal {
     OUL_LINE = 43,           /* a line's value breaks its rule */
     OUL_OVERFLOW = 44,       /* the message would pass OUL_MESSAGE_MAX bytes or 512 segments */
     /* a message or a sheet */
-    OUL_ROOM = 45            /* the lent buffer is too short */
+    OUL_ROOM = 45,           /* the lent buffer is too short */
+    /* a file; oul_csv_spot tells in which line */
+    OUL_QUOTING = 50,        /* an item that is not quoted as it must be, or a line that does not end in CR LF */
+    OUL_COLUMNS = 51,        /* no version or heading line, a bad column count, or a row with another count */
+    OUL_UNCONVERTED = 52,    /* a byte that can't be converted, as half-width kana */
+    OUL_HEADER_DIFFERS = 53, /* a patient key or the class differs among the rows of one result number */
+    OUL_RETURNS = 54         /* a result number that comes back after another */
 };
 
 /* Checks a message. Answer 0: it keeps every rule; told: the counts of SPM, OBR and OBX. Refusals 10 to 27. */
@@ -91,6 +101,31 @@ size_t oul_segment(const unsigned char *message, size_t length, size_t ordinal, 
  *     12, 41    the first byte that breaks the byte and shift rule, or behind the last byte where a shift or the final 0A is missing
  *     13        the start of the first segment that is too long or badly named (the text's fourth byte is the field separator), or of the rest that has no 0D */
 size_t oul_spot(const unsigned char *text, size_t length, size_t refusal, size_t told[3]);
+
+/* The commercial centre's file (docs/CSV.md): all rows with one result number make a sheet.
+ *
+ * Counts the sheets of a file. Answer 0: it keeps every rule of a file; told: how many sheets it has, where its first row starts (counted from 0; the file's length
+ * where there is no row), and 0. Refusals 50 to 54, which name no place. */
+size_t oul_csv_count(const unsigned char *file, size_t length, size_t told[3]);
+
+/* Writes one sheet of a file, counted from 1, into the room bytes at out. Mode, sent and control are the values of those keys, which no column has. Answer 0: told: how
+ * many bytes the sheet has, 0 and 0; the bytes past it stay. Such a sheet keeps every rule, so that oul_to_message refuses it with 44 or 45 alone. Refusals 50 to 54, then
+ * 30 where there is no such sheet, then 40 to 43 with the line of the sheet in told[0] (41 is a fault of mode, sent or control), then 45; OUL_SHEET_MAX bytes hold any
+ * sheet. */
+size_t oul_csv_sheet(const unsigned char *file, size_t length, size_t which, const unsigned char *mode, size_t mode_length, const unsigned char *sent,
+                     size_t sent_length, const unsigned char *control, size_t control_length, unsigned char *out, size_t room, size_t told[3]);
+
+/* Writes the sheet whose rows start at a place, counted from 0, in the same way. told[2], for a refusal too: the place behind these rows, or the file's length where there
+ * are none. So a file that oul_csv_count has counted is gone through once: from its first row on, and from each place behind to the next sheet.
+ *
+ * It takes any bytes and any place, and looks at nothing else: rows are the lines from there on, as far as they are well quoted and have the number of the first.
+ * Refusals 50 where the line at the place is badly quoted, 30 where there is none; 52 and 53 of these rows; then 40 to 43 and 45 as above. */
+size_t oul_csv_next(const unsigned char *file, size_t length, size_t at, const unsigned char *mode, size_t mode_length, const unsigned char *sent,
+                    size_t sent_length, const unsigned char *control, size_t control_length, unsigned char *out, size_t room, size_t told[3]);
+
+/* Tells in which line a file is refused by 50 to 54. Answer 0, always; told: the line, counted from 1, 0 where the file isn't refused; 0 and 0. CR LF in quotes ends no
+ * line; a line that is missing is the one behind the last. */
+size_t oul_csv_spot(const unsigned char *file, size_t length, size_t told[3]);
 
 #ifdef __cplusplus
 }

@@ -10,6 +10,12 @@ RUN = os.path.join(TOP, 'bin', 'run')
 held = []
 
 
+def octets(text):
+    """The bytes of a text in hexadecimal: pieces joined by +, with *N behind one that is repeated; - is no byte at all."""
+    pieces = (piece.partition('*') for piece in text.split('+'))
+    return b'' if text == '-' else b''.join(bytes.fromhex(piece) * int(times or 1) for piece, _, times in pieces)
+
+
 class Case(typing.NamedTuple):
     call: str
     given: bytes
@@ -23,7 +29,7 @@ class Case(typing.NamedTuple):
     @property
     def text(self):
         """What a fetch or a conversion gives."""
-        return bytes.fromhex(''.join(self.answer[1:]))
+        return octets(''.join(self.answer[1:]))
 
 
 def rows(name):
@@ -37,6 +43,15 @@ def cases(name):
     return [Case(call, bytes.fromhex(given), rest[:-1], rest[-1].split()) for call, given, *rest in rows(name)]
 
 
+def requests(name):
+    """The cases of a list of tests/requests, by their names. A pair is given as its two bytes, and its answer is one word."""
+    found = {}
+    for case, _, call, *arguments, answer in rows(f'requests/{name}'):
+        given, *further = [''.join(arguments)] if call == 'pair' else arguments
+        found[case] = Case(call, octets(given), further, answer.split())
+    return found
+
+
 def read(*path):
     """The bytes of a file of the repository."""
     with open(os.path.join(TOP, *path), 'rb') as file:
@@ -44,13 +59,24 @@ def read(*path):
 
 
 def message(name):
-    """A message of tests/outside."""
+    """A message or a file of tests/outside."""
     return read('tests', 'outside', name)
 
 
 def outside():
     """The check of each message of tests/outside."""
     return [Case('check', message(name), [], answer.replace('accepted', 'ok').split()) for name, _, _, answer, *_ in rows('outside/index.tsv')]
+
+
+def files():
+    """The count of each of the commercial centre's files of tests/outside, by their names, with the line where it is refused."""
+    return {name: (Case('csv_count', message(name), [], answer.split()), int(line)) for name, _, _, answer, line, _ in rows('outside/csv.tsv')}
+
+
+def words(program):
+    """The arguments that a program has beside its `stdin` and `stdout` in crates."""
+    path = os.path.join(TOP, 'crates', program, 'args')
+    return read(path).decode().splitlines() if os.path.exists(path) else []
 
 
 def need(*programs, builder='bin/build'):
@@ -62,7 +88,8 @@ def need(*programs, builder='bin/build'):
 
 def run(program, given, *arguments):
     """A built program's run: its exit status, and what stands on standard output and standard error."""
-    return subprocess.run([RUN, program, *map(str, arguments)], input=given, capture_output=True)
+    words = [word if isinstance(word, bytes) else str(word) for word in arguments]
+    return subprocess.run([RUN, program, *words], input=given, capture_output=True)
 
 
 def hold(what, said, expected):

@@ -1,9 +1,12 @@
 //! Times the proved library and the independent Rust program side by side, in one run, and
 //! prints the ratios. Start it by `bench/run`.
 
+mod files;
 mod inputs;
 
-use oul_tests::{check, locate, to_message, to_sheet, MESSAGE_LIMIT, SHEET_LIMIT};
+use oul_tests::{
+    check, csv_sheets, locate, to_message, to_sheet, Given, MESSAGE_LIMIT, SHEET_LIMIT,
+};
 use std::hint::black_box;
 use std::time::{Duration, Instant};
 
@@ -32,6 +35,7 @@ const READ: [(&[u8], Places); 7] = [
 fn main() {
     ratios();
     growth();
+    sheets_of_files();
 }
 
 fn ratios() {
@@ -123,6 +127,73 @@ fn grown(name: &str, call: &str, times: [f64; 4]) {
     let ratio = |n: usize| format!("{:.2}", times[n + 1] / times[n]);
     let ratios = [0, 1, 2].map(ratio).join(", ");
     println!("| {name} | {call} | {shown} | {ratios} |");
+}
+
+/// Every sheet of the commercial centre's file. Twice the bytes, about twice the time.
+fn sheets_of_files() {
+    println!();
+    println!(
+        "| Bytes | Sheets | Rust, ms | Library, ms | Ratio | growth of Rust | of the library |"
+    );
+    println!("|---|---|---|---|---|---|---|");
+    let mut before = None;
+    for megabytes in [1, 2, 4, 8] {
+        let file = files::file(megabytes * 1_000_000);
+        let mut out = vec![0; SHEET_LIMIT];
+        let sheets = agree_on_file(&file, &mut out);
+        let (rust, library) = race(
+            || keep(csv_sheets(&file, &given())),
+            || by_library(&file, &mut out, |sheet| keep(sheet)),
+        );
+        let grown = before.map_or(["", ""].map(String::from), |(one, other)| {
+            [rust / one, library / other].map(|growth: f64| format!("{growth:.2}"))
+        });
+        before = Some((rust, library));
+        let (bytes, ratio) = (file.len(), rust / library);
+        let [rust, library] = [rust, library].map(|time| time / 1e3);
+        let [rust_grown, library_grown] = grown;
+        println!(
+            "| {bytes} | {sheets} | {rust:.1} | {library:.1} | {ratio:.2} | {rust_grown} | {library_grown} |"
+        );
+    }
+}
+
+fn given() -> Given {
+    Given {
+        mode: b"P".to_vec(),
+        sent: b"20240401093000".to_vec(),
+        control: b"K0001".to_vec(),
+    }
+}
+
+/// Counts the sheets of a file, and then writes each from where the one before ended.
+fn by_library(file: &[u8], out: &mut [u8], mut tell: impl FnMut(&[u8])) {
+    let given = given();
+    let given = oul::Given {
+        mode: &given.mode,
+        sent: &given.sent,
+        control: &given.control,
+    };
+    let sheets = oul::csv_count(file).expect("a good file");
+    let mut at = sheets.first_row;
+    for _ in 0..sheets.count {
+        let next = oul::csv_next(file, at, given, out);
+        tell(&out[..next.sheet.expect("a good sheet")]);
+        at = next.behind;
+    }
+    assert_eq!(at, file.len());
+}
+
+/// Both sides give the same sheets, and refuse none. Gives their number.
+fn agree_on_file(file: &[u8], out: &mut [u8]) -> usize {
+    let sheets = csv_sheets(file, &given()).expect("a good file");
+    let mut rust = sheets.iter();
+    by_library(file, out, |sheet| {
+        let expected = rust.next().expect("as many sheets");
+        assert_eq!(expected.as_deref(), Ok(sheet));
+    });
+    assert_eq!(rust.len(), 0);
+    sheets.len()
 }
 
 /// The ordinal, field and component of every read place of a message.

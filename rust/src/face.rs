@@ -2,10 +2,27 @@
 
 #![allow(unsafe_code)]
 
+use crate::Given;
+
 /// What a call answers, and what it tells.
 pub type Answer = (usize, [usize; 3]);
 
 mod c {
+    pub type Write = unsafe extern "C" fn(
+        file: *const u8,
+        length: usize,
+        which_or_at: usize,
+        mode: *const u8,
+        mode_length: usize,
+        sent: *const u8,
+        sent_length: usize,
+        control: *const u8,
+        control_length: usize,
+        out: *mut u8,
+        room: usize,
+        told: *mut [usize; 3],
+    ) -> usize;
+
     extern "C" {
         pub fn oul_check(message: *const u8, length: usize, told: *mut [usize; 3]) -> usize;
         pub fn oul_locate(
@@ -42,6 +59,36 @@ mod c {
             refusal: usize,
             told: *mut [usize; 3],
         ) -> usize;
+        pub fn oul_csv_count(file: *const u8, length: usize, told: *mut [usize; 3]) -> usize;
+        pub fn oul_csv_sheet(
+            file: *const u8,
+            length: usize,
+            which: usize,
+            mode: *const u8,
+            mode_length: usize,
+            sent: *const u8,
+            sent_length: usize,
+            control: *const u8,
+            control_length: usize,
+            out: *mut u8,
+            room: usize,
+            told: *mut [usize; 3],
+        ) -> usize;
+        pub fn oul_csv_next(
+            file: *const u8,
+            length: usize,
+            at: usize,
+            mode: *const u8,
+            mode_length: usize,
+            sent: *const u8,
+            sent_length: usize,
+            control: *const u8,
+            control_length: usize,
+            out: *mut u8,
+            room: usize,
+            told: *mut [usize; 3],
+        ) -> usize;
+        pub fn oul_csv_spot(file: *const u8, length: usize, told: *mut [usize; 3]) -> usize;
     }
 }
 
@@ -90,5 +137,56 @@ pub fn spot(text: &[u8], refusal: usize) -> Answer {
     let mut told = [0; 3];
     // SAFETY: as above.
     let answer = unsafe { c::oul_spot(text.as_ptr(), text.len(), refusal, &mut told) };
+    (answer, told)
+}
+
+pub fn csv_count(file: &[u8]) -> Answer {
+    let mut told = [0; 3];
+    // SAFETY: as above.
+    let answer = unsafe { c::oul_csv_count(file.as_ptr(), file.len(), &mut told) };
+    (answer, told)
+}
+
+pub fn csv_sheet(file: &[u8], which: usize, given: Given<'_>, out: &mut [u8]) -> Answer {
+    write_of(c::oul_csv_sheet, file, which, given, out)
+}
+
+pub fn csv_next(file: &[u8], at: usize, given: Given<'_>, out: &mut [u8]) -> Answer {
+    write_of(c::oul_csv_next, file, at, given, out)
+}
+
+/// A call that writes a sheet of a file, the one that a number tells.
+fn write_of(call: c::Write, file: &[u8], n: usize, given: Given<'_>, out: &mut [u8]) -> Answer {
+    let Given {
+        mode,
+        sent,
+        control,
+    } = given;
+    let mut told = [0; 3];
+    let (to, room) = (out.as_mut_ptr(), out.len());
+    // SAFETY: as above.
+    let answer = unsafe {
+        call(
+            file.as_ptr(),
+            file.len(),
+            n,
+            mode.as_ptr(),
+            mode.len(),
+            sent.as_ptr(),
+            sent.len(),
+            control.as_ptr(),
+            control.len(),
+            to,
+            room,
+            &mut told,
+        )
+    };
+    (answer, told)
+}
+
+pub fn csv_spot(file: &[u8]) -> Answer {
+    let mut told = [0; 3];
+    // SAFETY: as above.
+    let answer = unsafe { c::oul_csv_spot(file.as_ptr(), file.len(), &mut told) };
     (answer, told)
 }

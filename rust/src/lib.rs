@@ -1,5 +1,6 @@
 //! The specimen result message OUL^R22 of HL7 v2.5, over a proved library: [`check`] a message,
-//! [`fetch`] a part of it, turn it [`to_sheet`] and back [`to_message`].
+//! [`fetch`] a part of it, turn it [`to_sheet`] and back [`to_message`]; and go through the sheets
+//! of a commercial centre's CSV file by [`csv_count`] and [`csv_next`].
 //!
 //! Every call takes any bytes, ends, takes no memory and keeps no state. It gives what was asked
 //! for, or the one [`Refusal`] that is met first; a refusal leaves a lent buffer as it was.
@@ -21,9 +22,11 @@
 #![deny(unsafe_code)]
 #![warn(missing_docs)]
 
+mod csv;
 mod face;
 mod refusal;
 
+pub use csv::{csv_count, csv_next, csv_sheet, csv_spot, Given, Next, Sheets};
 pub use refusal::{number, Refusal};
 
 use std::ops::Range;
@@ -146,7 +149,7 @@ pub fn spot(text: &[u8], number: u8) -> Option<Spot> {
     }
 }
 
-/// What was told, or the refusal; no number of a refusal is above 45.
+/// What was told, or the refusal; no number of a refusal is above 54.
 fn accepted((answer, told): face::Answer) -> Result<[usize; 3], Refusal> {
     match answer {
         0 => Ok(told),

@@ -72,7 +72,7 @@ pub mod number {
     pub const STATUS: u8 = 26;
     /// ORC-2 differs from OBR-2.
     pub const DIFFERS: u8 = 27;
-    /// No known segment has this ordinal.
+    /// No known segment, or no sheet, has this ordinal.
     pub const NO_ORDINAL: u8 = 30;
     /// Field or component 0.
     pub const ZERO: u8 = 31;
@@ -88,4 +88,15 @@ pub mod number {
     pub const OVERFLOW: u8 = 44;
     /// The lent buffer is too short.
     pub const ROOM: u8 = 45;
+    /// An item of a file that is not quoted as it must be, or a line that does not end in CR LF;
+    /// [`csv_spot`](crate::csv_spot) tells in which line, as for the four below.
+    pub const QUOTING: u8 = 50;
+    /// No version or heading line, a bad column count, or a row with another count.
+    pub const COLUMNS: u8 = 51;
+    /// A byte that can't be converted, as half-width kana.
+    pub const UNCONVERTED: u8 = 52;
+    /// A patient key or the class differs among the rows of one result number.
+    pub const HEADER_DIFFERS: u8 = 53;
+    /// A result number that comes back after another.
+    pub const RETURNS: u8 = 54;
 }

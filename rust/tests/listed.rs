@@ -3,6 +3,7 @@
 use oul::Refusal;
 use oul_tests::cases::{Answer, Call, Case};
 use oul_tests::generate;
+use oul_tests::requests::{self, Asked};
 use std::fs;
 use std::path::Path;
 
@@ -16,6 +17,22 @@ fn every_edge_is_answered_as_listed() {
     run("edges.tsv");
 }
 
+/// A list of a request tells how many sheets a file has, and not where its first row starts.
+#[test]
+fn every_call_of_the_first_request_is_answered_as_listed() {
+    for line in entries("requests/req01.tsv") {
+        let listed = requests::parse(&line).expect("a case");
+        let Asked::Call(case) = &listed.asked else {
+            continue;
+        };
+        let answer = match answer(case) {
+            Answer::Sheets(sheets) => format!("ok {}", sheets.count),
+            answer => answer.to_string(),
+        };
+        assert_eq!(answer, listed.answer, "{}", listed.name);
+    }
+}
+
 #[test]
 fn generated_cases_are_answered_as_by_the_independent_program() {
     for case in generate::cases(20).take(3_000) {
@@ -24,24 +41,28 @@ fn generated_cases_are_answered_as_by_the_independent_program() {
 }
 
 fn run(list: &str) {
+    for line in entries(list) {
+        let (case, listed) = Case::parse(&line).expect("a case");
+        assert_eq!(answer(&case).to_string(), listed, "{case}");
+    }
+}
+
+/// The lines of a list of `tests/` that are no comments: some.
+fn entries(list: &str) -> Vec<String> {
     let tests = Path::new(env!("CARGO_MANIFEST_DIR")).join("../tests");
     let list = fs::read_to_string(tests.join(list)).expect("a list");
-    let mut count = 0;
-    for (number, line) in (1..).zip(list.lines()) {
-        if line.is_empty() || line.starts_with('#') {
-            continue;
-        }
-        let (case, listed) = Case::parse(line).expect("a case");
-        assert_eq!(answer(&case).to_string(), listed, "line {number}");
-        count += 1;
-    }
-    assert!(count > 0);
+    let lines = list.lines().map(String::from);
+    let entries: Vec<String> = lines
+        .filter(|line| !line.is_empty() && !line.starts_with('#'))
+        .collect();
+    assert!(!entries.is_empty());
+    entries
 }
 
 /// What this crate answers, as it stands in a list.
 fn answer(case: &Case) -> Answer {
     let input = case.input.as_slice();
-    let answer = match case.call {
+    let answer = match &case.call {
         Call::Check => oul::check(input).map(|counts| {
             Answer::Counts(oul_tests::Counts {
                 specimens: counts.specimens,
@@ -49,14 +70,18 @@ fn answer(case: &Case) -> Answer {
                 results: counts.results,
             })
         }),
-        Call::Fetch {
+        &Call::Fetch {
             ordinal,
             field,
             component,
         } => oul::fetch(input, ordinal, field, component).map(|part| Answer::Bytes(part.to_vec())),
-        Call::ToSheet { room } => written(oul::to_sheet, input, room),
-        Call::ToMessage { room } => written(oul::to_message, input, room),
-        Call::Segment { ordinal } => match oul::segment(input, ordinal) {
+        &Call::ToSheet { room } => {
+            written(room, |out| oul::to_sheet(input, out)).map(Answer::Bytes)
+        }
+        &Call::ToMessage { room } => {
+            written(room, |out| oul::to_message(input, out)).map(Answer::Bytes)
+        }
+        &Call::Segment { ordinal } => match oul::segment(input, ordinal) {
             Some(stretch) => Ok(Answer::Stretch(stretch)),
             None => Err(Refusal {
                 number: oul::number::NO_ORDINAL,
@@ -64,7 +89,7 @@ fn answer(case: &Case) -> Answer {
                 field: 0,
             }),
         },
-        Call::Spot { refusal } => {
+        &Call::Spot { refusal } => {
             let number = u8::try_from(refusal).ok();
             let spot = number.and_then(|number| oul::spot(input, number));
             Ok(Answer::Spot(spot.map(|spot| oul_tests::Spot {
@@ -72,24 +97,58 @@ fn answer(case: &Case) -> Answer {
                 byte: spot.byte,
             })))
         }
+        Call::CsvCount => oul::csv_count(input).map(|sheets| {
+            Answer::Sheets(oul_tests::Sheets {
+                count: sheets.count,
+                first_row: sheets.first_row,
+            })
+        }),
+        Call::CsvSheet { which, given, room } => {
+            let sheet = written(*room, |out| oul::csv_sheet(input, *which, lent(given), out));
+            sheet.map(Answer::Bytes)
+        }
+        Call::CsvNext { at, given, room } => {
+            let mut behind = None;
+            let sheet = written(*room, |out| {
+                let next = oul::csv_next(input, *at, lent(given), out);
+                behind = Some(next.behind);
+                next.sheet
+            });
+            Ok(Answer::Next(oul_tests::Next {
+                sheet: sheet.map_err(refused),
+                behind: behind.expect("a place"),
+            }))
+        }
+        Call::CsvSpot => Ok(Answer::Line(oul::csv_spot(input).unwrap_or(0))),
     };
-    answer.unwrap_or_else(|refusal| {
-        Answer::Refused(oul_tests::Refusal {
-            number: refusal.number,
-            place: refusal.place,
-            field: refusal.field,
-        })
-    })
+    answer.unwrap_or_else(|refusal| Answer::Refused(refused(refusal)))
 }
 
-type Conversion = fn(&[u8], &mut [u8]) -> Result<usize, Refusal>;
+fn lent(given: &oul_tests::Given) -> oul::Given<'_> {
+    oul::Given {
+        mode: &given.mode,
+        sent: &given.sent,
+        control: &given.control,
+    }
+}
 
-/// What was written. The bytes past it stay, and all do on a refusal.
-fn written(conversion: Conversion, input: &[u8], room: usize) -> Result<Answer, Refusal> {
+fn refused(refusal: Refusal) -> oul_tests::Refusal {
+    oul_tests::Refusal {
+        number: refusal.number,
+        place: refusal.place,
+        field: refusal.field,
+    }
+}
+
+/// What was written into a buffer. The bytes past it stay, and all do on a refusal.
+fn written(
+    room: usize,
+    write: impl FnOnce(&mut [u8]) -> Result<usize, Refusal>,
+) -> Result<Vec<u8>, Refusal> {
     const BEFORE: u8 = 7;
     let mut out = vec![BEFORE; room];
-    let length = conversion(input, &mut out);
+    let length = write(&mut out);
     let (text, past) = out.split_at(length.unwrap_or(0));
     assert!(past.iter().all(|&byte| byte == BEFORE));
-    length.map(|_| Answer::Bytes(text.to_vec()))
+    length.map(|_| text.to_vec())
 }

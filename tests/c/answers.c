@@ -1,23 +1,28 @@
 /* answers: reads cases from standard input and writes the library's answers to standard output, by way of include/oul.h. tests/compare holds them against the
  * independent Rust program.
  *
- * A case is six numbers of eight bytes, the lowest byte first, and the input: the call (0 check, 1 locate, 2 to_sheet, 3 to_message, 4 segment, 5 spot), three numbers
- * (locate: ordinal, field, component; to_sheet, to_message: the room of the lent buffer, 0, 0; segment: ordinal, 0, 0; spot: the refusal, 0, 0), the salt of what
- * the buffer holds before, and the length of the input. An answer is four such numbers, what the call returned and told, and for to_sheet and to_message the lent
- * buffer, with GUARD bytes behind it. Where there is no input or no room the call is given NULL.
+ * A case is six numbers of eight bytes, the lowest byte first, and the input: the call (0 check, 1 locate, 2 to_sheet, 3 to_message, 4 segment, 5 spot, 6 csv_count,
+ * 7 csv_sheet, 8 csv_next, 9 csv_spot), three numbers (locate: ordinal, field, component; to_sheet, to_message: the room of the lent buffer, 0, 0; segment: ordinal, 0,
+ * 0; spot: the refusal, 0, 0; csv_sheet: the room, which sheet, 0; csv_next: the room, the place, 0; else 0, 0, 0), the salt of what the buffer holds before, and the
+ * length of the input. Behind the input of csv_sheet and csv_next stand the lengths of mode, sent and control, as such numbers, and then the three. An answer is four
+ * such numbers, what the call returned and told, and for a call that writes the lent buffer, with GUARD bytes behind it. Where there is no input, no text or no room
+ * the call is given NULL.
  */
 #include "oul.h"
 
 #include <stdio.h>
 #include <string.h>
 
-enum { CHECK, LOCATE, TO_SHEET, TO_MESSAGE, SEGMENT, SPOT };
-enum { INPUT = 1 << 20, ROOM = 1 << 17, GUARD = 16 };
+enum { CHECK, LOCATE, TO_SHEET, TO_MESSAGE, SEGMENT, SPOT, CSV_COUNT, CSV_SHEET, CSV_NEXT, CSV_SPOT };
+enum { MODE, SENT, CONTROL, TEXTS };
+enum { INPUT = 1 << 20, TEXT = 1 << 17, ROOM = 1 << 17, GUARD = 16 };
 
 /* what stands in told before a call: no call leaves it */
 static const size_t UNTOLD = (size_t)-1;
 
 static unsigned char input[INPUT];
+static unsigned char texts[TEXTS][TEXT];
+static size_t lengths[TEXTS];
 static unsigned char buffer[ROOM + GUARD];
 static unsigned char before[256 + ROOM + GUARD];
 
@@ -37,9 +42,30 @@ static size_t lend(const struct ask *a) {
     return a->one + GUARD;
 }
 
-static int writes(const struct ask *a) {
-    return a->call == TO_SHEET || a->call == TO_MESSAGE;
+static int has_texts(const struct ask *a) {
+    return a->call == CSV_SHEET || a->call == CSV_NEXT;
 }
+
+static int writes(const struct ask *a) {
+    return a->call == TO_SHEET || a->call == TO_MESSAGE || has_texts(a);
+}
+
+static int read_texts(void) {
+    if (fread(lengths, sizeof lengths, 1, stdin) != 1)
+        return 0;
+    for (int i = 0; i < TEXTS; i++) {
+        if (lengths[i] > TEXT || fread(texts[i], 1, lengths[i], stdin) != lengths[i])
+            return 0;
+    }
+    return 1;
+}
+
+static const unsigned char *text(int i) {
+    return lengths[i] ? texts[i] : NULL;
+}
+
+/* mode, sent and control, each with its length */
+#define GIVEN text(MODE), lengths[MODE], text(SENT), lengths[SENT], text(CONTROL), lengths[CONTROL]
 
 static int answer(const struct ask *a) {
     size_t said[4] = {UNTOLD, UNTOLD, UNTOLD, UNTOLD};
@@ -65,6 +91,18 @@ static int answer(const struct ask *a) {
     case SPOT:
         said[0] = oul_spot(from, a->length, a->one, said + 1);
         break;
+    case CSV_COUNT:
+        said[0] = oul_csv_count(from, a->length, said + 1);
+        break;
+    case CSV_SHEET:
+        said[0] = oul_csv_sheet(from, a->length, a->two, GIVEN, out, a->one, said + 1);
+        break;
+    case CSV_NEXT:
+        said[0] = oul_csv_next(from, a->length, a->two, GIVEN, out, a->one, said + 1);
+        break;
+    case CSV_SPOT:
+        said[0] = oul_csv_spot(from, a->length, said + 1);
+        break;
     default:
         return 0;
     }
@@ -76,7 +114,7 @@ int main(void) {
     prepare();
     while (fread(&a, sizeof a, 1, stdin) == 1) {
         int good = a.length <= INPUT && a.salt <= 255 && (!writes(&a) || a.one <= ROOM);
-        if (!good || fread(input, 1, a.length, stdin) != a.length || !answer(&a)) {
+        if (!good || fread(input, 1, a.length, stdin) != a.length || (has_texts(&a) && !read_texts()) || !answer(&a)) {
             fprintf(stderr, "answers: no case\n");
             return 1;
         }

@@ -7,10 +7,13 @@
 #include <string.h>
 #include <ucontext.h>
 
-enum { STACK = 1 << 16, PATTERN = 0xA5 };
+enum { STACK = 1 << 19, INPUT = 1 << 18, PATTERN = 0xA5 };
+
+/* mode, sent and control, each with its length */
+#define GIVEN (const unsigned char *)"T", 1, (const unsigned char *)"20240401093000", 14, (const unsigned char *)"K", 1
 
 static unsigned char stack[STACK];
-static unsigned char input[OUL_SHEET_MAX + 1];
+static unsigned char input[INPUT];
 static unsigned char out[OUL_SHEET_MAX];
 static size_t length;
 static size_t told[3];
@@ -45,6 +48,26 @@ static void spot(void) {
     oul_spot(input, length, OUL_SHEET_BYTES, told);
 }
 
+static void csv_count(void) {
+    oul_csv_count(input, length, told);
+}
+
+static void csv_sheet(void) {
+    oul_csv_sheet(input, length, 1, GIVEN, out, sizeof out, told);
+}
+
+/* at the version line, the heading line and each sheet behind them */
+static void csv_next(void) {
+    told[2] = 0;
+    do
+        oul_csv_next(input, length, told[2], GIVEN, out, sizeof out, told);
+    while (told[2] < length);
+}
+
+static void csv_spot(void) {
+    oul_csv_spot(input, length, told);
+}
+
 /* the first is what a context takes by itself */
 static struct {
     const char *name;
@@ -58,6 +81,10 @@ static struct {
     {"oul_to_message", to_message, 0},
     {"oul_segment", segment, 0},
     {"oul_spot", spot, 0},
+    {"oul_csv_count", csv_count, 0},
+    {"oul_csv_sheet", csv_sheet, 0},
+    {"oul_csv_next", csv_next, 0},
+    {"oul_csv_spot", csv_spot, 0},
 };
 
 enum { CALLS = sizeof calls / sizeof *calls };

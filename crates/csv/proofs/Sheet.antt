@@ -106,6 +106,12 @@ part-long w x y n A = sym (length-take-le n y (A .inside))
 pub made-told : (w x y old after : List ℕ) (n : ℕ) (r : Made) → length x ≡ 65537 → Adds 0 x w n y → SheetCall (madeTold (take n y) (length old)) old r after → SheetCall (madeTold w (length old)) old r after
 made-told w x y old after n r e A c = told-as (made-as w x y n (length old) A e) c
 
+-- a sheet that ends before the buffer does is whole
+pub small-told : (w x y old after : List ℕ) (n : ℕ) (r : Made) → Adds 0 x w n y → n < length y → SheetCall (madeTold (take n y) (length old)) old r after → SheetCall (madeTold w (length old)) old r after
+small-told w x y old after n r A h c =
+    let l : length w ≡ n = front-cut A (omega (arith, A .same)) in
+    told-as (ap (λ (s : List ℕ). madeTold s (length old)) (sym (front-is A (omega (arith, A .inside, A .same))))) c
+
 -- ---- the place behind what begins at a place
 module _ (f : List ℕ) (at : ℕ) where
   none-there : length f ≤ at → (runsFrom f at ≡ []) × (isBroken (cut (drop at f)) ≡ false)

@@ -134,7 +134,59 @@ fn handed(sheet: &[u8], out: &mut [u8]) -> Made
     }
 }
 
-// The sheet of the rows from a place up to another, made in a buffer of its own, since a refusal leaves the lent one.
+// The sheet of the rows from a place up to another, made in a buffer of its own, since a refusal leaves the lent one. Most sheets are small.
+fn sheet_from(
+    file: &[u8],
+    at: usize,
+    end: usize,
+    mode: &[u8],
+    sent: &[u8],
+    control: &[u8],
+    out: &mut [u8],
+) -> Made
+    requires { ⌜ Convertible (now file) at end ⌝ }
+    ensures { λ r. ⌜ SheetCall (madeTold (sheetAt (now (file .entry)) at (record { mode = now (mode .entry); sent = now (sent .entry); control = now (control .entry) })) (length (now (out .entry)))) (now (out .entry)) r (now (out .exit)) ⌝ }
+{
+    let mut sheet = [0u8; 8192];
+    small_or_not(&mut sheet, file, at, end, mode, sent, control, out)
+}
+
+fn small_or_not(
+    sheet: &mut [u8],
+    file: &[u8],
+    at: usize,
+    end: usize,
+    mode: &[u8],
+    sent: &[u8],
+    control: &[u8],
+    out: &mut [u8],
+) -> Made
+    requires { ⌜ Convertible (now file) at end ⌝ }
+    ensures { λ r. ⌜ SheetCall (madeTold (sheetAt (now (file .entry)) at (record { mode = now (mode .entry); sent = now (sent .entry); control = now (control .entry) })) (length (now (out .entry)))) (now (out .entry)) r (now (out .exit)) ⌝ }
+{
+    let n = csv_lines::put_sheet(sheet, file, at, end, mode, sent, control);
+    if n < sheet.len() {
+        return handed(&sheet[..n], out);
+    }
+    large(file, at, end, mode, sent, control, out)
+}
+
+fn large(
+    file: &[u8],
+    at: usize,
+    end: usize,
+    mode: &[u8],
+    sent: &[u8],
+    control: &[u8],
+    out: &mut [u8],
+) -> Made
+    requires { ⌜ Convertible (now file) at end ⌝ }
+    ensures { λ r. ⌜ SheetCall (madeTold (sheetAt (now (file .entry)) at (record { mode = now (mode .entry); sent = now (sent .entry); control = now (control .entry) })) (length (now (out .entry)))) (now (out .entry)) r (now (out .exit)) ⌝ }
+{
+    let mut sheet = room();
+    made_in(&mut sheet, file, at, end, mode, sent, control, out)
+}
+
 fn made_in(
     sheet: &mut [u8],
     file: &[u8],
@@ -150,22 +202,6 @@ fn made_in(
 {
     let n = csv_lines::put_sheet(sheet, file, at, end, mode, sent, control);
     handed(&sheet[..n], out)
-}
-
-fn sheet_from(
-    file: &[u8],
-    at: usize,
-    end: usize,
-    mode: &[u8],
-    sent: &[u8],
-    control: &[u8],
-    out: &mut [u8],
-) -> Made
-    requires { ⌜ Convertible (now file) at end ⌝ }
-    ensures { λ r. ⌜ SheetCall (madeTold (sheetAt (now (file .entry)) at (record { mode = now (mode .entry); sent = now (sent .entry); control = now (control .entry) })) (length (now (out .entry)))) (now (out .entry)) r (now (out .exit)) ⌝ }
-{
-    let mut sheet = room();
-    made_in(&mut sheet, file, at, end, mode, sent, control, out)
 }
 
 // The sheet that begins at a place, and the place behind its rows: 50, 30; 52 and 53 of its rows; its own 40 to 43; 45.

@@ -16,5 +16,6 @@ int ferror(FILE *file);
 void perror(const char *words);
 int printf(const char *format, ...);
 int fprintf(FILE *file, const char *format, ...);
+int snprintf(char *to, size_t room, const char *format, ...);
 
 #endif

@@ -2,7 +2,10 @@
 //! cases and writes the answers that the library gives by its C face, both as bytes.
 
 use crate::cases::{Call, Case};
-use crate::{check, locate, segment, spot, to_message, to_sheet, Refusal};
+use crate::{
+    check, csv_count, csv_next, csv_sheet, csv_spot, locate, segment, spot, to_message, to_sheet,
+    Given, Refusal,
+};
 use std::fmt;
 use std::io::{self, Read, Write};
 
@@ -12,7 +15,7 @@ const GUARD: usize = 16;
 /// What a call returns and tells, as numbers, and what a lent buffer then holds.
 ///
 /// The first number is 0 or the refusal's number, followed by what was asked for, or by the
-/// refusal's place and field.
+/// refusal's place and field. The last one is the place behind for csv_next, refused or not.
 #[derive(Clone, Debug, Default, PartialEq, Eq)]
 pub struct Said {
     pub numbers: [u64; 4],
@@ -23,11 +26,11 @@ impl Said {
     /// What this library says. Its buffer held bytes before that the salt gives.
     pub fn by_us(case: &Case, salt: u8) -> Self {
         let input = case.input.as_slice();
-        match case.call {
+        match &case.call {
             Call::Check => Self::numbers(
                 check(input).map(|counts| [counts.specimens, counts.orders, counts.results]),
             ),
-            Call::Fetch {
+            &Call::Fetch {
                 ordinal,
                 field,
                 component,
@@ -35,14 +38,27 @@ impl Said {
                 locate(input, ordinal, field, component)
                     .map(|stretch| [stretch.start, stretch.len(), 0]),
             ),
-            Call::ToSheet { room } => Self::written(to_sheet(input, room), room, salt),
-            Call::ToMessage { room } => Self::written(to_message(input, room), room, salt),
-            Call::Segment { ordinal } => Self::numbers(
+            &Call::ToSheet { room } => Self::written(to_sheet(input, room), room, salt),
+            &Call::ToMessage { room } => Self::written(to_message(input, room), room, salt),
+            &Call::Segment { ordinal } => Self::numbers(
                 segment(input, ordinal).map(|stretch| [stretch.start, stretch.len(), 0]),
             ),
-            Call::Spot { refusal } => Self::numbers(Ok(
+            &Call::Spot { refusal } => Self::numbers(Ok(
                 spot(input, refusal).map_or([0; 3], |spot| [spot.line, spot.byte, 0])
             )),
+            Call::CsvCount => {
+                Self::numbers(csv_count(input).map(|sheets| [sheets.count, sheets.first_row, 0]))
+            }
+            Call::CsvSheet { which, given, room } => {
+                Self::written(csv_sheet(input, *which, given, *room), *room, salt)
+            }
+            Call::CsvNext { at, given, room } => {
+                let next = csv_next(input, *at, given, *room);
+                let mut said = Self::written(next.sheet, *room, salt);
+                said.numbers[3] = next.behind as u64;
+                said
+            }
+            Call::CsvSpot => Self::numbers(Ok([csv_spot(input), 0, 0])),
         }
     }
 
@@ -80,7 +96,7 @@ impl Said {
             from.read_exact(&mut bytes)?;
             *number = u64::from_le_bytes(bytes);
         }
-        if let Call::ToSheet { room } | Call::ToMessage { room } = case.call {
+        if let Some(room) = case.call.room() {
             said.buffer = vec![0; room + GUARD];
             from.read_exact(&mut said.buffer)?;
         }
@@ -104,23 +120,41 @@ fn held_before(room: usize, salt: u8) -> Vec<u8> {
 
 /// Puts a case to the other side.
 pub fn ask(case: &Case, salt: u8, to: &mut impl Write) -> io::Result<()> {
-    let [call, one, two, three] = match case.call {
+    let [call, one, two, three] = match &case.call {
         Call::Check => [0, 0, 0, 0],
-        Call::Fetch {
+        &Call::Fetch {
             ordinal,
             field,
             component,
         } => [1, ordinal, field, component],
-        Call::ToSheet { room } => [2, room, 0, 0],
-        Call::ToMessage { room } => [3, room, 0, 0],
-        Call::Segment { ordinal } => [4, ordinal, 0, 0],
-        Call::Spot { refusal } => [5, refusal, 0, 0],
+        &Call::ToSheet { room } => [2, room, 0, 0],
+        &Call::ToMessage { room } => [3, room, 0, 0],
+        &Call::Segment { ordinal } => [4, ordinal, 0, 0],
+        &Call::Spot { refusal } => [5, refusal, 0, 0],
+        Call::CsvCount => [6, 0, 0, 0],
+        &Call::CsvSheet { which, room, .. } => [7, room, which, 0],
+        &Call::CsvNext { at, room, .. } => [8, room, at, 0],
+        Call::CsvSpot => [9, 0, 0, 0],
     };
-    for number in [call, one, two, three, salt.into(), case.input.len()] {
-        to.write_all(&(number as u64).to_le_bytes())?;
-    }
+    write_numbers(&[call, one, two, three, salt.into(), case.input.len()], to)?;
     to.write_all(&case.input)?;
+    if let Call::CsvSheet { given, .. } | Call::CsvNext { given, .. } = &case.call {
+        write_given(given, to)?;
+    }
     to.flush()
+}
+
+/// The caller's three texts stand behind the file, their lengths before them.
+fn write_given(given: &Given, to: &mut impl Write) -> io::Result<()> {
+    let texts = [&given.mode, &given.sent, &given.control];
+    write_numbers(&texts.map(Vec::len), to)?;
+    texts.iter().try_for_each(|text| to.write_all(text))
+}
+
+fn write_numbers(numbers: &[usize], to: &mut impl Write) -> io::Result<()> {
+    numbers
+        .iter()
+        .try_for_each(|&number| to.write_all(&(number as u64).to_le_bytes()))
 }
 
 #[cfg(test)]

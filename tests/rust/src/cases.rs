@@ -1,21 +1,28 @@
 //! Cases: a call with its input, and the answer to it, one case a line.
 //!
 //! A line holds, separated by tabs, the call (`check`, `fetch`, `to_sheet`, `to_message`,
-//! `segment`, `spot`), the input in hex, further arguments (fetch: ordinal, field, component;
-//! to_sheet and to_message: the room of the lent buffer; segment: ordinal; spot: the refusal's
-//! number) and the answer:
+//! `segment`, `spot`, `csv_count`, `csv_sheet`, `csv_next`, `csv_spot`), the input in hex, further
+//! arguments (fetch: ordinal, field, component; to_sheet and to_message: the room of the lent
+//! buffer; segment: ordinal; spot: the refusal's number; csv_sheet: which sheet, csv_next: the
+//! place, and both then mode, sent and control in hex and the room) and the answer:
 //!
 //! * `ok SPM OBR OBX` from check,
 //! * `ok START LENGTH` from segment,
 //! * `ok LINE BYTE` from spot, `ok 0 0` where there is no place,
+//! * `ok SHEETS FIRST-ROW` from csv_count,
+//! * `ok LINE` from csv_spot, `ok 0` where nothing is refused,
 //! * `ok HEX` from the others, or `ok` alone where the stretch is empty,
-//! * `refused NUMBER SEGMENT-OR-LINE FIELD` from any of them but spot.
+//! * `refused NUMBER SEGMENT-OR-LINE FIELD` from any of them but the spots,
+//! * either of these and `behind PLACE` from csv_next.
 
-use crate::{check, locate, segment, spot, to_message, to_sheet, Counts, Refusal, Spot};
+use crate::{
+    check, csv_count, csv_next, csv_sheet, csv_spot, locate, segment, spot, to_message, to_sheet,
+    Counts, Given, Next, Refusal, Sheets, Spot,
+};
 use std::fmt;
 use std::ops::Range;
 
-#[derive(Clone, Copy, Debug, PartialEq, Eq)]
+#[derive(Clone, Debug, PartialEq, Eq)]
 pub enum Call {
     Check,
     Fetch {
@@ -35,6 +42,47 @@ pub enum Call {
     Spot {
         refusal: usize,
     },
+    CsvCount,
+    CsvSheet {
+        which: usize,
+        given: Given,
+        room: usize,
+    },
+    CsvNext {
+        at: usize,
+        given: Given,
+        room: usize,
+    },
+    CsvSpot,
+}
+
+impl Call {
+    /// What the call is named in a list.
+    pub fn name(&self) -> &'static str {
+        match self {
+            Self::Check => "check",
+            Self::Fetch { .. } => "fetch",
+            Self::ToSheet { .. } => "to_sheet",
+            Self::ToMessage { .. } => "to_message",
+            Self::Segment { .. } => "segment",
+            Self::Spot { .. } => "spot",
+            Self::CsvCount => "csv_count",
+            Self::CsvSheet { .. } => "csv_sheet",
+            Self::CsvNext { .. } => "csv_next",
+            Self::CsvSpot => "csv_spot",
+        }
+    }
+
+    /// The room of the lent buffer, for a call that writes.
+    pub fn room(&self) -> Option<usize> {
+        match *self {
+            Self::ToSheet { room }
+            | Self::ToMessage { room }
+            | Self::CsvSheet { room, .. }
+            | Self::CsvNext { room, .. } => Some(room),
+            _ => None,
+        }
+    }
 }
 
 #[derive(Clone, Debug, PartialEq, Eq)]
@@ -49,25 +97,47 @@ pub enum Answer {
     Bytes(Vec<u8>),
     Stretch(Range<usize>),
     Spot(Option<Spot>),
+    Sheets(Sheets),
+    Next(Next),
+    Line(usize),
     Refused(Refusal),
+}
+
+impl Answer {
+    /// Why the input was refused, where it was.
+    pub fn refusal(&self) -> Option<Refusal> {
+        match self {
+            Self::Refused(refusal) => Some(*refusal),
+            Self::Next(next) => next.sheet.as_ref().err().copied(),
+            _ => None,
+        }
+    }
 }
 
 impl Case {
     /// What this library answers.
     pub fn answer(&self) -> Answer {
         let input = self.input.as_slice();
-        let answer = match self.call {
+        let answer = match &self.call {
             Call::Check => check(input).map(Answer::Counts),
             Call::Fetch {
                 ordinal,
                 field,
                 component,
-            } => locate(input, ordinal, field, component)
+            } => locate(input, *ordinal, *field, *component)
                 .map(|stretch| Answer::Bytes(input[stretch].to_vec())),
-            Call::ToSheet { room } => to_sheet(input, room).map(Answer::Bytes),
-            Call::ToMessage { room } => to_message(input, room).map(Answer::Bytes),
-            Call::Segment { ordinal } => segment(input, ordinal).map(Answer::Stretch),
-            Call::Spot { refusal } => Ok(Answer::Spot(spot(input, refusal))),
+            Call::ToSheet { room } => to_sheet(input, *room).map(Answer::Bytes),
+            Call::ToMessage { room } => to_message(input, *room).map(Answer::Bytes),
+            Call::Segment { ordinal } => segment(input, *ordinal).map(Answer::Stretch),
+            Call::Spot { refusal } => Ok(Answer::Spot(spot(input, *refusal))),
+            Call::CsvCount => csv_count(input).map(Answer::Sheets),
+            Call::CsvSheet { which, given, room } => {
+                csv_sheet(input, *which, given, *room).map(Answer::Bytes)
+            }
+            Call::CsvNext { at, given, room } => {
+                Ok(Answer::Next(csv_next(input, *at, given, *room)))
+            }
+            Call::CsvSpot => Ok(Answer::Line(csv_spot(input))),
         };
         answer.unwrap_or_else(Answer::Refused)
     }
@@ -101,6 +171,24 @@ impl Case {
                 let refusal = parse_count(refusal)?;
                 (Call::Spot { refusal }, input, answer)
             }
+            ["csv_count", input, answer] => (Call::CsvCount, input, answer),
+            ["csv_sheet", input, which, mode, sent, control, room, answer] => {
+                let call = Call::CsvSheet {
+                    which: parse_count(which)?,
+                    given: parse_given([mode, sent, control])?,
+                    room: parse_count(room)?,
+                };
+                (call, input, answer)
+            }
+            ["csv_next", input, at, mode, sent, control, room, answer] => {
+                let call = Call::CsvNext {
+                    at: parse_count(at)?,
+                    given: parse_given([mode, sent, control])?,
+                    room: parse_count(room)?,
+                };
+                (call, input, answer)
+            }
+            ["csv_spot", input, answer] => (Call::CsvSpot, input, answer),
             _ => return Err(format!("no case: {} columns", columns.len())),
         };
         let input = parse_hex(input)?;
@@ -108,11 +196,31 @@ impl Case {
     }
 }
 
-fn parse_count(text: &str) -> Result<usize, String> {
+pub fn parse_given(texts: [&str; 3]) -> Result<Given, String> {
+    let [mode, sent, control] = texts.map(parse_hex);
+    Ok(Given {
+        mode: mode?,
+        sent: sent?,
+        control: control?,
+    })
+}
+
+pub fn parse_count(text: &str) -> Result<usize, String> {
     text.parse().map_err(|_| format!("no count: {text}"))
 }
 
-fn parse_hex(text: &str) -> Result<Vec<u8>, String> {
+/// Bytes in hex. In the lists of the requests no bytes at all are `-`, and a long text is in pieces
+/// joined by `+`, of which `*N` repeats one N times.
+pub fn parse_hex(text: &str) -> Result<Vec<u8>, String> {
+    let mut bytes = Vec::new();
+    for piece in text.split('+').filter(|piece| *piece != "-") {
+        let (piece, times) = piece.split_once('*').unwrap_or((piece, "1"));
+        bytes.extend(parse_piece(piece)?.repeat(parse_count(times)?));
+    }
+    Ok(bytes)
+}
+
+fn parse_piece(text: &str) -> Result<Vec<u8>, String> {
     let digit = |byte: u8| char::from(byte).to_digit(16);
     let byte = |pair: &[u8]| match *pair {
         [high, low] => Some((digit(high)? * 16 + digit(low)?) as u8),
@@ -125,18 +233,31 @@ fn parse_hex(text: &str) -> Result<Vec<u8>, String> {
 /// A case as it stands in a line, the answer left out.
 impl fmt::Display for Case {
     fn fmt(&self, out: &mut fmt::Formatter<'_>) -> fmt::Result {
-        let input = Hex(&self.input);
-        match self.call {
-            Call::Check => write!(out, "check\t{input}"),
+        write!(out, "{}\t{}", self.call.name(), Hex(&self.input))?;
+        match &self.call {
+            Call::Check | Call::CsvCount | Call::CsvSpot => Ok(()),
             Call::Fetch {
                 ordinal,
                 field,
                 component,
-            } => write!(out, "fetch\t{input}\t{ordinal}\t{field}\t{component}"),
-            Call::ToSheet { room } => write!(out, "to_sheet\t{input}\t{room}"),
-            Call::ToMessage { room } => write!(out, "to_message\t{input}\t{room}"),
-            Call::Segment { ordinal } => write!(out, "segment\t{input}\t{ordinal}"),
-            Call::Spot { refusal } => write!(out, "spot\t{input}\t{refusal}"),
+            } => write!(out, "\t{ordinal}\t{field}\t{component}"),
+            Call::ToSheet { room } | Call::ToMessage { room } => write!(out, "\t{room}"),
+            Call::Segment { ordinal } => write!(out, "\t{ordinal}"),
+            Call::Spot { refusal } => write!(out, "\t{refusal}"),
+            Call::CsvSheet {
+                which: number,
+                given,
+                room,
+            }
+            | Call::CsvNext {
+                at: number,
+                given,
+                room,
+            } => {
+                let [mode, sent, control] =
+                    [&given.mode, &given.sent, &given.control].map(|t| Hex(t));
+                write!(out, "\t{number}\t{mode}\t{sent}\t{control}\t{room}")
+            }
         }
     }
 }
@@ -154,6 +275,15 @@ impl fmt::Display for Answer {
             Self::Stretch(stretch) => write!(out, "ok {} {}", stretch.start, stretch.len()),
             Self::Spot(Some(spot)) => write!(out, "ok {} {}", spot.line, spot.byte),
             Self::Spot(None) => out.write_str("ok 0 0"),
+            Self::Sheets(sheets) => write!(out, "ok {} {}", sheets.count, sheets.first_row),
+            Self::Next(next) => {
+                match &next.sheet {
+                    Ok(sheet) => write!(out, "ok {}", Hex(sheet))?,
+                    Err(refusal) => refusal.fmt(out)?,
+                }
+                write!(out, " behind {}", next.behind)
+            }
+            Self::Line(line) => write!(out, "ok {line}"),
             Self::Refused(refusal) => refusal.fmt(out),
         }
     }
@@ -183,10 +313,23 @@ mod tests {
             "segment\t504944\t1\trefused 30 0 0",
             "spot\t610d80\t12\tok 2 3",
             "spot\t610d80\t20\tok 0 0",
+            "csv_count\t\trefused 51 0 0",
+            "csv_count\t22222c2237220d0a2222\tok 0 10",
+            "csv_sheet\t22222c2237220d0a2222\t1\t\t\t\t0\trefused 30 0 0",
+            "csv_next\t22222c2237220d0a2222\t0\t54\t\t4b\t9\trefused 43 3 0 behind 10",
+            "csv_next\t0d0a\t2\t\t\t\t9\trefused 30 0 0 behind 2",
+            "csv_spot\t22222c2237220d0a0d0a\tok 2",
         ] {
             let (case, answer) = Case::parse(line).unwrap();
             assert_eq!(case.answer().to_string(), answer);
             assert_eq!(format!("{case}\t{answer}"), line);
+        }
+    }
+
+    #[test]
+    fn a_long_text_is_in_pieces() {
+        for (text, bytes) in [("", ""), ("-", ""), ("41", "A"), ("0d*3+41", "\r\r\rA")] {
+            assert_eq!(parse_hex(text), Ok(bytes.into()));
         }
     }
 
@@ -198,6 +341,8 @@ mod tests {
             "check\tzz\tok",
             "fetch\t\t1\t-1\t1\tok",
             "look\t\tok",
+            "csv_sheet\t\t1\t\t\t\tok",
+            "csv_next\t\t1\t5\t\t\t0\tok",
         ] {
             assert!(Case::parse(line).is_err(), "{line}");
         }

@@ -1,4 +1,4 @@
-//! Seeded cases for the six calls: valid, damaged and extreme inputs.
+//! Seeded cases for the ten calls: valid, damaged and extreme inputs.
 //!
 //! The same seed gives the same run everywhere: nothing here looks at a clock. The calls and the
 //! recipes of their inputs come in turn, so that a run of some thousand cases has met every
@@ -6,6 +6,7 @@
 
 mod damage;
 mod drafts;
+mod files;
 mod messages;
 mod random;
 mod sheets;
@@ -14,17 +15,42 @@ mod words;
 
 use crate::cases::{Call, Case};
 use crate::refusal::number;
-use crate::{to_message, to_sheet, Refusal, MESSAGE_LIMIT, SHEET_LIMIT};
+use crate::{csv_next, csv_sheet, to_message, to_sheet, Refusal, MESSAGE_LIMIT, SHEET_LIMIT};
 use random::Random;
 
-/// An endless run of cases.
+/// What the calls that know files answer in a run of some thousand cases: 0, where nothing is refused,
+/// and their refusals. A spot counts for the refusal of its file.
+#[rustfmt::skip]
+pub const OF_FILES: [(&str, &[u8]); 4] = [
+    ("csv_count", &[0, 50, 51, 52, 53, 54]),
+    ("csv_sheet", &[0, 30, 40, 41, 42, 43, 45, 50, 51, 52, 53, 54]),
+    ("csv_next", &[0, 30, 40, 41, 42, 43, 45, 50, 52, 53]),
+    ("csv_spot", &[0, 50, 51, 52, 53, 54]),
+];
+
+/// An endless run of cases. Of each eight, six are of messages and sheets, two of files.
 pub fn cases(seed: u64) -> impl Iterator<Item = Case> {
+    let (mut texts, mut files) = (of_texts(seed), of_files(seed));
+    (0..).filter_map(move |turn| match turn % 8 {
+        0..6 => texts.next(),
+        _ => files.next(),
+    })
+}
+
+/// An endless run of cases of messages and sheets.
+pub fn of_texts(seed: u64) -> impl Iterator<Item = Case> {
     let mut random = Random::new(seed);
-    (0..).map(move |turn| case(turn, &mut random))
+    (0..).map(move |turn| case_of_text(turn, &mut random))
+}
+
+/// An endless run of cases of the commercial centre's files.
+pub fn of_files(seed: u64) -> impl Iterator<Item = Case> {
+    let mut random = Random::new(!seed);
+    (0..).map(move |turn| case_of_file(turn, &mut random))
 }
 
 /// Every six turns each call has one case, made by the next recipe.
-fn case(turn: usize, random: &mut Random) -> Case {
+fn case_of_text(turn: usize, random: &mut Random) -> Case {
     let recipe = turn / 6;
     match turn % 6 {
         0 => Case {
@@ -63,6 +89,52 @@ fn case(turn: usize, random: &mut Random) -> Case {
     }
 }
 
+/// Every four turns each call has one case, made by the next recipe.
+fn case_of_file(turn: usize, random: &mut Random) -> Case {
+    let recipe = turn / 4;
+    match turn % 4 {
+        0 => Case {
+            call: Call::CsvCount,
+            input: files::file(recipe, random),
+        },
+        1 => {
+            let input = files::file_for_sheets(recipe, random);
+            let call = some_sheet(random, &input);
+            Case { call, input }
+        }
+        2 => {
+            let input = files::file_for_sheets(recipe, random);
+            let call = some_next(random, &input);
+            Case { call, input }
+        }
+        _ => Case {
+            call: Call::CsvSpot,
+            input: files::file(recipe, random),
+        },
+    }
+}
+
+/// Asks mostly for a sheet that is there.
+fn some_sheet(random: &mut Random, file: &[u8]) -> Call {
+    let numbers = random.pick(&[1, 1, 1, 2, 4]);
+    let which = some_number(random, numbers);
+    let given = files::some_given(random, file);
+    let room = room(
+        random,
+        csv_sheet(file, which, &given, usize::MAX),
+        SHEET_LIMIT,
+    );
+    Call::CsvSheet { which, given, room }
+}
+
+fn some_next(random: &mut Random, file: &[u8]) -> Call {
+    let at = files::some_place(random, file);
+    let given = files::some_given(random, file);
+    let sheet = csv_next(file, at, &given, usize::MAX).sheet;
+    let room = room(random, sheet, SHEET_LIMIT);
+    Call::CsvNext { at, given, room }
+}
+
 /// Asks mostly for what is there, sometimes for number 0, one past the end, or far off.
 fn fetch(random: &mut Random, message: &[u8]) -> Call {
     Call::Fetch {
@@ -86,8 +158,8 @@ fn some_refusal(random: &mut Random) -> usize {
     ];
     const NONE: [usize; 4] = [0, 256 + 12, 65_536 + 13, usize::MAX];
     match random.below(8) {
-        0 => random.pick(&number::ALL).into(),
-        1 => random.pick(&NONE),
+        0 | 1 => random.pick(&number::ALL).into(),
+        2 => random.pick(&NONE),
         _ => random.pick(&WITH_A_SPOT).into(),
     }
 }

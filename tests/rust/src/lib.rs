@@ -1,16 +1,23 @@
-//! An independent reading of document 01 in plain Rust: the laboratory result message OUL^R22
-//! of HL7 v2.5, and the sheet that says the same line by line.
+//! An independent reading of documents 01 and 02 in plain Rust: the laboratory result message
+//! OUL^R22 of HL7 v2.5, the sheet that says the same line by line, and the commercial centre's
+//! result file.
 //!
-//! It is written from the paper alone and shares no code with the proved library, so that each
-//! can be held against the other. The paper has no word on [`spot`]: that is written from its
-//! declaration in `include/oul.h`. Six calls cover the work:
+//! It is written from the papers alone and shares no code with the proved library, so that each
+//! can be held against the other. The papers have no word on [`spot`], [`csv_next`] and
+//! [`csv_spot`]: these are written from their declarations in `include/oul.h`. Ten calls cover the
+//! work:
 //!
 //! * [`check`] counts a message's specimens, orders and results, or refuses it;
 //! * [`locate`] finds a part of an accepted message;
 //! * [`to_sheet`] writes an accepted message as a sheet;
 //! * [`to_message`] writes an accepted sheet as a message;
 //! * [`segment`] finds a known segment, and [`spot`] the place of a refusal that names none, both
-//!   in any bytes.
+//!   in any bytes;
+//! * [`csv_count`] counts the sheets of a result file, or refuses it;
+//! * [`csv_sheet`] writes one of them, and [`csv_next`] the one whose rows begin at a place;
+//! * [`csv_spot`] finds the line at which a result file is refused.
+//!
+//! Beside them [`csv_sheets`] writes all sheets of a result file in one pass.
 //!
 //! Message and sheet meet in [`report`]: each has a reader that judges and tells entries of the
 //! report one by one, and a writer that takes them.
@@ -19,6 +26,7 @@
 
 pub mod bridge;
 pub mod cases;
+mod csv;
 pub mod delimiters;
 mod fetch;
 pub mod generate;
@@ -27,6 +35,7 @@ mod message_writer;
 pub mod parts;
 pub mod refusal;
 pub mod report;
+pub mod requests;
 mod rules;
 mod segments;
 mod sheet_reader;
@@ -40,6 +49,10 @@ use refusal::number;
 use sheet_writer::SheetWriter;
 use std::ops::Range;
 
+pub use csv::{
+    csv_count, csv_next, csv_sheet, csv_sheets, csv_spot, pair, unpaired, Given, Next, Sheet,
+    Sheets,
+};
 pub use refusal::Refusal;
 pub use report::Counts;
 pub use spot::{spot, Spot};

@@ -4,8 +4,8 @@ use std::fmt;
 
 /// Why a call refused its input, and where.
 ///
-/// `place` is a segment for a message and a line for a sheet; `place` and `field` are 0 where
-/// document 01 names none.
+/// `place` is a segment for a message and a line for a sheet; `place` and `field` are 0 where the
+/// papers name none.
 #[derive(Clone, Copy, Debug, PartialEq, Eq, Hash)]
 pub struct Refusal {
     pub number: u8,
@@ -47,7 +47,7 @@ impl fmt::Display for Refusal {
 
 impl std::error::Error for Refusal {}
 
-/// Document 01's numbers by name.
+/// The papers' numbers by name.
 pub mod number {
     pub const MESSAGE_TOO_LONG: u8 = 10;
     pub const HEADER: u8 = 11;
@@ -75,8 +75,15 @@ pub mod number {
     pub const MESSAGE_WOULD_PASS_LIMITS: u8 = 44;
     pub const BUFFER_TOO_SHORT: u8 = 45;
 
+    pub const CSV_QUOTING: u8 = 50;
+    pub const CSV_COLUMNS: u8 = 51;
+    pub const CSV_BYTES: u8 = 52;
+    pub const CSV_HEADER_DIFFERS: u8 = 53;
+    pub const CSV_NUMBER_RETURNS: u8 = 54;
+
     /// Every number there is, in rising order.
-    pub const ALL: [u8; 22] = [
-        10, 11, 12, 13, 14, 15, 20, 21, 22, 23, 24, 25, 26, 27, 30, 31, 40, 41, 42, 43, 44, 45,
+    pub const ALL: [u8; 27] = [
+        10, 11, 12, 13, 14, 15, 20, 21, 22, 23, 24, 25, 26, 27, 30, 31, 40, 41, 42, 43, 44, 45, 50,
+        51, 52, 53, 54,
     ];
 }

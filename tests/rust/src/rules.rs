@@ -148,6 +148,11 @@ impl Rule {
     }
 }
 
+/// Whether a text is an NM: a filled one, of at most 16 bytes.
+pub fn is_nm(text: &[u8]) -> bool {
+    !text.is_empty() && NUMBER.admits(text)
+}
+
 fn is_digits(value: &[u8]) -> bool {
     value.iter().all(u8::is_ascii_digit)
 }

@@ -37,6 +37,11 @@ pub fn read_sheet<'s>(sheet: &'s [u8], mut tell: impl FnMut(Entry<'s>)) -> Resul
     }
 }
 
+/// Judges a sheet: refusals 40 to 43.
+pub fn judge_sheet(sheet: &[u8]) -> Result<(), Refusal> {
+    read_sheet(sheet, |_| ())
+}
+
 fn read_header<'s>(lines: &mut Lines<'s>) -> Result<Header<'s>, Refusal> {
     lines.read("version", &rules::SHEET_VERSION)?;
     Ok(Header {

@@ -1,21 +1,27 @@
 //! Properties that hold over generated cases, and what a run of them is to meet.
 
-use oul_tests::cases::{Answer, Call, Case};
+use oul_tests::cases::{Call, Case};
 use oul_tests::delimiters::{Delimiters, ADMITTED};
 use oul_tests::parts;
 use oul_tests::refusal::number;
 use oul_tests::shift::{SHIFT, TO_TWO_BYTE};
 use oul_tests::{
-    check, generate, locate, segment, spot, to_message, to_sheet, Refusal, MESSAGE_LIMIT,
-    SHEET_LIMIT,
+    check, csv_count, csv_next, csv_sheet, csv_sheets, csv_spot, generate, locate, segment, spot,
+    to_message, to_sheet, Given, Refusal, MESSAGE_LIMIT, SHEET_LIMIT,
 };
 use std::collections::{BTreeMap, BTreeSet};
 
-/// So many cases meet every refusal number and every limit.
+/// So many cases of messages and sheets meet each of their refusals and every limit, and so many
+/// of files.
 const RUN: usize = 9_000;
+const RUN_OF_FILES: usize = 2_500;
 
 fn run(seed: u64) -> impl Iterator<Item = Case> {
-    generate::cases(seed).take(RUN)
+    generate::of_texts(seed).take(RUN)
+}
+
+fn run_of_files(seed: u64) -> impl Iterator<Item = Case> {
+    generate::of_files(seed).take(RUN_OF_FILES)
 }
 
 fn messages(seed: u64) -> impl Iterator<Item = Vec<u8>> {
@@ -33,6 +39,10 @@ fn sheets(seed: u64) -> impl Iterator<Item = Vec<u8>> {
     run(seed)
         .filter(|case| matches!(case.call, Call::ToMessage { .. }))
         .map(|case| case.input)
+}
+
+fn files(seed: u64) -> impl Iterator<Item = Vec<u8>> {
+    run_of_files(seed).map(|case| case.input)
 }
 
 fn sheet_of(m: &[u8]) -> Result<Vec<u8>, Refusal> {
@@ -59,8 +69,9 @@ fn key_and_value(line: &[u8]) -> Option<(&[u8], &[u8])> {
 
 #[test]
 fn the_same_seed_gives_the_same_run() {
-    assert!(run(1).take(500).eq(run(1).take(500)));
-    assert!(run(1).take(500).ne(run(2).take(500)));
+    let start = |seed| generate::cases(seed).take(500);
+    assert!(start(1).eq(start(1)));
+    assert!(start(1).ne(start(2)));
 }
 
 #[test]
@@ -196,16 +207,90 @@ fn a_skipped_segment_changes_nothing_but_the_count_of_bytes() {
     }
 }
 
+/// The caller's texts, all good.
+fn given() -> Given {
+    Given {
+        mode: b"P".to_vec(),
+        sent: b"20240401093000".to_vec(),
+        control: b"K1".to_vec(),
+    }
+}
+
+#[test]
+fn the_sheets_of_a_file_come_one_behind_the_other() {
+    let (mut good, mut sheets) = (0, 0);
+    for file in files(21) {
+        let Ok(counted) = csv_count(&file) else {
+            continue;
+        };
+        let mut at = counted.first_row;
+        for which in 1..=counted.count.min(9) {
+            let next = csv_next(&file, at, &given(), SHEET_LIMIT);
+            assert_eq!(csv_sheet(&file, which, &given(), SHEET_LIMIT), next.sheet);
+            at = next.behind;
+            sheets += 1;
+        }
+        assert_eq!(at == file.len(), counted.count <= 9);
+        let past = csv_sheet(&file, counted.count + 1, &given(), SHEET_LIMIT);
+        assert_eq!(past, Err(Refusal::of_whole(number::NO_SUCH_ORDINAL)));
+        good += 1;
+    }
+    assert!(good > 1_000 && sheets > 2_000, "{good} {sheets}");
+}
+
+#[test]
+fn all_sheets_in_one_pass_are_those_asked_for_one_by_one() {
+    let mut met = BTreeSet::new();
+    for file in files(25) {
+        let sheets = csv_sheets(&file, &given());
+        let counted = csv_count(&file).map(|sheets| sheets.count);
+        assert_eq!(sheets.as_ref().map(Vec::len), counted.as_ref().copied());
+        met.extend(counted.err().map(|refusal| refusal.number));
+        for (which, sheet) in (1..).zip(sheets.unwrap_or_default()).take(9) {
+            let asked_for = csv_sheet(&file, which, &given(), SHEET_LIMIT);
+            met.extend(asked_for.as_ref().err().map(|refusal| refusal.number));
+            assert_eq!(sheet, asked_for);
+        }
+    }
+    let refusals = [40, 43, 50, 51, 52, 53, 54];
+    assert!(met.iter().eq(&refusals), "{met:?}");
+}
+
+#[test]
+fn a_sheet_of_a_file_is_read_as_any_other() {
+    let mut accepted = 0;
+    for file in files(22) {
+        let first_row = csv_count(&file).map_or(0, |sheets| sheets.first_row);
+        if let Ok(sheet) = csv_next(&file, first_row, &given(), SHEET_LIMIT).sheet {
+            match message_of(&sheet) {
+                Ok(m) => assert_eq!(sheet_of(&m), Ok(sheet)),
+                Err(refusal) => assert_eq!(refusal, Refusal::of_whole(44)),
+            }
+            accepted += 1;
+        }
+    }
+    assert!(accepted > 500, "{accepted}");
+}
+
+#[test]
+fn a_refused_file_has_a_spot_and_a_good_one_has_none() {
+    for file in files(23) {
+        let ends = file.windows(2).filter(|two| two == b"\r\n").count();
+        let spot = csv_spot(&file);
+        assert_eq!(csv_count(&file).is_ok(), spot == 0);
+        // a missing line is told behind the last one
+        assert!(spot <= ends + 2);
+    }
+}
+
 // What a run meets
 
 #[test]
 fn every_refusal_number_occurs_in_a_run() {
     for seed in [0, 1, 2, u64::MAX] {
         let met: BTreeSet<u8> = run(seed)
-            .filter_map(|case| match case.answer() {
-                Answer::Refused(refusal) => Some(refusal.number),
-                _ => None,
-            })
+            .chain(run_of_files(seed))
+            .filter_map(|case| Some(case.answer().refusal()?.number))
             .collect();
         assert!(met.iter().eq(&number::ALL), "seed {seed}: {met:?}");
     }
@@ -213,19 +298,56 @@ fn every_refusal_number_occurs_in_a_run() {
 
 #[test]
 fn every_call_is_accepted_in_a_run() {
-    let mut accepted = [0; 6];
-    for case in run(9) {
-        let call = match case.call {
-            Call::Check => 0,
-            Call::Fetch { .. } => 1,
-            Call::ToSheet { .. } => 2,
-            Call::ToMessage { .. } => 3,
-            Call::Segment { .. } => 4,
-            Call::Spot { .. } => 5,
-        };
-        accepted[call] += usize::from(!matches!(case.answer(), Answer::Refused(_)));
+    let mut accepted = BTreeMap::new();
+    for case in run(9).chain(run_of_files(9)) {
+        let count = accepted.entry(case.call.name()).or_insert(0);
+        *count += usize::from(case.answer().refusal().is_none());
     }
-    assert!(accepted.iter().all(|&count| count > 200), "{accepted:?}");
+    assert_eq!(accepted.len(), 10, "{accepted:?}");
+    for (call, count) in accepted {
+        let least = if call.starts_with("csv") { 50 } else { 200 };
+        assert!(count > least, "{call}: {count}");
+    }
+}
+
+#[test]
+fn every_call_that_knows_files_gives_each_of_its_answers_in_a_run() {
+    for seed in [0, 1, 2, u64::MAX] {
+        let mut met = BTreeSet::new();
+        for case in run_of_files(seed) {
+            let refusal = match case.call {
+                Call::CsvSpot => csv_count(&case.input).err(),
+                _ => case.answer().refusal(),
+            };
+            met.insert((
+                case.call.name(),
+                refusal.map_or(0, |refusal| refusal.number),
+            ));
+        }
+        for (call, numbers) in generate::OF_FILES {
+            for &number in numbers {
+                assert!(
+                    met.contains(&(call, number)),
+                    "seed {seed}: {call} {number}"
+                );
+            }
+            let answers = met.iter().filter(|(name, _)| *name == call);
+            assert_eq!(answers.count(), numbers.len(), "seed {seed}: {call}");
+        }
+    }
+}
+
+/// The lines up to the first result's last, of which version, type and join are always good.
+#[test]
+fn every_key_of_a_file_meets_a_wrong_value_in_four_runs() {
+    let met: BTreeSet<usize> = (20..24)
+        .flat_map(run_of_files)
+        .filter_map(|case| case.answer().refusal())
+        .filter(|refusal| refusal.number == 43 && refusal.place <= 26)
+        .map(|refusal| refusal.place)
+        .collect();
+    let lines = (1..=26).filter(|line| ![1, 19, 22].contains(line));
+    assert!(met.iter().copied().eq(lines), "{met:?}");
 }
 
 #[test]
@@ -371,6 +493,33 @@ fn the_limits_of_size_are_met_from_both_sides() {
     ] {
         assert!(met.contains(&limit), "{limit:?}");
     }
+}
+
+#[test]
+fn the_limit_of_a_sheet_is_met_from_both_sides_by_files() {
+    let mut met = BTreeSet::new();
+    for case in run_of_files(24) {
+        if let Call::CsvSheet {
+            given, which: 1, ..
+        } = &case.call
+        {
+            if let Ok(sheet) = csv_sheet(&case.input, 1, given, SHEET_LIMIT) {
+                met.insert(sheet.len());
+            }
+            // one byte more in control
+            let longer = [&given.control[..], b"x"].concat();
+            let longer = Given {
+                control: longer,
+                ..given.clone()
+            };
+            let refused = csv_sheet(&case.input, 1, &longer, SHEET_LIMIT);
+            if refused == Err(Refusal::of_whole(number::SHEET_TOO_LONG)) {
+                met.insert(SHEET_LIMIT + 1);
+            }
+        }
+    }
+    let longest: Vec<&usize> = met.range(SHEET_LIMIT..).collect();
+    assert_eq!(longest, [&SHEET_LIMIT, &(SHEET_LIMIT + 1)]);
 }
 
 #[test]

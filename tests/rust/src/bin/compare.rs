@@ -2,13 +2,13 @@
 //! many generated cases; PROGRAM answers for it (`tests/c/answers.c`).
 //!
 //! The cases come in runs of 10,000 with the seeds SEED, SEED + 1, and so on; each run meets
-//! every refusal number. Prints the differences, how often each answer occurred, and last how
-//! many runs passed and how many failed.
+//! every refusal number, and every one of each call that knows files. Prints the differences, how
+//! often each answer occurred, and last how many runs passed and how many failed.
 
 use oul_tests::bridge::{self, Said};
 use oul_tests::cases::{Call, Case};
-use oul_tests::generate;
 use oul_tests::refusal::number;
+use oul_tests::{csv_count, generate};
 use std::collections::BTreeMap;
 use std::io::{self, BufReader, BufWriter};
 use std::process::{Command, ExitCode, Stdio};
@@ -72,6 +72,22 @@ struct Told {
     differences: Vec<String>,
 }
 
+impl Told {
+    /// What a whole run is to meet and did not.
+    fn missed(&self) -> Option<String> {
+        let met = |refusal: u8| self.answers.keys().any(|&(_, n)| n == refusal.into());
+        let answered = |call, n: u8| self.answers.contains_key(&(call, n.into()));
+        let refusal = number::ALL.into_iter().find(|&refusal| !met(refusal));
+        let answer = generate::OF_FILES
+            .into_iter()
+            .flat_map(|(call, numbers)| numbers.iter().map(move |&n| (call, n)))
+            .find(|&(call, n)| !answered(call, n));
+        refusal
+            .map(|number| format!("no refusal {number}"))
+            .or(answer.map(|(call, number)| format!("no answer {number} from {call}")))
+    }
+}
+
 impl Run {
     fn cases(&self) -> impl Iterator<Item = (Case, u8)> {
         let count = self.count as usize;
@@ -104,10 +120,8 @@ impl Run {
             let mut told = Told::default();
             for (place, (case, ours)) in answered.iter().enumerate() {
                 let theirs = Said::read(&case, &mut from)?;
-                *told
-                    .answers
-                    .entry((name(&case), ours.numbers[0]))
-                    .or_default() += 1;
+                let answer = (case.call.name(), number_of(&case, &ours));
+                *told.answers.entry(answer).or_default() += 1;
                 if ours != theirs {
                     let seed = self.seed;
                     told.differences.push(format!(
@@ -123,14 +137,11 @@ impl Run {
     }
 }
 
-fn name(case: &Case) -> &'static str {
+/// The number of an answer; of a file's spot that of the refusal whose line is told.
+fn number_of(case: &Case, said: &Said) -> u64 {
     match case.call {
-        Call::Check => "check",
-        Call::Fetch { .. } => "locate",
-        Call::ToSheet { .. } => "to_sheet",
-        Call::ToMessage { .. } => "to_message",
-        Call::Segment { .. } => "segment",
-        Call::Spot { .. } => "spot",
+        Call::CsvSpot => csv_count(&case.input).map_or_else(|refusal| refusal.number.into(), |_| 0),
+        _ => said.numbers[0],
     }
 }
 
@@ -156,10 +167,9 @@ impl Tally {
         for difference in told.differences.iter().take(SHOWN) {
             println!("{difference}");
         }
-        let met = |refusal: u8| told.answers.keys().any(|&(_, n)| n == refusal.into());
-        let missed = number::ALL.into_iter().find(|&refusal| !met(refusal));
-        if let (RUN, Some(missed)) = (run.count, missed) {
-            println!("seed {seed}: no refusal {missed}");
+        let missed = told.missed();
+        if let (RUN, Some(missed)) = (run.count, &missed) {
+            println!("seed {seed}: {missed}");
         }
         let fine = told.differences.is_empty() && (run.count < RUN || missed.is_none());
         self.passed += usize::from(fine);

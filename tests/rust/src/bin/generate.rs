@@ -1,7 +1,6 @@
 //! `generate SEED COUNT` prints so many generated cases with this library's answers, one a line,
 //! in the format of a case list; and on standard error how often each answer occurred.
 
-use oul_tests::cases::Answer;
 use oul_tests::generate;
 use oul_tests::refusal::number;
 use std::io::{self, BufWriter, Write};
@@ -29,9 +28,9 @@ fn print_cases(seed: u64, count: u64) -> io::Result<()> {
     for (case, _) in generate::cases(seed).zip(0..count) {
         let answer = case.answer();
         writeln!(out, "{case}\t{answer}")?;
-        match answer {
-            Answer::Refused(refusal) => refused[usize::from(refusal.number)] += 1,
-            _ => accepted += 1,
+        match answer.refusal() {
+            Some(refusal) => refused[usize::from(refusal.number)] += 1,
+            None => accepted += 1,
         }
     }
     out.flush()?;
