@@ -14,7 +14,7 @@ use Rattle.rules.specs.declared.Delims.{Delims}
 use Rattle.rules.specs.declared.Name.{Name}
 use Rattle.rules.specs.declared.Name.the-variants.{Msh, Pid, Pv1, Spm, Obr, Orc, Obx, Other}
 use Rattle.rules.specs.Lists.{bytes, empty, nth, same, join, led, ended}
-use Rattle.rules.specs.Frame.{spelling, is}
+use Rattle.rules.specs.Frame.{spelling}
 use Rattle.rules.specs.Row.{line, lines, rowOf}
 use Rattle.rules.specs.Sheet.{keyOf}
 use Rattle.rules.specs.Message.{decimal, composed, blanks, encoding, nameText, namesText, valueText, piecesOf, specimens, results, pieces, segmentText}
@@ -239,9 +239,6 @@ module _ (d : Delims) (ts : List (List ℕ)) (i j : ℕ) where
     put-other h = by-name n 0 old old [] Other any-other h (fit-none old)
 
 module _ (n x : Name) (e : n ≡ x) where
-  pub is-named : (m : Name) (r : Bool) → r ≡ is x m → r ≡ is n m
-  is-named m r h = h ∙ ap (λ (k : Name). is k m) (sym e)
-
   pub specimens-named : (i r : ℕ) → r ≡ specimensWith i x → r ≡ specimensWith i n
   specimens-named i r h = h ∙ ap (specimensWith i) (sym e)
 

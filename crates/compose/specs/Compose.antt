@@ -1,12 +1,10 @@
 -- The text of a sheet's groups, and what a pass over a sheet tells and writes.
 use mathlib.Core.Path.{_≡_}
-use mathlib.Core.Bool.{Bool, true, false, cond}
+use mathlib.Core.Bool.{cond}
 use mathlib.Core.List.{List, [], _∷_, _++_, map}
 use Prim.Native.Nat.{ℕ, _+_, _≤_}
 use lib.ListN.{length}
 use Rattle.rules.specs.declared.Delims.{Delims}
-use Rattle.rules.specs.declared.Kind.{Kind}
-use Rattle.rules.specs.declared.Refusal.{Refusal}
 use Rattle.rules.specs.declared.Name.{Name}
 use Rattle.rules.specs.declared.Name.the-variants.{Msh, Pid, Pv1, Spm, Obr, Orc, Obx, Other}
 use Rattle.rules.specs.Told.{Told, gives, refusal, _>>=_}
@@ -14,12 +12,10 @@ use Rattle.rules.specs.Lists.{bytes, nth, ended}
 use Rattle.rules.specs.Escape.{escape}
 use Rattle.rules.specs.Frame.{is, spelling}
 use Rattle.rules.specs.Row.{Row, rowOf}
-use Rattle.rules.specs.Sheet.{rowsTold, linesOf}
 use Rattle.rules.specs.Message.{piece, composed, blanks, valueText, pieces, segmentText, written, messageOf}
 use Rattle.writer.specs.Over.{over, overAt}
-use Rattle.lines.specs.declared.Verdict.{Verdict}
-use Rattle.lines.specs.declared.Verdict.the-variants.{Fine, Key as WrongKey, Value}
 use Rattle.lines.specs.Lines.{groupValues}
+use Rattle.sheets.specs.Sheet.{rowsIn}
 use Rattle.compose.specs.declared.Size.{Size}
 use Rattle.compose.specs.declared.Passed.{Passed}
 use Rattle.compose.specs.declared.Passed.the-variants.{All, Not}
@@ -68,11 +64,6 @@ segmentsOf Orc = 0
 segmentsOf Obx = 1
 segmentsOf Other = 0
 
-unfoldable pub isValue : Verdict → Bool
-isValue Fine = false
-isValue (WrongKey k) = false
-isValue (Value k) = true
-
 -- a write of b over x from at on, where there is room: it ends at r, and leaves y
 pub record Added (at : ℕ) (x b : List ℕ) (r : ℕ) (y : List ℕ) : Type 0 where
   pub ends : r ≡ at + length b
@@ -84,14 +75,8 @@ abbrev pub toldSize : Passed → Told Size
 toldSize (All n) = gives n
 toldSize (Not r) = refusal r
 
-abbrev pub refusalAt : Kind → ℕ → Refusal
-refusalAt kind line = record { kind = kind; segment = line; field = 0 }
-
 abbrev pub sizeOf : Delims → List Row → Size
 sizeOf d rows = record { bytes = length (messageOf d rows); segments = length (written d rows) }
-
-abbrev pub rowsIn : List ℕ → Told (List Row)
-rowsIn s = rowsTold Other [] [] 1 (linesOf s)
 
 -- how many bytes and segments the message of the sheet s has, or its refusal
 abbrev pub sizeTold : Delims → List ℕ → Told Size

@@ -9,13 +9,11 @@ ghost use mathlib.Core.Path.{_≡_};
 ghost use mathlib.Core.Bool.{true};
 ghost use Prim.Native.Nat.{_+_, _≤_};
 ghost use lib.ListN.{length};
-ghost use Rattle.rules.specs.Told as Told;
 ghost use Rattle.rules.specs.Sheet.{linesOf};
-ghost use Rattle.rules.specs.Frame.{is};
 ghost use Rattle.rules.specs.Proper.{Proper};
 ghost use Rattle.writer.specs.Over.{Fit};
-ghost use Rattle.lines.specs.Lines.{toldOf, indexOf, groupVerdict, Cut};
-ghost use Rattle.compose.specs.Compose.{Named, groupText, orderText, specimenText, resultText, specimensWith, resultsWith, segmentsOf, isValue, Added, toldSize, refusalAt, Right, Pass};
+ghost use Rattle.lines.specs.Lines.{groupVerdict, Cut};
+ghost use Rattle.compose.specs.Compose.{Named, groupText, orderText, specimenText, resultText, specimensWith, resultsWith, segmentsOf, Added, Right, Pass};
 
 fn least(a: usize, b: usize) -> usize
     ensures { λ r. ⌜ (r ≤ a) × (r ≤ b) × (a ≤ b → r ≡ a) ⌝ }
@@ -350,64 +348,6 @@ fn segments_of(name: Name) -> usize
     }
 }
 
-fn is_result(name: Name) -> bool
-    ensures { λ r. ⌜ r ≡ is name Name.Obx ⌝ }
-{
-    match name {
-        Name::Msh => false,
-        Name::Pid => false,
-        Name::Pv1 => false,
-        Name::Spm => false,
-        Name::Obr => false,
-        Name::Orc => false,
-        Name::Obx => true,
-        Name::Other => false,
-    }
-}
-
-pub fn refused(kind: Kind, line: usize) -> Refusal
-    ensures { λ r. ⌜ r ≡ refusalAt kind line ⌝ }
-{
-    Refusal {
-        kind,
-        segment: line,
-        field: 0,
-    }
-}
-
-// The line that a verdict names, and whether its value is wrong.
-fn index(v: Verdict) -> usize
-    ensures { λ r. ⌜ r ≡ indexOf v ⌝ }
-{
-    match v {
-        Verdict::Fine => 0,
-        Verdict::Key(k) => k,
-        Verdict::Value(k) => k,
-    }
-}
-
-fn is_value(v: Verdict) -> bool
-    ensures { λ r. ⌜ r ≡ isValue v ⌝ }
-{
-    match v {
-        Verdict::Fine => false,
-        Verdict::Key(_) => false,
-        Verdict::Value(_) => true,
-    }
-}
-
-// The refusal of a group whose first line has this number.
-fn unread(v: Verdict, line: usize) -> Passed
-    requires { ⌜ (indexOf v ≤ 10) × (line ≤ 1000000) ⌝ }
-    ensures { λ r. ⌜ toldSize r ≡ toldOf v line (Told.refused 42 line 0) ⌝ }
-{
-    let at = line + index(v);
-    if is_value(v) {
-        return Passed::Not(refused(Kind::Line, at));
-    }
-    Passed::Not(refused(Kind::Key, at))
-}
-
 // The verdict on a group; no group of a sheet that is known to be right is judged again.
 fn verdict(known: bool, name: Name, s: &[u8], places: &[usize; 11]) -> Verdict
     requires { ⌜ Cut 10 (now s) (now places) × (known ≡ true → groupVerdict name (linesOf (now s)) ≡ Verdict.Fine) ⌝ }
@@ -437,7 +377,7 @@ pub fn pass(out: &mut [u8], sheet: &[u8], d: Delims, known: bool) -> Passed
         let next = lines::next_group(group, rest, &places);
         let v = verdict(known, next, rest, &places);
         if !lines::fine(v) {
-            return unread(v, line);
+            return Passed::Not(sheets::unread(v, line));
         }
         bytes = put_next(out, bytes, next, rest, &places, specimens, results, d);
         segments += segments_of(next);
@@ -449,8 +389,8 @@ pub fn pass(out: &mut [u8], sheet: &[u8], d: Delims, known: bool) -> Passed
         group = next;
         places = lines::cut(&sheet[at..]);
     }
-    if !is_result(group) {
-        return Passed::Not(refused(Kind::Key, line));
+    if !sheets::is_result(group) {
+        return Passed::Not(sheets::refused(Kind::Key, line));
     }
     Passed::All(Size { bytes, segments })
 }

@@ -19,11 +19,9 @@ use Rattle.rules.proofs.Logic.{cases, toldCases, not-given, not-true, not-false
 use Rattle.rules.proofs.Lists as Laws
 use Rattle.writer.specs.Over.{Wrote}
 use Rattle.writer.specs.Over as Over
-use Rattle.compose.specs.declared.Size.{Size}
-use Rattle.compose.specs.declared.Passed.{Passed}
-use Rattle.compose.specs.declared.Passed.the-variants.{All, Not}
-use Rattle.compose.specs.Compose.{toldSize}
-use Rattle.to_message.specs.Call.{judgedTold}
+use Rattle.sheets.specs.declared.Judged.{Judged}
+use Rattle.sheets.specs.declared.Judged.the-variants.{Right as Fit, Wrong as Bad}
+use Rattle.sheets.specs.Sheet.{toldJudged, judgedTold}
 use Rattle.csv_rules.specs.declared.Fault.{Fault}
 use Rattle.csv_rules.specs.declared.Fault.the-variants.{Quoting, Columns, Unconverted, HeaderDiffers, Returns}
 use Rattle.csv_rules.specs.declared.CsvSheets.{CsvSheets}
@@ -64,20 +62,19 @@ module _ (s x : List ℕ) where
   unfolding copiedTold Over.over
   copied-all r y h w = rw (le-ltb (length x) (length s) h) (record { told = ap gives (w .ends); buffer = w .is })
 
-
   -- 40 to 43 before that: p is what judging tells
-  module _ (p : Passed) (t : toldSize p ≡ judgedTold s) where
-    pub handed-not : (k : Refusal) → p ≡ Not k → SheetCall (madeTold s (length x)) x (Unfit k) x
+  module _ (p : Judged) (t : toldJudged p ≡ judgedTold s) where
+    pub handed-not : (k : Refusal) → p ≡ Bad k → SheetCall (madeTold s (length x)) x (Unfit k) x
     unfolding madeTold judgedTold
     handed-not k f =
         toldCases (readSheet s) (λ rows e. not-given (rw (f, e) at t)) (λ n a b e. told-as (rw e (same n a b (rw (f, e) at t))) (unfit x k))
       where
-        same : (n a b : ℕ) → _≡_ {A = Told Size} (refusal k) (refused n a b) → _≡_ {A = Told (List ℕ)} (refused n a b) (refusal k)
+        same : (n a b : ℕ) → _≡_ {A = Told (Unit {0})} (refusal k) (refused n a b) → _≡_ {A = Told (List ℕ)} (refused n a b) (refusal k)
         same n a b h = cc
 
-    pub handed-all : (size : Size) (r : Made) (y : List ℕ) → p ≡ All size → SheetCall (copiedTold s (length x)) x r y → SheetCall (madeTold s (length x)) x r y
+    pub handed-all : (r : Made) (y : List ℕ) → p ≡ Fit → SheetCall (copiedTold s (length x)) x r y → SheetCall (madeTold s (length x)) x r y
     unfolding madeTold judgedTold
-    handed-all size r y f c =
+    handed-all r y f c =
         toldCases (readSheet s) (λ rows e. told-as (rw e) c) (λ n a b e. not-given (sym (rw (f, e) at t)))
 
 -- a sheet that is cut one byte past its limit is too long, and so is the whole

@@ -1,6 +1,5 @@
 // The calls on the commercial centre's file (Req 01): how many sheets it holds, one of them, the one that begins at a place; and where the file is
 // refused. They take any bytes, any ordinal and any place.
-use compose::Passed;
 use csv_rules::Counted;
 use csv_rules::CsvSheets;
 use csv_rules::Fault;
@@ -8,6 +7,7 @@ use csv_rules::Made;
 use csv_rules::Next;
 use rules::Kind;
 use rules::Refusal;
+use sheets::Judged;
 ghost use mathlib.Core.Path.{_≡_};
 ghost use Prim.Native.Nat.{_≤_, _<_};
 ghost use lib.ListN.{length};
@@ -128,9 +128,9 @@ fn copied(sheet: &[u8], out: &mut [u8]) -> Made
 fn handed(sheet: &[u8], out: &mut [u8]) -> Made
     ensures { λ r. ⌜ SheetCall (madeTold (now (sheet .entry)) (length (now (out .entry)))) (now (out .entry)) r (now (out .exit)) ⌝ }
 {
-    match to_message::judge(sheet) {
-        Passed::Not(refusal) => Made::Unfit(refusal),
-        Passed::All(_) => copied(sheet, out),
+    match sheets::judge(sheet) {
+        Judged::Wrong(refusal) => Made::Unfit(refusal),
+        Judged::Right => copied(sheet, out),
     }
 }
 

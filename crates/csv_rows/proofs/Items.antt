@@ -16,11 +16,11 @@ use Rattle.csv_rules.specs.Written.{halved}
 use Rattle.csv_rows.specs.Rows.{closingAt, quoteFirst, before, afterwards, BehindAt, ItemAt}
 
 -- ---- where an item closes
-close-plain : (b : ℕ) (s : List ℕ) → eqb b 0x22 ≡ false → closingAt false (b ∷ s) ≡ suc (closingAt false s)
+pub close-plain : (b : ℕ) (s : List ℕ) → eqb b 0x22 ≡ false → closingAt false (b ∷ s) ≡ suc (closingAt false s)
 unfolding closingAt
 close-plain b s e = rw (e, closingAt)
 
-close-stop : (b : ℕ) (s : List ℕ) → eqb b 0x22 ≡ true → quoteFirst s ≡ false → closingAt false (b ∷ s) ≡ 0
+pub close-stop : (b : ℕ) (s : List ℕ) → eqb b 0x22 ≡ true → quoteFirst s ≡ false → closingAt false (b ∷ s) ≡ 0
 unfolding closingAt quoteFirst
 close-stop b [] e f = rw (e, closingAt)
 close-stop b (t ∷ s) e f = rw (e, closingAt, f)
@@ -137,7 +137,7 @@ quote-quote : (b : ℕ) (s : List ℕ) → eqb b 0x22 ≡ true → linesAt Quote
 unfolding linesAt
 quote-quote b s e = rw (e, linesAt)
 
-half-plain : (b : ℕ) (s : List ℕ) → eqb b 0x22 ≡ false → halved false (b ∷ s) ≡ b ∷ halved false s
+pub half-plain : (b : ℕ) (s : List ℕ) → eqb b 0x22 ≡ false → halved false (b ∷ s) ≡ b ∷ halved false s
 unfolding halved
 half-plain b s e = rw e
 
@@ -302,6 +302,16 @@ module _ (f : List ℕ) (j : ℕ) (p : j ≤ length f) where
         }
 
 -- ---- an item
+module _ (f : List ℕ) (s e : ℕ) (c : e ≡ s + closingAt false (drop s f)) (k : e < length f) where
+  closes : closingAt false (drop s f) < length (drop s f)
+  closes = omega (arith, length-drop s f)
+
+  onward : (n : ℕ) → n ≡ e + 1 → drop (suc (closingAt false (drop s f))) (drop s f) ≡ drop n f
+  onward n o = let w : s + suc (closingAt false (drop s f)) ≡ n = omega arith in drop-drop (suc (closingAt false (drop s f))) s f ∙ ap (λ (m : ℕ). drop m f) w
+
+  pub item-stops : (n : ℕ) → n ≡ e + 1 → quoteFirst (drop n f) ≡ false
+  item-stops n o = ap quoteFirst (sym (onward n o)) ∙ closed-stops (drop s f) closes
+
 module _ (f : List ℕ) (i : ℕ) (p : i ≤ length f) where
   item-bad : linesAt Comma (drop i f) ≡ broken → ItemAt f i 0 0 0 false true
   unfolding before afterwards
@@ -326,15 +336,6 @@ module _ (f : List ℕ) (i : ℕ) (p : i ≤ length f) where
       item-open k = item-bad (opened ∙ rw (inside-open (drop s f) (omega (arith, length-drop s f))))
 
       module _ (k : e < length f) where
-        closes : closingAt false (drop s f) < length (drop s f)
-        closes = omega (arith, length-drop s f)
-
-        onward : (n : ℕ) → n ≡ e + 1 → drop (suc (closingAt false (drop s f))) (drop s f) ≡ drop n f
-        onward n o = let w : s + suc (closingAt false (drop s f)) ≡ n = omega arith in drop-drop (suc (closingAt false (drop s f))) s f ∙ ap (λ (m : ℕ). drop m f) w
-
-        pub item-stops : (n : ℕ) → n ≡ e + 1 → quoteFirst (drop n f) ≡ false
-        item-stops n o = ap quoteFirst (sym (onward n o)) ∙ closed-stops (drop s f) closes
-
         pub item-fine : (n m : ℕ) (goes bad : Bool) → n ≡ e + 1 → BehindAt f n m goes bad → ItemAt f i s (e - s) (((e - s) + 2) + m) goes bad
         item-fine n m goes bad o b =
             let t = closingAt false (drop s f) in
@@ -345,7 +346,7 @@ module _ (f : List ℕ) (i : ℕ) (p : i ≤ length f) where
             record {
               is =
                   opened
-                  ∙ ap (more (λ is. is)) (inside-closed (drop s f) closes ∙ ap (λ (d : List ℕ). grow w (suc t) (linesAt Quote d)) (onward n o) ∙ ap (grow w (suc t)) (b .is)
+                  ∙ ap (more (λ is. is)) (inside-closed (drop s f) (closes f s e c k) ∙ ap (λ (d : List ℕ). grow w (suc t) (linesAt Quote d)) (onward f s e c k n o) ∙ ap (grow w (suc t)) (b .is)
                   ∙ grow-before w (suc t) m (afterwards goes bad (drop (n + m) f)))
                   ∙ skip-before (w ∷ []) (m + suc t) (afterwards goes bad (drop (n + m) f))
                   ∙ ap (λ (u : ℕ). before (halved false (take u (drop s f)) ∷ []) (suc (m + suc t)) (afterwards goes bad (drop (n + m) f))) x

@@ -15,6 +15,7 @@ use Rattle.csv_rules.specs.Quote.{Comma, Items, Lines, end, broken, line, more,
 use Rattle.csv_rules.specs.Quote as Quoting
 use Rattle.csv_rules.specs.Kanji.{convertible}
 use Rattle.csv_rules.specs.Written.{halved}
+use Rattle.csv_rows.specs.Plain.{PlainItem}
 use Rattle.csv_rows.specs.Rows.{before, afterwards, notedItem, stretch, itemAt, Inside, ItemAt, Spans, RowIs}
 use Rattle.csv_rows.proofs.Items.{before-before, drop-same}
 
@@ -193,6 +194,13 @@ converts-on known good c is w g e =
     ap (λ (x : Bool). x && c) g ∙ ap (λ (x : Bool). (known || all convertible is) && x) e ∙ known-and known (all convertible is) (convertible w)
     ∙ ap (λ (x : Bool). known || x) (sym (all-snoc convertible is w))
 
+-- an item that is told plain needn't be judged
+plain-known : (f : List ℕ) (s l : ℕ) (known plain : Bool) → PlainItem f s l plain
+    → ((known || plain) || convertible (halved false (take l (drop s f)))) ≡ (known || convertible (halved false (take l (drop s f))))
+plain-known f s l true plain d = refl
+plain-known f s l false true d = sym (d .converts refl)
+plain-known f s l false false d = refl
+
 -- where an item lies
 pub item-inside : (f : List ℕ) (i s l m : ℕ) (g w : Bool) → ItemAt f i s l m g w → s + l ≤ length f
 item-inside f i s l m g w t = t .inside
@@ -245,13 +253,13 @@ module _ (f : List ℕ) (at : ℕ) (known : Bool) (a : List ℕ) (size count : �
           (λ z. let k : 2 ≤ m + 0 = rw z at (t .some) in rw z (omega (arith, t .place)))
           (λ z. rw z (omega (arith, t .place))))
 
-      pub row-on : (x : List ℕ) (c : Bool) → x ≡ notedItem count s l a → c ≡ (known || convertible (halved false (take l (drop s f))))
-          → Reading f at known x (size + m) (count + 1) (good && c) g w
-      row-on x c e o = record {
+      pub row-on : (x : List ℕ) (plain c : Bool) → x ≡ notedItem count s l a → PlainItem f s l plain
+          → c ≡ ((known || plain) || convertible (halved false (take l (drop s f)))) → Reading f at known x (size + m) (count + 1) (good && c) g w
+      row-on x plain c e d o = record {
         items = p .items ++ (halved false (take l (drop s f)) ∷ []);
         is = p .is ∙ read-on;
         counted = rw length-append (omega (arith, p .counted));
-        converts = converts-on known good c (p .items) (halved false (take l (drop s f))) (p .converts) o;
+        converts = converts-on known good c (p .items) (halved false (take l (drop s f))) (p .converts) (o ∙ plain-known f s l known plain d);
         lies =
             rw (e, noted-two a count s l (p .lies .inside .size))
             (spans-on f a (p .items) count s l (p .lies) (p .counted) (t .inside));

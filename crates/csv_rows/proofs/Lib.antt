@@ -1,3 +1,4 @@
 pub mod Items
 pub mod Laws
+pub mod Plain
 pub mod Tied

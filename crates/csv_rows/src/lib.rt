@@ -5,6 +5,8 @@ ghost use Prim.Native.Nat.{_+_, _≤_, _<_};
 ghost use lib.ListN.{length, take, drop};
 ghost use Rattle.csv_rules.specs.Kanji.{convertible};
 ghost use Rattle.csv_rules.specs.Written.{halved};
+ghost use Rattle.sjis.specs.Items.{isClear};
+ghost use Rattle.csv_rows.specs.Plain.{plainAt, commaAt, PlainItem};
 ghost use Rattle.csv_rows.specs.Rows.{closingAt, quoteFirst, notedItem, stretch, Inside, BehindAt, ItemAt, RowIs};
 
 // What stands behind an item's closing quote: its bytes; whether another item follows; whether the quoting is broken.
@@ -14,13 +16,15 @@ struct Behind {
     bad: bool,
 }
 
-// An item at a place: where its bytes stand in the file, quotes doubled; its bytes with quotes, and comma or CR LF.
+// An item at a place: where its bytes stand in the file, quotes doubled; its bytes with quotes, and comma or CR LF. plain: each byte is seen to
+// stand alone, so that the item converts.
 struct Found {
     start: usize,
     len: usize,
     size: usize,
     goes: bool,
     bad: bool,
+    plain: bool,
 }
 
 // A row: where its first 45 items lie in the file, two numbers an item, where its bytes begin and how many they are, quotes doubled (none: no
@@ -31,6 +35,29 @@ pub struct RowAt {
     pub count: usize,
     pub good: bool,
     pub bad: bool,
+}
+
+// A byte that stands alone (20–7E) and isn't doubled in the file.
+fn clear(b: u8) -> bool
+    ensures { λ r. ⌜ r ≡ isClear b ⌝ }
+{
+    (0x20 <= b) & (b <= 0x7E) & (b != 0x22)
+}
+
+// The place where such bytes end.
+fn plain_end(file: &[u8], from: usize) -> usize
+    requires { ⌜ from ≤ length (now file) ⌝ }
+    ensures { λ r. ⌜ r ≡ from + plainAt (drop from (now (file .entry))) ⌝ }
+    ensures within { λ r. ⌜ (from ≤ r) × (r ≤ length (now (file .entry))) ⌝ }
+{
+    let mut i = from;
+    while i < file.len() {
+        if !clear(file[i]) {
+            return i;
+        }
+        i += 1;
+    }
+    i
 }
 
 // The place of the quote that closes the item whose bytes begin at a place; the file's end where none does.
@@ -98,10 +125,23 @@ fn after_close(file: &[u8], j: usize) -> Behind
     }
 }
 
+// Whether a quote and a comma stand at a place.
+fn comma_at(file: &[u8], p: usize) -> bool
+    requires { ⌜ p ≤ length (now file) ⌝ }
+    ensures { λ r. ⌜ r ≡ commaAt (now (file .entry)) p ⌝ }
+{
+    if file.len() - p < 2 {
+        return false;
+    }
+    let j = p + 1;
+    (file[p] == 0x22) & (file[j] == 0x2C)
+}
+
 // The item whose opening quote stands at a place.
-fn next_item(file: &[u8], i: usize) -> Found
+fn quoted_item(file: &[u8], i: usize) -> Found
     requires { ⌜ i ≤ length (now file) ⌝ }
     ensures { λ r. ⌜ ItemAt (now (file .entry)) i (r .start) (r .len) (r .size) (r .goes) (r .bad) ⌝ }
+    ensures plain { λ r. ⌜ PlainItem (now (file .entry)) (r .start) (r .len) (r .plain) ⌝ }
 {
     if i >= file.len() {
         return Found {
@@ -110,6 +150,7 @@ fn next_item(file: &[u8], i: usize) -> Found
             size: 0,
             goes: false,
             bad: true,
+            plain: false,
         };
     }
     if file[i] != 0x22 {
@@ -119,10 +160,12 @@ fn next_item(file: &[u8], i: usize) -> Found
             size: 0,
             goes: false,
             bad: true,
+            plain: false,
         };
     }
     let s = i + 1;
-    let e = item_end(file, s);
+    let p = plain_end(file, s);
+    let e = item_end(file, p);
     if e >= file.len() {
         return Found {
             start: 0,
@@ -130,6 +173,7 @@ fn next_item(file: &[u8], i: usize) -> Found
             size: 0,
             goes: false,
             bad: true,
+            plain: false,
         };
     }
     let b = after_close(file, e + 1);
@@ -139,7 +183,35 @@ fn next_item(file: &[u8], i: usize) -> Found
         size: e - s + 2 + b.size,
         goes: b.goes,
         bad: b.bad,
+        plain: e == p,
     }
+}
+
+// The same; plain bytes that a quote and a comma close, or none, as most items are, are seen at once.
+fn next_item(file: &[u8], i: usize) -> Found
+    requires { ⌜ i ≤ length (now file) ⌝ }
+    ensures { λ r. ⌜ ItemAt (now (file .entry)) i (r .start) (r .len) (r .size) (r .goes) (r .bad) ⌝ }
+    ensures plain { λ r. ⌜ PlainItem (now (file .entry)) (r .start) (r .len) (r .plain) ⌝ }
+{
+    if i >= file.len() {
+        return quoted_item(file, i);
+    }
+    if file[i] != 0x22 {
+        return quoted_item(file, i);
+    }
+    let s = i + 1;
+    let p = plain_end(file, s);
+    if comma_at(file, p) {
+        return Found {
+            start: s,
+            len: p - s,
+            size: p - s + 3,
+            goes: true,
+            bad: false,
+            plain: true,
+        };
+    }
+    quoted_item(file, i)
 }
 
 // Notes where an item begins and how long it is, where it is one of the first 45.
@@ -193,7 +265,7 @@ pub fn row(file: &[u8], at: usize, known: bool) -> RowAt
         let start = t.start;
         let len = t.len;
         note(&mut spans, count, start, len);
-        good = good & converts(file, start, len, known);
+        good = good & converts(file, start, len, known | t.plain);
         size += t.size;
         count += 1;
         bad = t.bad;

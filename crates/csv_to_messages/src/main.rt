@@ -133,14 +133,7 @@ fn each(
     true
 }
 
-fn one(
-    text: &[u8],
-    k: usize,
-    made: Made,
-    sheet: &[u8],
-    message: &mut [u8],
-    writing: bool,
-) -> bool {
+fn one(text: &[u8], k: usize, made: Made, sheet: &[u8], message: &mut [u8], writing: bool) -> bool {
     match made {
         Made::Sheet(n) => message_of(k, program::front(sheet, n), message, writing),
         Made::Unfit(refusal) => refuse(k, refusal),

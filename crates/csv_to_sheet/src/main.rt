@@ -7,7 +7,8 @@ use program::file;
 
 const NAME: [u8; 12] = *b"csv_to_sheet";
 
-const USAGE: [u8; 98] = *b"usage: csv_to_sheet WHICH MODE SENT CONTROL [FILE] (WHICH: a whole number of at most nine digits)\n";
+const USAGE: [u8; 98] =
+    *b"usage: csv_to_sheet WHICH MODE SENT CONTROL [FILE] (WHICH: a whole number of at most nine digits)\n";
 
 fn main() {
     if os::arg_count() < 5 {

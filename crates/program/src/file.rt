@@ -71,15 +71,13 @@ fn say(refusal: Refusal) {
     if number == 30 {
         io::write_all(2, b"the file has no such sheet\n");
     } else if number == 41 {
-        io::write_all(2, b"MODE, SENT or CONTROL has a byte or a shift that is not allowed\n");
+        io::write_all(
+            2,
+            b"MODE, SENT or CONTROL has a byte or a shift that is not allowed\n",
+        );
     } else {
         let mut line = [0u8; 192];
-        let n = words::in_words(
-            &mut line,
-            refusal,
-            Name::Other,
-            Spot { line: 0, byte: 0 },
-        );
+        let n = words::in_words(&mut line, refusal, Name::Other, Spot { line: 0, byte: 0 });
         io::write_all(2, &line[..n]);
     }
 }

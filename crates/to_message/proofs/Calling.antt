@@ -1,34 +1,37 @@
 -- What the call tells and leaves, case by case. Assumes nothing.
 use mathlib.Core.Path.{_≡_, refl, sym, ap, _∙_}
-use mathlib.Core.Bool.{Bool, true, false, not, _&&_, _||_}
-use mathlib.Core.List.{List, [], _∷_}
-use Prim.Native.Nat.{ℕ, suc, _-_, _≤_, _<_}
+use mathlib.Core.Bool.{true, false, _||_}
+use mathlib.Core.List.{List}
+use Prim.Native.Nat.{ℕ, _≤_, _<_}
 use native.Mathlib.Omega.{arith}
 use borrow.Author.Tests.{lt-ltb, le-ltb, ltb-false}
-use lib.Dec.{eqb, ltb}
-use lib.ListN.{length, getD}
+use lib.Dec.{ltb}
+use lib.ListN.{length}
 use Rattle.rules.specs.declared.Delims.{Delims}
-use Rattle.rules.specs.declared.Kind.the-variants.{SheetTooLong, SheetBytes, Overflow, Room}
+use Rattle.rules.specs.declared.Kind.the-variants.{Overflow, Room}
 use Rattle.rules.specs.declared.Refusal.{Refusal}
 use Rattle.rules.specs.declared.Written.{Written}
 use Rattle.rules.specs.declared.Written.the-variants.{Wrote, NotWritten}
 use Rattle.rules.specs.Told.{Told, gives, refused, refusal, over, toldLength, lengthOf, Call}
-use Rattle.rules.specs.Lists.{bytes, empty, split, onto, last, all, any, has, distinct}
-use Rattle.rules.specs.Shift.{keeps}
+use Rattle.rules.specs.Lists.{bytes, all, any, has, distinct}
 use Rattle.rules.specs.Frame.{delimsOk}
 use Rattle.rules.specs.Proper.{Proper}
 use Rattle.rules.specs.Row.{Row}
 use Rattle.rules.specs.Sheet.{readSheet}
 use Rattle.rules.specs.Message.{base, written, messageOf, messageTold, toMessage}
-use Rattle.rules.proofs.Logic.{cases, not-true, not-false, not-given, toldCases, guard, called-as}
+use Rattle.rules.proofs.Logic.{not-given, toldCases, guard, then-gives, called-as}
 use Rattle.rules.proofs.Header.{proper}
-use Rattle.rules.proofs.Split.{split-here, split-there, split-cons, front, later, last-split}
 use Rattle.writer.specs.Over as Over
+use Rattle.sheets.specs.declared.Judged.{Judged}
+use Rattle.sheets.specs.declared.Judged.the-variants.{Wrong}
+use Rattle.sheets.specs.declared.Judged.the-variants as Judged
+use Rattle.sheets.specs.Sheet.{refusalAt, toldJudged, readableTold, rowsIn}
+use Rattle.sheets.proofs.Telling.{read-sheet, readable-short, readable-rows, unreadable}
 use Rattle.compose.specs.declared.Size.{Size}
 use Rattle.compose.specs.declared.Passed.{Passed}
 use Rattle.compose.specs.declared.Passed.the-variants.{All, Not}
-use Rattle.compose.specs.Compose.{toldSize, refusalAt, sizeOf, rowsIn, sizeTold, Right, Pass}
-use Rattle.to_message.specs.Call.{judgedTold}
+use Rattle.compose.specs.Compose.{toldSize, sizeOf, sizeTold, Right, Pass}
+use Rattle.to_message.specs.Call.{measuredTold}
 
 -- the writer's delimiters keep the header rule
 pub base-proper : (d : Delims) → d ≡ base → Proper d
@@ -40,26 +43,24 @@ kept x k = record { told = refl; buffer = refl }
 
 -- ---- a sheet s that was read: its length, and its rows
 module _ (s : List ℕ) (rows : List Row) (e : readSheet s ≡ gives rows) where
-  read-short : length s ≤ 65536
-  unfolding readSheet
-  read-short = ltb-false 65536 (length s) (guard 40 0 0 (ltb 65536 (length s)) _ rows e .0)
+  read-whole : (readableTold s ≡ gives tt) × (rowsIn s ≡ gives rows)
+  read-whole = then-gives (readableTold s) (rowsIn s) rows (sym (read-sheet s) ∙ e)
 
-  read-rows : rowsIn s ≡ gives rows
-  unfolding readSheet
-  read-rows = guard 41 0 0 (not (keeps 0x0A s && empty (last (split 0x0A s)))) (rowsIn s) rows (guard 40 0 0 (ltb 65536 (length s)) _ rows e .1) .1
+  read-short : length s ≤ 65536
+  read-short = readable-short s Judged.Right (sym (read-whole .0)) refl
 
 -- ---- 44, 45, and the message, where the sheet s gives one of this size
-module _ (s : List ℕ) (size : Size) (g : gives size ≡ judgedTold s) where
+module _ (s : List ℕ) (size : Size) (g : gives size ≡ measuredTold s) where
   -- its rows
   measured : {P : Type 0} → ((rows : List Row) → readSheet s ≡ gives rows → size ≡ sizeOf base rows → P) → P
-  unfolding judgedTold
+  unfolding measuredTold
   measured f = toldCases (readSheet s) (λ rows e. f rows e (cc (rw e at g))) (λ n a b e. not-given (sym (rw e at g)))
 
   pub measured-short : length s ≤ 65536
   measured-short = measured (λ rows e z. read-short s rows e)
 
   pub measured-right : Right s
-  measured-right = measured (λ rows e z. record { rows = rows; told = read-rows s rows e })
+  measured-right = measured (λ rows e z. record { rows = rows; told = read-whole s rows e .1 })
 
   module _ (x : List ℕ) where
     module _ (k : Refusal) where
@@ -78,7 +79,7 @@ module _ (s : List ℕ) (size : Size) (g : gives size ≡ judgedTold s) where
       write-all l d b p y t =
           let t : Pass base s x p y = rw b at t in
           measured (λ rows e z. called-as {u = gives (messageOf base rows)} (rw (e, rw z at h, le-ltb (length x) _ (rw z at l)))
-          (record { told = ap (λ (v : Size). gives (v .bytes)) z; buffer = t .wrote rows (read-rows s rows e) (rw z at l) }))
+          (record { told = ap (λ (v : Size). gives (v .bytes)) z; buffer = t .wrote rows (read-whole s rows e .1) (rw z at l) }))
 
 -- ---- what is written has room
 has-room : (d : Delims) (rows : List Row) (room : ℕ) (m : List ℕ) → messageTold d rows room ≡ gives m → length m ≤ room
@@ -110,66 +111,22 @@ pub refuses : (s : List ℕ) {x : List ℕ} {k : Refusal} → toMessage s (lengt
 refuses s {x} {k} e = answers s (kept x k) e
 
 -- a sheet that is judged to be wrong
-pub call-refused : (s : List ℕ) (room : ℕ) (p : Passed) → toldSize p ≡ judgedTold s → (k : Refusal) → p ≡ Not k → toMessage s room ≡ refusal k
-unfolding toMessage judgedTold
+pub call-refused : (s : List ℕ) (room : ℕ) (p : Passed) → toldSize p ≡ measuredTold s → (k : Refusal) → p ≡ Not k → toMessage s room ≡ refusal k
+unfolding toMessage measuredTold
 call-refused s room p t k f = toldCases (readSheet s) (λ rows e. not-given (rw (f, e) at t)) (λ n a b e. rw e (same n a b (rw (f, e) at t)))
   where
     same : (n a b : ℕ) → _≡_ {A = Told Size} (refusal k) (refused n a b) → _≡_ {A = Told (List ℕ)} (refused n a b) (refusal k)
     same n a b h = cc
 
-pub call-judged : (s : List ℕ) (p : Passed) → toldSize p ≡ judgedTold s → (size : Size) → p ≡ All size → gives size ≡ judgedTold s
-call-judged s p t size f = sym (ap toldSize f) ∙ t
+pub call-measured : (s : List ℕ) (p : Passed) → toldSize p ≡ measuredTold s → (size : Size) → p ≡ All size → gives size ≡ measuredTold s
+call-measured s p t size f = sym (ap toldSize f) ∙ t
 
--- ---- 40, 41, and the first pass over the sheet's groups
-module _ (s : List ℕ) where
-  pub judge-40 : (k : Refusal) → 65536 < length s → k ≡ refusalAt SheetTooLong 0 → refusal k ≡ judgedTold s
-  unfolding judgedTold readSheet
-  judge-40 k l f = rw (lt-ltb 65536 (length s) l) (ap refusal f)
+-- ---- 40, 41, and the first pass over the sheet's groups: j is what reading the sheet tells
+module _ (s : List ℕ) (j : Judged) (t : toldJudged j ≡ readableTold s) where
+  pub measure-not : (k : Refusal) → j ≡ Wrong k → toldSize (Not k) ≡ measuredTold s
+  unfolding measuredTold
+  measure-not k f = rw (unreadable s j t k f)
 
-  module _ (l : length s ≤ 65536) (q : Bool) (e : q ≡ keeps 0x0A s) where
-    pub judge-41 : (k : Refusal) → not q ≡ true → k ≡ refusalAt SheetBytes 0 → refusal k ≡ judgedTold s
-    unfolding judgedTold readSheet
-    judge-41 k h f = rw (le-ltb 65536 (length s) l, ← e, not-true q h) (ap refusal f)
-
-    module _ (h : not q ≡ false) (u : Bool) (g : u ≡ empty (last (split 0x0A s))) where
-      pub judge-41-end : (k : Refusal) → not u ≡ true → k ≡ refusalAt SheetBytes 0 → refusal k ≡ judgedTold s
-      unfolding judgedTold readSheet
-      judge-41-end k w f = rw (le-ltb 65536 (length s) l, ← e, not-false q h, ← g, not-true u w) (ap refusal f)
-
-      pub judge-all : not u ≡ false → (d : Delims) → d ≡ base → (z : List ℕ) (p : Passed) (y : List ℕ) → Pass d s z p y → toldSize p ≡ judgedTold s
-      unfolding judgedTold readSheet
-      judge-all w d b z p y t =
-          t .told ∙ ap (λ (v : Delims). sizeTold v s) b
-          ∙ sym (rw (le-ltb 65536 (length s) l, ← e, not-false q h, ← g, not-false u w))
-
--- ---- the end of a sheet
-last-more : (x y : ℕ) (p q : List ℕ) (ps : List (List ℕ)) → empty (last ((x ∷ p) ∷ ps)) ≡ empty (last ((y ∷ q) ∷ ps))
-unfolding last empty
-last-more x y p q [] = refl
-last-more x y p q (r ∷ ps) = refl
-
-same-end : (x y : ℕ) (s : List ℕ) → empty (last (onto x (split 0x0A (y ∷ s)))) ≡ empty (last (split 0x0A (y ∷ s)))
-unfolding onto
-same-end x y s =
-    cases (eqb y 0x0A)
-    (λ e. rw (split-here 0x0A y s e, last-split 0x0A (x ∷ []) s, last-split 0x0A [] s))
-    (λ e. rw (split-there 0x0A y s e, split-cons 0x0A s) (last-more x y (y ∷ front 0x0A s) (front 0x0A s) (later 0x0A s)))
-
-ends-at : (x : ℕ) (s : List ℕ) → empty (last (split 0x0A (x ∷ s))) ≡ eqb (getD (x ∷ s) (length s) 0) 0x0A
-ends-at x [] =
-    cases (eqb x 0x0A)
-    (λ e. rw (split-here 0x0A x [] e, e) (unfold split last empty in refl))
-    (λ e. rw (split-there 0x0A x [] e, e) (unfold split onto last empty in refl))
-ends-at x (y ∷ s) =
-    cases (eqb x 0x0A)
-    (λ e. rw (split-here 0x0A x (y ∷ s) e, last-split 0x0A [] (y ∷ s)) (ends-at y s))
-    (λ e. rw (split-there 0x0A x (y ∷ s) e, same-end x y s) (ends-at y s))
-
-pub ends-none : (s : List ℕ) → length s ≡ 0 → true ≡ empty (last (split 0x0A s))
-unfolding split last empty
-ends-none [] h = refl
-ends-none (x ∷ s) h = absurd (omega arith)
-
-pub ends-some : (s : List ℕ) → (length s ≡ 0 → ⊥) → eqb (getD s (length s - 1) 0) 0x0A ≡ empty (last (split 0x0A s))
-ends-some [] h = absurd (h refl)
-ends-some (x ∷ s) h = let z : suc (length s) - 1 ≡ length s = omega arith in rw z (sym (ends-at x s))
+  pub measure-all : j ≡ Judged.Right → (d : Delims) → d ≡ base → (z : List ℕ) (p : Passed) (y : List ℕ) → Pass d s z p y → toldSize p ≡ measuredTold s
+  unfolding measuredTold
+  measure-all f d b z p y w = w .told ∙ ap (λ (v : Delims). sizeTold v s) b ∙ sym (rw (readable-rows s j t f))

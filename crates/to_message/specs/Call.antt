@@ -1,4 +1,4 @@
--- What is told of a sheet that is judged.
+-- What is told of a sheet whose message is measured.
 use mathlib.Core.List.{List}
 use Prim.Native.Nat.{ℕ}
 use Rattle.rules.specs.Told.{Told, gives, _>>=_}
@@ -8,5 +8,5 @@ use Rattle.compose.specs.declared.Size.{Size}
 use Rattle.compose.specs.Compose.{sizeOf}
 
 -- how many bytes and segments its message has, or what reading it refuses, 40 to 43
-unfoldable pub judgedTold : List ℕ → Told Size
-judgedTold s = readSheet s >>= λ rows. gives (sizeOf base rows)
+unfoldable pub measuredTold : List ℕ → Told Size
+measuredTold s = readSheet s >>= λ rows. gives (sizeOf base rows)

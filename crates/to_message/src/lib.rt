@@ -5,25 +5,14 @@ use compose::Size;
 use rules::Delims;
 use rules::Kind;
 use rules::Written;
+use sheets::Judged;
 ghost use mathlib.Core.Path.{_≡_};
 ghost use Prim.Native.Nat.{ℕ, _≤_};
 ghost use lib.ListN.{length};
 ghost use Rattle.rules.specs.Told.{gives, over, toldLength, lengthOf, Call};
-ghost use Rattle.rules.specs.Lists.{empty, last, split};
 ghost use Rattle.rules.specs.Message.{base, toMessage};
 ghost use Rattle.compose.specs.Compose.{toldSize};
-ghost use Rattle.to_message.specs.Call.{judgedTold};
-
-// Whether a sheet is empty or ends in 0A.
-fn ends(s: &[u8]) -> bool
-    ensures { λ r. ⌜ r ≡ empty (last (split 0x0A (now (s .entry)))) ⌝ }
-{
-    let n = s.len();
-    if n == 0 {
-        return true;
-    }
-    s[n - 1] == 0x0A
-}
+ghost use Rattle.to_message.specs.Call.{measuredTold};
 
 // "The writer uses `|^~\&`".
 fn delimiters() -> Delims
@@ -39,35 +28,31 @@ fn delimiters() -> Delims
 }
 
 // 40 to 43 of a sheet, or how many bytes and segments its message has.
-pub fn judge(sheet: &[u8]) -> Passed
-    ensures { λ r. ⌜ toldSize r ≡ judgedTold (now (sheet .entry)) ⌝ }
+fn measure(sheet: &[u8]) -> Passed
+    ensures { λ r. ⌜ toldSize r ≡ measuredTold (now (sheet .entry)) ⌝ }
 {
-    if 65536 < sheet.len() {
-        return Passed::Not(compose::refused(Kind::SheetTooLong, 0));
+    match sheets::readable(sheet) {
+        Judged::Wrong(r) => Passed::Not(r),
+        Judged::Right => {
+            let d = delimiters();
+            let mut nothing = [0u8; 0];
+            compose::pass(&mut nothing, sheet, d, false)
+        }
     }
-    if !scan::keeps(sheet, 0x0A) {
-        return Passed::Not(compose::refused(Kind::SheetBytes, 0));
-    }
-    if !ends(sheet) {
-        return Passed::Not(compose::refused(Kind::SheetBytes, 0));
-    }
-    let d = delimiters();
-    let mut nothing = [0u8; 0];
-    compose::pass(&mut nothing, sheet, d, false)
 }
 
 // 44, 45, or the message of a sheet that was judged and whose message has this size.
 fn write(out: &mut [u8], sheet: &[u8], size: Size) -> Written
-    requires { ⌜ gives size ≡ judgedTold (now sheet) ⌝ }
+    requires { ⌜ gives size ≡ measuredTold (now sheet) ⌝ }
     ensures { λ r. ⌜ Call (toMessage (now (sheet .entry)) (length (now (out .entry)))) (now (out .entry)) r (now (out .exit)) ⌝ }
 {
     let bytes = size.bytes;
     let segments = size.segments;
     if (32768 < bytes) | (512 < segments) {
-        return Written::NotWritten(compose::refused(Kind::Overflow, 0));
+        return Written::NotWritten(sheets::refused(Kind::Overflow, 0));
     }
     if out.len() < bytes {
-        return Written::NotWritten(compose::refused(Kind::Room, 0));
+        return Written::NotWritten(sheets::refused(Kind::Room, 0));
     }
     let d = delimiters();
     compose::pass(out, sheet, d, true);
@@ -80,7 +65,7 @@ pub fn to_message(sheet: &[u8], out: &mut [u8]) -> Written
     ensures buffer { λ r. ⌜ now (out .exit) ≡ over (toMessage (now (sheet .entry)) (length (now (out .entry)))) (now (out .entry)) ⌝ }
     ensures within { λ r. ⌜ ((n : ℕ) → r ≡ Written.Wrote n → n ≤ length (now (out .entry))) ⌝ }
 {
-    match judge(sheet) {
+    match measure(sheet) {
         Passed::Not(r) => Written::NotWritten(r),
         Passed::All(size) => write(out, sheet, size),
     }

@@ -3,7 +3,8 @@ use borrow.Author.Needs.{needs}
 use native.Mathlib.Omega.{arith}
 use Prim.Native.Nat.{_-_}
 use lib.ListN.{length}
-use Rattle.compose.proofs.Passing.{Passing, begins, index-low, rest-low, ahead, known-fine, unread-told, nearer, goes, ends-refused, ends-all}
+use Rattle.sheets.proofs.Judging.{index-low, rest-low, ahead, nearer}
+use Rattle.compose.proofs.Passing.{Passing, begins, known-fine, unread-told, goes, ends-refused, ends-all}
 use Rattle.compose.proofs.pass.Statement.{statement}
 use Rattle.compose.proofs.pass.Tie as tie
 
@@ -48,13 +49,13 @@ verdict-requires c κs =
     let next = c .before in
     let more = next .before .before .before in
     let kept = more .before .before .before .loop .inv in
-    (kept .cut, known-fine kept (more .before .has-line .ensures) (more .if1 .taken) (next .next-group .ensures))
+    (kept .read .cut, known-fine kept (more .before .has-line .ensures) (more .if1 .taken) (next .next-group .ensures))
 
 fine-requires : tie.Need-fine-requires Inv-loop μ-loop
 fine-requires c κs = search needs
 
 unread-requires : tie.Need-unread-requires Inv-loop μ-loop
-unread-requires c κs = (index-low _ _ _ (c .before .before .verdict .ensures), omega (arith, turn (c .before) .loop .inv))
+unread-requires c κs = (index-low _ _ _ (c .before .before .verdict .ensures), omega (arith, turn (c .before) .loop .inv .read))
 
 same-length : tie.Need-same-length Inv-loop μ-loop
 same-length c = search needs
@@ -70,7 +71,7 @@ returns c =
 put-next-requires : tie.Need-put-next-requires Inv-loop μ-loop
 put-next-requires c κs =
     let kept = turn (c .before .before .before) .loop .inv in
-    (rest-low kept, kept .cut, omega (arith, kept), omega (arith, kept), omega (arith, kept), kept .proper)
+    (rest-low (kept .read), kept .read .cut, omega (arith, kept), omega (arith, kept), omega (arith, kept), kept .proper)
 
 segments-of-requires : tie.Need-segments-of-requires Inv-loop μ-loop
 segments-of-requires c κs = search needs
@@ -88,7 +89,7 @@ lines-in-requires : tie.Need-lines-in-requires Inv-loop μ-loop
 lines-in-requires c κs = search needs
 
 add-line : tie.Need-add-line Inv-loop μ-loop
-add-line c = omega (arith, turn (verdict (c .before .before .before)) .loop .inv, c .lines-in .ensures)
+add-line c = omega (arith, turn (verdict (c .before .before .before)) .loop .inv .read, c .lines-in .ensures)
 
 mul-at : tie.Need-mul-at Inv-loop μ-loop
 mul-at c = search needs
@@ -99,13 +100,13 @@ array-read-at c = search needs
 add-at : tie.Need-add-at Inv-loop μ-loop
 add-at c =
     let kept = turn (verdict (c .before .before .before)) .loop .inv in
-    omega (arith, kept .small, ahead kept (c .lines-in .ensures .1))
+    omega (arith, kept .read .small, ahead (kept .read) (c .lines-in .ensures .1))
 
 sub-cut : tie.Need-sub-cut Inv-loop μ-loop
-sub-cut c = ahead (turn (verdict (c .before .before .before)) .loop .inv) (c .lines-in .ensures .1)
+sub-cut c = ahead (turn (verdict (c .before .before .before)) .loop .inv .read) (c .lines-in .ensures .1)
 
 part-cut-start : tie.Need-part-cut-start Inv-loop μ-loop
-part-cut-start c = ahead (turn (verdict (c .before .before .before)) .loop .inv) (c .lines-in .ensures .1)
+part-cut-start c = ahead (turn (verdict (c .before .before .before)) .loop .inv .read) (c .lines-in .ensures .1)
 
 part-cut-end : tie.Need-part-cut-end Inv-loop μ-loop
 part-cut-end c = search needs
@@ -118,7 +119,7 @@ loop-less c =
     let count = c .before .before in
     let next = verdict (count .before .before .before) .before .before .before in
     let more = next .before .before .before in
-    nearer (more .before .before .before .loop .inv) (more .before .has-line .ensures) (more .if1 .taken) (next .next-group .ensures) (count .lines-in .ensures)
+    nearer (more .before .before .before .loop .inv .read) (more .before .has-line .ensures) (more .if1 .taken) (next .next-group .ensures) (count .lines-in .ensures)
 
 loop-again : tie.Need-loop-again Inv-loop μ-loop
 loop-again c =

@@ -1,12 +1,12 @@
 -- `to_message::to_message` meets its contract. Assumes nothing.
-use Rattle.to_message.proofs.Calling.{call-refused, call-judged, refuses, answers}
+use Rattle.to_message.proofs.Calling.{call-refused, call-measured, refuses, answers}
 use mathlib.Core.Path.{refl}
 use borrow.Author.Needs.{needs}
 use Rattle.to_message.proofs.to_message.Statement.{statement}
 use Rattle.to_message.proofs.to_message.Tie as tie
 
 write-requires : tie.Need-write-requires
-write-requires c κs = search (call-judged, needs)
+write-requires c κs = search (call-measured, needs)
 
 returns : tie.Need-returns
 returns c = refuses _ (search (call-refused, needs))
