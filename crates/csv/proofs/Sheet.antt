@@ -1,7 +1,7 @@
 -- One sheet of a file: made, judged and handed over; the one that begins at a place; the which-th. Assumes nothing.
 use mathlib.Core.Path.{_≡_, refl, sym, ap, _∙_}
-use mathlib.Core.Bool.{Bool, true, false, cond, not}
-use mathlib.Core.List.{List, [], _∷_, _++_}
+use mathlib.Core.Bool.{Bool, true, false, not}
+use mathlib.Core.List.{List, [], _∷_}
 use mathlib.Core.Option.{Option, none, some}
 use Prim.Native.Nat.{ℕ, zero, suc, _+_, _-_, _≤_, _<_}
 use native.Mathlib.Omega.{arith}
@@ -11,35 +11,33 @@ use lib.ListN.{length, take, drop, getElem?, drop-of-length-le}
 use lib.Seq.{length-take-le}
 use Rattle.rules.specs.declared.Kind.the-variants.{NoOrdinal, Room}
 use Rattle.rules.specs.declared.Refusal.{Refusal}
-use Rattle.rules.specs.Told.{Told, gives, refused, refusal, over, lengthOf, _>>=_, _>>_}
+use Rattle.rules.specs.Told.{Told, gives, refused, refusal, over}
 use Rattle.rules.specs.Lists.{all}
-use Rattle.rules.specs.Row.{Row}
 use Rattle.rules.specs.Sheet.{sheetOf, readSheet}
 use Rattle.rules.proofs.Logic.{cases, toldCases, not-given, not-true, not-false}
-use Rattle.rules.proofs.Lists as Laws
 use Rattle.writer.specs.Over.{Wrote}
 use Rattle.writer.specs.Over as Over
 use Rattle.sheets.specs.declared.Judged.{Judged}
 use Rattle.sheets.specs.declared.Judged.the-variants.{Right as Fit, Wrong as Bad}
 use Rattle.sheets.specs.Sheet.{toldJudged, judgedTold}
 use Rattle.csv_rules.specs.declared.Fault.{Fault}
-use Rattle.csv_rules.specs.declared.Fault.the-variants.{Quoting, Columns, Unconverted, HeaderDiffers, Returns}
+use Rattle.csv_rules.specs.declared.Fault.the-variants.{Quoting, Unconverted, HeaderDiffers}
 use Rattle.csv_rules.specs.declared.CsvSheets.{CsvSheets}
 use Rattle.csv_rules.specs.declared.Made.{Made}
 use Rattle.csv_rules.specs.declared.Made.the-variants.{Sheet, Unfit, Faulty}
 use Rattle.csv_rules.specs.declared.Next.{Next}
 use Rattle.csv_rules.specs.Quote.{cut, linesAt, linesIn, isBroken}
-use Rattle.csv_rules.specs.Sheets.{Run, rowsIn, rowConverts, differ, runs, Given, rowsOf, sheetTold, sizes, csvTold, csvCount, ordinal, csvSheet, firstRow, firstTold, runsFrom, csvNext, behind, placeAfter}
+use Rattle.csv_rules.specs.Sheets.{Run, rowsIn, rowConverts, differ, runs, Given, rowsOf, sheetTold, csvTold, csvCount, ordinal, csvSheet, firstRow, firstTold, runsFrom, csvNext, behind, placeAfter}
 use Rattle.csv_rules.specs.Answers.{toldFault, SheetCall, NextCall}
 use Rattle.csv_rules.specs.Claims.{placeOf}
 use Rattle.csv_rules.proofs.Order.{sheet-by-place}
 use Rattle.reach.specs.Reach.{Adds}
 use Rattle.reach.proofs.Laws.{front-cut, front-is}
 use Rattle.csv_lines.specs.Lines.{sheetAt, Convertible}
-use Rattle.csv_runs.specs.Runs.{RunIs, Found, Broken}
+use Rattle.csv_runs.specs.Runs.{RunIs}
 use Rattle.csv.specs.declared.Blame.{Blame}
 use Rattle.csv.specs.declared.Verdict.{Verdict}
-use Rattle.csv.specs.declared.Verdict.the-variants.{Right, Wrong}
+use Rattle.csv.specs.declared.Verdict.the-variants.{Wrong}
 use Rattle.csv.specs.Calls.{toldVerdict, copiedTold, madeTold}
 
 -- ---- an answer that refuses leaves the buffer

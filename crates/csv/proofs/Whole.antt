@@ -1,25 +1,24 @@
 -- 50 to 54 over the whole file, in order, each with the line where it is met. Assumes nothing.
 use mathlib.Core.Path.{_≡_, refl, sym, ap, _∙_}
-use mathlib.Core.Bool.{Bool, true, false, cond, not, _&&_}
+use mathlib.Core.Bool.{Bool, true, false, not}
 use mathlib.Core.List.{List, [], _∷_}
-use Prim.Native.Nat.{ℕ, suc, _+_, _*_, _≤_, _<_}
+use Prim.Native.Nat.{ℕ, suc, _+_}
 use native.Mathlib.Numerals.{add-one}
 use native.Mathlib.Omega.{arith}
-use borrow.Author.Tests.{ne-eqb, eqb-true}
+use borrow.Author.Tests.{ne-eqb}
 use lib.Dec.{eqb}
 use lib.ListN.{length, take, drop, take-append-drop}
-use Rattle.rules.specs.Told.{Told, gives, refused, _>>=_}
+use Rattle.rules.specs.Told.{gives}
 use Rattle.rules.specs.Lists.{nth, all}
 use Rattle.rules.proofs.Logic.{cases}
 use Rattle.csv_rules.specs.declared.Fault.{Fault}
 use Rattle.csv_rules.specs.declared.Fault.the-variants.{Quoting, Columns, Unconverted, HeaderDiffers, Returns}
 use Rattle.csv_rules.specs.declared.CsvSheets.{CsvSheets}
-use Rattle.csv_rules.specs.declared.Counted.{Counted}
 use Rattle.csv_rules.specs.declared.Counted.the-variants.{Sheets, NotCounted}
-use Rattle.csv_rules.specs.Quote.{cut, isBroken, Line, linesIn}
+use Rattle.csv_rules.specs.Quote.{cut, Line, linesIn}
 use Rattle.csv_rules.specs.Count.{numeral, counts, counted}
 use Rattle.csv_rules.specs.Sheets.{rowConverts, differ, runs, returns, csvTold, firstRow, csvCount}
-use Rattle.csv_rules.specs.Spot.{firstNot, firstAfter, countLine, clashes, comesBack, rowsIn, csvSpot}
+use Rattle.csv_rules.specs.Spot.{firstNot, firstAfter, countLine, clashes, comesBack, csvSpot}
 use Rattle.csv_rules.specs.Answers.{toldCount}
 use Rattle.csv_rules.proofs.Order.{Behind, skip, all-parts}
 use Rattle.csv_check.specs.Looked.{LookedIs}
@@ -43,11 +42,6 @@ count-tells (version ∷ []) = refl
 count-tells (version ∷ (heading ∷ rows)) =
     let n = nth (version .items) 1 in
     cases (counts n) (λ e. rw e (all-tells (λ (r : Line). eqb (length (r .items)) (numeral 0 n)) 2 rows)) (λ e. rw e)
-
-rows-are : (ls : List Line) → rowsIn ls ≡ drop 2 ls
-rows-are [] = refl
-rows-are (version ∷ []) = refl
-rows-are (version ∷ (heading ∷ rows)) = refl
 
 -- ---- each refusal in its turn
 abbrev wrong : Fault → ℕ → Verdict
@@ -130,7 +124,7 @@ module _ {f : List ℕ} {first : ℕ} (C : Clean f first) where
 
     pub header-line : (v : Verdict) → (differs ≡ 0 → ⊥) → v ≡ wrong HeaderDiffers differs → lineOf v ≡ csvSpot f
     unfolding csvSpot
-    header-line v k e = rw (e, C .quoted, C .counted, C .converts, rows-are all-lines, first-clash, some-line differs k)
+    header-line v k e = rw (e, C .quoted, C .counted, C .converts, first-clash, some-line differs k)
 
     module _ (d : differs ≡ 0) where
       no-clash : differ (drop 2 all-lines) ≡ false
@@ -148,7 +142,7 @@ module _ {f : List ℕ} {first : ℕ} (C : Clean f first) where
 
       pub returns-line : (v : Verdict) → (returned ≡ 0 → ⊥) → v ≡ wrong Returns returned → lineOf v ≡ csvSpot f
       unfolding csvSpot
-      returns-line v k e = rw (e, C .quoted, C .counted, C .converts, rows-are all-lines, first-clash, d, first-back)
+      returns-line v k e = rw (e, C .quoted, C .counted, C .converts, first-clash, d, first-back)
 
       module _ (b : returned ≡ 0) where
         pub right-told : (c : CsvSheets) → c ≡ record { count = count; first = first } → toldVerdict (Right c) ≡ csvCount f
@@ -162,7 +156,7 @@ module _ {f : List ℕ} {first : ℕ} (C : Clean f first) where
 
         pub right-line : 0 ≡ csvSpot f
         unfolding csvSpot
-        right-line = rw (C .quoted, C .counted, C .converts, rows-are all-lines, first-clash, d, first-back, b)
+        right-line = rw (C .quoted, C .counted, C .converts, first-clash, d, first-back, b)
 
 -- ---- the answers
 module _ (f : List ℕ) (v : Verdict) (t : toldVerdict v ≡ csvCount f) where

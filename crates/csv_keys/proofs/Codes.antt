@@ -11,16 +11,16 @@ use lib.ListN.{length, getD, take, drop, replicate}
 use lib.Seq.{getD-take, getD-drop}
 use Rattle.rules.specs.Lists.{bytes, empty, same, all}
 use Rattle.rules.specs.Shift.{within}
-use Rattle.rules.specs.Frame.{digit}
-use Rattle.rules.specs.Value.{number, point, unsigned, spelled, holds, tooLong, fault, fits}
-use Rattle.rules.proofs.Logic.{cases, never, both, or-true, not-true}
-use Rattle.rules.proofs.Lists.{same-eq, all-cons, all-each}
+use Rattle.rules.specs.Value.{number, fault, fits}
+use Rattle.rules.proofs.Logic.{cases, both, not-true}
+use Rattle.rules.proofs.Lists.{same-eq}
 use Rattle.value.specs.declared.Fault.{Fault}
 use Rattle.value.specs.declared.Rule.the-variants.{Number}
 use Rattle.value.specs.Rules.{faultNo, fineOf, ruleOf}
 use Rattle.value.proofs.Laws.{fine-zero, fault-some}
 use Rattle.csv_rules.specs.Written.{halved}
 use Rattle.csv_rules.specs.Columns.{meaningOf, typeOf, sexes, classes, forms}
+use Rattle.csv_rules.proofs.Raw.{spelling, not-number}
 use Rattle.csv_rows.specs.Rows.{stretch, itemAt}
 use Rattle.csv_keys.specs.Keys.{rawOf, KeyIs}
 use Rattle.csv_keys.specs.Ways.{itemIn, codeOf, AsIs, Word}
@@ -168,27 +168,6 @@ empty-halved : (raw : List ℕ) → empty (halved false raw) ≡ eqb (length raw
 unfolding empty halved
 empty-halved [] = refl
 empty-halved (b ∷ s) = sym (ne-eqb (length (b ∷ s)) 0 (omega arith))
-
--- the bytes of a number and its sign
-abbrev spelling : ℕ → Bool
-spelling b = (eqb b 43 || eqb b 45) || (digit b || point b)
-
-signed-spelling : (s : List ℕ) → all (λ (b : ℕ). digit b || point b) (unsigned s) ≡ true → all spelling s ≡ true
-unfolding unsigned all
-signed-spelling [] h = h
-signed-spelling (b ∷ s) h =
-    let p : ℕ → Bool = λ b. digit b || point b in
-    let q : (b : ℕ) → p b ≡ true → spelling b ≡ true = λ b e. ap (λ t. (eqb b 43 || eqb b 45) || t) e ∙ or-true (eqb b 43 || eqb b 45) in
-    cases (eqb b 43 || eqb b 45)
-    (λ e. let g : all p s ≡ true = rw e at h in rw (all-cons spelling b s, e) (all-each p spelling q s g))
-    (λ e. let g : all p (b ∷ s) ≡ true = rw e at h in all-each p spelling q (b ∷ s) g)
-
-not-number : (s : List ℕ) → all spelling s ≡ false → fits true number s ≡ false
-unfolding fault holds spelled
-not-number s h =
-    let p : ℕ → Bool = λ b. digit b || point b in
-    let e : all p (unsigned s) ≡ false = cases (all p (unsigned s)) (λ t. never (sym (signed-spelling s t) ∙ h)) (λ t. t) in
-    rw e (cases (empty s) (λ t. rw t) (λ t. cases (tooLong number s) (λ u. rw (t, u)) (λ u. rw (t, u))))
 
 -- a text with a quote is no number, in the file and read
 number-halved : (raw : List ℕ) → fits true number (halved false raw) ≡ fits true number raw

@@ -20,10 +20,6 @@ use Rattle.csv_rows.specs.Rows.{closingAt, quoteFirst, BehindAt, ItemAt}
 use Rattle.csv_rows.proofs.Items.{close-plain, close-stop, half-plain, behind-comma, item-open, item-fine}
 
 -- ---- a byte
-pub clear-is : (b : ℕ) → ((leb 0x20 b && leb b 0x7E) && not (eqb b 0x22)) ≡ isClear b
-unfolding isClear
-clear-is b = refl
-
 clear-parts : (b : ℕ) → isClear b ≡ true → (within 0x20 0x7E b ≡ true) × (eqb b 0x22 ≡ false)
 unfolding isClear
 clear-parts b h = let w = both (within 0x20 0x7E b) (not (eqb b 0x22)) h in (w .0, not-true (eqb b 0x22) (w .1))

@@ -5,7 +5,6 @@ ghost use Prim.Native.Nat.{_+_, _≤_, _<_};
 ghost use lib.ListN.{length, take, drop};
 ghost use Rattle.csv_rules.specs.Kanji.{convertible};
 ghost use Rattle.csv_rules.specs.Written.{halved};
-ghost use Rattle.sjis.specs.Items.{isClear};
 ghost use Rattle.csv_rows.specs.Plain.{plainAt, commaAt, PlainItem};
 ghost use Rattle.csv_rows.specs.Rows.{closingAt, quoteFirst, notedItem, stretch, Inside, BehindAt, ItemAt, RowIs};
 
@@ -37,14 +36,7 @@ pub struct RowAt {
     pub bad: bool,
 }
 
-// A byte that stands alone (20–7E) and isn't doubled in the file.
-fn clear(b: u8) -> bool
-    ensures { λ r. ⌜ r ≡ isClear b ⌝ }
-{
-    (0x20 <= b) & (b <= 0x7E) & (b != 0x22)
-}
-
-// The place where such bytes end.
+// The place where the bytes end that each stand alone and aren't doubled in the file.
 fn plain_end(file: &[u8], from: usize) -> usize
     requires { ⌜ from ≤ length (now file) ⌝ }
     ensures { λ r. ⌜ r ≡ from + plainAt (drop from (now (file .entry))) ⌝ }
@@ -52,7 +44,7 @@ fn plain_end(file: &[u8], from: usize) -> usize
 {
     let mut i = from;
     while i < file.len() {
-        if !clear(file[i]) {
+        if !sjis::clear(file[i]) {
             return i;
         }
         i += 1;

@@ -171,13 +171,13 @@ number-over x y z h k =
     rw (same-eq (numberOf (x .items)) (numberOf (y .items)) h, same-eq (numberOf (z .items)) (numberOf (y .items)) k) (same-self (numberOf (y .items)))
 
 -- a row begins the first run of those that it begins
-record Head (r : Line) (us : List Run) : Type 0 where
-  run : Run
-  others : List Run
-  are : us ≡ run ∷ others
-  row : run .row ≡ r
+pub record Head (r : Line) (us : List Run) : Type 0 where
+  pub run : Run
+  pub others : List Run
+  pub are : us ≡ run ∷ others
+  pub row : run .row ≡ r
 
-head-of : (r : Line) (us : List Run) → Head r (joinRun r us)
+pub head-of : (r : Line) (us : List Run) → Head r (joinRun r us)
 unfolding joinRun
 head-of r [] = record { run = record { row = r; others = [] }; others = []; are = refl; row = refl }
 head-of r (u ∷ us) =

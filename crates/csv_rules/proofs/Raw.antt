@@ -300,7 +300,7 @@ fifteen-becomes v h =
 
 -- ---- the type
 -- the bytes of a number and its sign
-abbrev spelling : ℕ → Bool
+abbrev pub spelling : ℕ → Bool
 spelling b = (eqb b 43 || eqb b 45) || (digit b || point b)
 
 spelling-alone : Alone spelling
@@ -319,7 +319,7 @@ signed-spelling (b ∷ s) h =
     (λ e. let g : all p s ≡ true = rw e at h in rw (all-cons spelling b s, e) (all-each p spelling q s g))
     (λ e. let g : all p (b ∷ s) ≡ true = rw e at h in all-each p spelling q (b ∷ s) g)
 
-not-number : (s : List ℕ) → all spelling s ≡ false → fits true number s ≡ false
+pub not-number : (s : List ℕ) → all spelling s ≡ false → fits true number s ≡ false
 unfolding fault holds spelled
 not-number s h =
     let p : ℕ → Bool = λ b. digit b || point b in

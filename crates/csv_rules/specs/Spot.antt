@@ -4,7 +4,7 @@ use mathlib.Core.Bool.{Bool, true, false, cond, not, _&&_}
 use mathlib.Core.List.{List, [], _∷_}
 use Prim.Native.Nat.{ℕ, suc}
 use lib.Dec.{eqb}
-use lib.ListN.{length}
+use lib.ListN.{length, drop}
 use Rattle.rules.specs.Lists.{any, nth}
 use Rattle.csv_rules.specs.Quote.{cut, isBroken, Line, linesIn}
 use Rattle.csv_rules.specs.Count.{numeral, counts}
@@ -45,12 +45,9 @@ abbrev pub _orElse_ : ℕ → ℕ → ℕ
 a orElse b = cond (eqb a 0) b a
 
 -- the rows are the lines behind the heading line
-abbrev pub rowsIn : List Line → List Line
-rowsIn [] = []
-rowsIn (version ∷ ls) = elim ls [ [] ↦ [] | heading ∷ rows ↦ rows ]
-
 unfoldable pub csvSpot : List ℕ → ℕ
 csvSpot file =
     let ls = linesIn (cut file) in
+    let rows = drop 2 ls in
     cond (isBroken (cut file)) (suc (length ls))
-    (countLine ls orElse firstNot rowConverts 1 ls orElse firstAfter clashes 3 [] (rowsIn ls) orElse firstAfter comesBack 3 [] (rowsIn ls))
+    (countLine ls orElse firstNot rowConverts 1 ls orElse firstAfter clashes 3 [] rows orElse firstAfter comesBack 3 [] rows)

@@ -10,9 +10,9 @@ use Rattle.rules.proofs.Lists.{same-eq, same-self, all-first, any-first}
 use Rattle.csv_rules.specs.Quote.{Line}
 use Rattle.csv_rules.specs.Kanji.{convertible}
 use Rattle.csv_rules.specs.Columns.{numberOf}
-use Rattle.csv_rules.specs.Sheets.{sameNumber, clash, differ, Run, joinRun, runs}
+use Rattle.csv_rules.specs.Sheets.{sameNumber, clash, differ, joinRun, runs}
 use Rattle.csv_rules.specs.Raw.{rawAgree}
-use Rattle.csv_rules.proofs.Behind.{clash-sym, one-for-all}
+use Rattle.csv_rules.proofs.Behind.{clash-sym, one-for-all, head-of}
 use Rattle.csv_rules.proofs.Raw.{agree-raw}
 use Rattle.csv_runs.specs.Next.{goesOn}
 
@@ -30,21 +30,6 @@ any-snoc p (y ∷ s) x = cases (p y) (λ e. rw (e, any)) (λ e. rw (e, any) (any
 -- ---- the first run
 abbrev pub numbered : List ℕ → Line → Bool
 numbered n l = same n (numberOf (l .items))
-
--- the run that a row begins has it for its first
-record Head (r : Line) (us : List Run) : Type 0 where
-  run : Run
-  others : List Run
-  are : us ≡ run ∷ others
-  row : run .row ≡ r
-
-head-of : (r : Line) (us : List Run) → Head r (joinRun r us)
-unfolding joinRun
-head-of r [] = record { run = record { row = r; others = [] }; others = []; are = refl; row = refl }
-head-of r (u ∷ us) =
-    cases (sameNumber (r .items) (u .row .items))
-    (λ e. record { run = record { row = r; others = u .row ∷ u .others }; others = us; are = rw (e, joinRun); row = refl })
-    (λ e. record { run = record { row = r; others = [] }; others = u ∷ us; are = rw (e, joinRun); row = refl })
 
 run-alone : (q : Line) (rest : List Line) → goesOn (q .items) rest ≡ false → runs (q ∷ rest) ≡ record { row = q; others = [] } ∷ runs rest
 unfolding runs joinRun goesOn

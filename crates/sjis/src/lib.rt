@@ -29,7 +29,7 @@ fn plain(b: u8) -> bool
 }
 
 // One that isn't doubled in the file.
-fn clear(b: u8) -> bool
+pub fn clear(b: u8) -> bool
     ensures { λ r. ⌜ r ≡ isClear b ⌝ }
 {
     plain(b) & (b != 0x22)
