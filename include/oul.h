@@ -19,8 +19,8 @@
  *     oul_segment        256
  *     oul_spot           256
  *     oul_csv_count    77824
- *     oul_csv_sheet    77824
- *     oul_csv_next     77824
+ *     oul_csv_sheet    86016
+ *     oul_csv_next     86016
  *     oul_csv_spot     77824
  *
  * The archive defines these ten symbols and no others, and asks for memcpy and memset.
