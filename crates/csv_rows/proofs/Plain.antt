@@ -104,13 +104,13 @@ module _ (f : List ℕ) (s p e : ℕ) (t : p ≡ s + plainAt (drop s f)) (c : e 
         ap (λ (n : ℕ). convertible (halved false (take n (drop s f)))) q ∙ plain-converts (drop s f);
   }
 
-module _ (f : List ℕ) (i : ℕ) (p : i ≤ length f) (h : i < length f) (s b e : ℕ) (q : getD f i 0 ≡ 0x22) (g : s ≡ i + 1)
+module _ (f : List ℕ) (i : ℕ) (h : i < length f) (s b e : ℕ) (q : getD f i 0 ≡ 0x22) (g : s ≡ i + 1)
     (t : b ≡ s + plainAt (drop s f)) (c : e ≡ b + closingAt false (drop b f)) where
   pub open-past : length f ≤ e → ItemAt f i 0 0 0 false true
-  open-past = item-open f i p h s e q g (end-past f s b e t c)
+  open-past = item-open f i (omega arith) h s e q g (end-past f s b e t c)
 
   pub fine-past : e < length f → (n m : ℕ) (goes bad : Bool) → n ≡ e + 1 → BehindAt f n m goes bad → ItemAt f i s (e - s) (((e - s) + 2) + m) goes bad
-  fine-past = item-fine f i p h s e q g (end-past f s b e t c)
+  fine-past = item-fine f i (omega arith) h s e q g (end-past f s b e t c)
 
 pub item-unjudged : (f : List ℕ) (s l : ℕ) → PlainItem f s l false
 item-unjudged f s l = record { converts = λ h. never (sym h) }
@@ -159,7 +159,7 @@ module _ (f : List ℕ) (p : ℕ) where
     comma-item i s h k o t =
         let b = behind-comma f (p + 1) (omega (arith, comma-in)) comma-first comma-in (two-bytes .1) in
         let x : ((p - s) + 2) + 1 ≡ (p - s) + 3 = omega arith in
-        rw x at (fine-past f i (omega arith) h s p p k o t closes-here (omega (arith, comma-in)) (p + 1) 1 true false refl b)
+        rw x at (fine-past f i h s p p k o t closes-here (omega (arith, comma-in)) (p + 1) 1 true false refl b)
 
 pub comma-plain : (f : List ℕ) (s p : ℕ) → p ≡ s + plainAt (drop s f) → PlainItem f s (p - s) true
 comma-plain f s p t = record {

@@ -2,7 +2,7 @@
 ghost use mathlib.Core.Path.{_≡_};
 ghost use mathlib.Core.Bool.{false, _||_};
 ghost use Prim.Native.Nat.{_+_, _≤_, _<_};
-ghost use lib.ListN.{length, take, drop};
+ghost use lib.ListN.{length, getD, take, drop};
 ghost use Rattle.csv_rules.specs.Kanji.{convertible};
 ghost use Rattle.csv_rules.specs.Written.{halved};
 ghost use Rattle.csv_rows.specs.Plain.{plainAt, commaAt, PlainItem};
@@ -25,6 +25,16 @@ struct Found {
     bad: bool,
     plain: bool,
 }
+
+// No item stands there.
+const NONE: Found = Found {
+    start: 0,
+    len: 0,
+    size: 0,
+    goes: false,
+    bad: true,
+    plain: false,
+};
 
 // A row: where its first 45 items lie in the file, two numbers an item, where its bytes begin and how many they are, quotes doubled (none: no
 // bytes); the row's bytes, CR LF too; how many items it has; whether each converts; whether its quoting is broken.
@@ -129,44 +139,16 @@ fn comma_at(file: &[u8], p: usize) -> bool
     (file[p] == 0x22) & (file[j] == 0x2C)
 }
 
-// The item whose opening quote stands at a place.
-fn quoted_item(file: &[u8], i: usize) -> Found
-    requires { ⌜ i ≤ length (now file) ⌝ }
+// The item whose opening quote stands at a place, and whose bytes are plain up to p.
+fn item_past(file: &[u8], i: usize, p: usize) -> Found
+    requires { ⌜ (i < length (now file)) × (getD (now file) i 0 ≡ 0x22) × (p ≡ (i + 1) + plainAt (drop (i + 1) (now file))) × (p ≤ length (now file)) ⌝ }
     ensures { λ r. ⌜ ItemAt (now (file .entry)) i (r .start) (r .len) (r .size) (r .goes) (r .bad) ⌝ }
     ensures plain { λ r. ⌜ PlainItem (now (file .entry)) (r .start) (r .len) (r .plain) ⌝ }
 {
-    if i >= file.len() {
-        return Found {
-            start: 0,
-            len: 0,
-            size: 0,
-            goes: false,
-            bad: true,
-            plain: false,
-        };
-    }
-    if file[i] != 0x22 {
-        return Found {
-            start: 0,
-            len: 0,
-            size: 0,
-            goes: false,
-            bad: true,
-            plain: false,
-        };
-    }
     let s = i + 1;
-    let p = plain_end(file, s);
     let e = item_end(file, p);
     if e >= file.len() {
-        return Found {
-            start: 0,
-            len: 0,
-            size: 0,
-            goes: false,
-            bad: true,
-            plain: false,
-        };
+        return NONE;
     }
     let b = after_close(file, e + 1);
     Found {
@@ -179,17 +161,17 @@ fn quoted_item(file: &[u8], i: usize) -> Found
     }
 }
 
-// The same; plain bytes that a quote and a comma close, or none, as most items are, are seen at once.
+// The item at a place. Plain bytes that a quote and a comma close, or none, as most items are, are seen at once.
 fn next_item(file: &[u8], i: usize) -> Found
     requires { ⌜ i ≤ length (now file) ⌝ }
     ensures { λ r. ⌜ ItemAt (now (file .entry)) i (r .start) (r .len) (r .size) (r .goes) (r .bad) ⌝ }
     ensures plain { λ r. ⌜ PlainItem (now (file .entry)) (r .start) (r .len) (r .plain) ⌝ }
 {
     if i >= file.len() {
-        return quoted_item(file, i);
+        return NONE;
     }
     if file[i] != 0x22 {
-        return quoted_item(file, i);
+        return NONE;
     }
     let s = i + 1;
     let p = plain_end(file, s);
@@ -203,7 +185,7 @@ fn next_item(file: &[u8], i: usize) -> Found
             plain: true,
         };
     }
-    quoted_item(file, i)
+    item_past(file, i, p)
 }
 
 // Notes where an item begins and how long it is, where it is one of the first 45.
