@@ -33,12 +33,12 @@ use Rattle.csv_rules.specs.Claims.{placeOf}
 use Rattle.csv_rules.proofs.Order.{sheet-by-place}
 use Rattle.reach.specs.Reach.{Adds}
 use Rattle.reach.proofs.Laws.{front-cut, front-is}
-use Rattle.csv_lines.specs.Lines.{sheetAt, Convertible}
 use Rattle.csv_runs.specs.Runs.{RunIs}
+use Rattle.csv_runs.specs.Sheet.{sheetAt, PutIs}
 use Rattle.csv.specs.declared.Blame.{Blame}
 use Rattle.csv.specs.declared.Verdict.{Verdict}
 use Rattle.csv.specs.declared.Verdict.the-variants.{Wrong}
-use Rattle.csv.specs.Calls.{toldVerdict, copiedTold, madeTold}
+use Rattle.csv.specs.Calls.{toldVerdict, Convertible, copiedTold, madeTold}
 
 -- ---- an answer that refuses leaves the buffer
 pub told-as : {t u : Told (List ℕ)} {x : List ℕ} {r : Made} {y : List ℕ} → t ≡ u → SheetCall u x r y → SheetCall t x r y
@@ -95,14 +95,28 @@ made-as w x y n room A e =
     (λ h. ap (λ (s : List ℕ). madeTold s room) (sym (front-is A (omega (arith, ltb-false 65537 (length w) h, e)))))
 
 -- the part of the buffer that is written
-pub part-long : (w x y : List ℕ) (n : ℕ) → Adds 0 x w n y → n ≡ length (take n y)
-part-long w x y n A = sym (length-take-le n y (A .inside))
+pub part-long : (f : List ℕ) (at : ℕ) (g : Given) (x : List ℕ) (size end : ℕ) (good differs bad : Bool) (y : List ℕ) → PutIs f at g x size end good differs bad y → end ≡ length (take end y)
+part-long f at g x size end good differs bad y P = sym (length-take-le end y (P .inside))
 
-pub made-told : (w x y old after : List ℕ) (n : ℕ) (r : Made) → length x ≡ 65537 → Adds 0 x w n y → SheetCall (madeTold (take n y) (length old)) old r after → SheetCall (madeTold w (length old)) old r after
-made-told w x y old after n r e A c = told-as (made-as w x y n (length old) A e) c
+-- a run whose rows convert is found to be so
+module _ (f : List ℕ) (at : ℕ) (C : Convertible f at) {size : ℕ} {good differs bad : Bool} (R : RunIs f at size good differs bad) where
+  found-there : bad ≡ false
+  found-there = cases bad (λ e. absurd (omega (arith, ap length (sym (R .broken e .none) ∙ C .begins)))) (λ e. e)
+
+  found-good : good ≡ true
+  found-good =
+      let F = R .found found-there in
+      let e : F .run ∷ F .others ≡ C .run ∷ C .others = sym (F .begins) ∙ C .begins in
+      let u : F .run ≡ C .run = cc in
+      F .converts ∙ ap (λ (v : Run). all rowConverts (rowsIn v)) u ∙ C .good
+
+pub made-told : (f : List ℕ) (at : ℕ) → Convertible f at → (g : Given) (x : List ℕ) (size end : ℕ) (good differs bad : Bool) (y : List ℕ) → PutIs f at g x size end good differs bad y
+    → length x ≡ 65537 → (old after : List ℕ) (r : Made) → SheetCall (madeTold (take end y) (length old)) old r after → SheetCall (madeTold (sheetAt f at g) (length old)) old r after
+made-told f at C g x size end good differs bad y P e old after r c =
+    told-as (made-as (sheetAt f at g) x y end (length old) (P .sheet (found-there f at C (P .run)) (found-good f at C (P .run))) e) c
 
 -- a sheet that ends before the buffer does is whole
-pub small-told : (w x y old after : List ℕ) (n : ℕ) (r : Made) → Adds 0 x w n y → n < length y → SheetCall (madeTold (take n y) (length old)) old r after → SheetCall (madeTold w (length old)) old r after
+small-told : (w x y old after : List ℕ) (n : ℕ) (r : Made) → Adds 0 x w n y → n < length y → SheetCall (madeTold (take n y) (length old)) old r after → SheetCall (madeTold w (length old)) old r after
 small-told w x y old after n r A h c =
     let l : length w ≡ n = front-cut A (omega (arith, A .same)) in
     told-as (ap (λ (s : List ℕ). madeTold s (length old)) (sym (front-is A (omega (arith, A .inside, A .same))))) c
@@ -175,10 +189,10 @@ module _ (f : List ℕ) (at : ℕ) (g : Given) (x : List ℕ) where
             let k = not-false good h in
             record { call = told-as (found-53 (F .run) (F .others) (F .begins) (sym (F .converts) ∙ k) (sym (F .header k) ∙ d)) (faulty x HeaderDiffers); place = behind-run f at R b }
 
-        pub convertible : Convertible f at (at + size)
+        pub convertible : Convertible f at
         convertible =
             let F = R .found b in
-            record { run = F .run; others = F .others; begins = F .begins; good = sym (F .converts) ∙ not-false good h; ends = ap (λ (n : ℕ). at + n) (F .bytes) }
+            record { run = F .run; others = F .others; begins = F .begins; good = sym (F .converts) ∙ not-false good h }
 
         pub next-made : differs ≡ false → (r : Made) (y : List ℕ) → SheetCall (madeTold (sheetAt f at g) (length x)) x r y
             → NextCall (csvNext f at g (length x)) (placeAfter f at) x (record { made = r; place = at + size }) y
@@ -186,6 +200,12 @@ module _ (f : List ℕ) (at : ℕ) (g : Given) (x : List ℕ) where
             let F = R .found b in
             let k = not-false good h in
             record { call = told-as (found-made (F .run) (F .others) (F .begins) (sym (F .converts) ∙ k) (sym (F .header k) ∙ d)) c; place = behind-run f at R b }
+
+  pub next-small : (w y : List ℕ) (size end : ℕ) (good differs bad : Bool) → PutIs f at g w size end good differs bad y → bad ≡ false → not good ≡ false → differs ≡ false
+      → end < length y → (r : Made) (z : List ℕ) → SheetCall (madeTold (take end y) (length x)) x r z
+      → NextCall (csvNext f at g (length x)) (placeAfter f at) x (record { made = r; place = at + size }) z
+  next-small w y size end good differs bad P b h d l r z c =
+      next-made (P .run) b h d r z (small-told (sheetAt f at g) w y x z end r (P .sheet b (not-false good h)) l c)
 
 -- ---- the place behind some sheets
 placed : (f : List ℕ) (at m : ℕ) → 0 < m → placeOf f at m ≡ placeOf f (placeAfter f at) (m - 1)

@@ -1,17 +1,16 @@
 -- What is found over a whole file, and what is told of a sheet that was made.
 use mathlib.Core.Path.{_≡_}
-use mathlib.Core.Bool.{false}
-use mathlib.Core.List.{List}
-use Prim.Native.Nat.{ℕ, _≤_}
+use mathlib.Core.Bool.{true}
+use mathlib.Core.List.{List, _∷_}
+use Prim.Native.Nat.{ℕ}
 use lib.Dec.{ltb}
 use lib.ListN.{length}
 use Rattle.rules.specs.Told.{Told, gives, refuse_if_else_, _>>_}
+use Rattle.rules.specs.Lists.{all}
 use Rattle.rules.specs.Sheet.{readSheet}
 use Rattle.csv_rules.specs.declared.CsvSheets.{CsvSheets}
-use Rattle.csv_rules.specs.Quote.{cut, isBroken, linesIn}
+use Rattle.csv_rules.specs.Sheets.{Run, rowsIn, rowConverts, runsFrom}
 use Rattle.csv_rules.specs.Answers.{toldFault}
-use Rattle.csv_rules.specs.Sheets.{rowConverts, firstRow}
-use Rattle.csv_rules.specs.Spot.{firstNot, countLine}
 use Rattle.csv.specs.declared.Verdict.{Verdict}
 use Rattle.csv.specs.declared.Verdict.the-variants.{Right, Wrong}
 
@@ -24,13 +23,12 @@ abbrev pub lineOf : Verdict → ℕ
 lineOf (Right c) = 0
 lineOf (Wrong b) = b .line
 
--- 50, 51 and 52 are not met, and the first row begins at first
-pub record Clean (f : List ℕ) (first : ℕ) : Type 0 where
-  pub quoted : isBroken (cut f) ≡ false
-  pub counted : countLine (linesIn (cut f)) ≡ 0
-  pub converts : firstNot rowConverts 1 (linesIn (cut f)) ≡ 0
-  pub rows : first ≡ firstRow f
-  pub inside : first ≤ length f
+-- a run begins at a place, and each of its rows converts
+pub record Convertible (f : List ℕ) (at : ℕ) : Type 0 where
+  pub run : Run
+  pub others : List Run
+  pub begins : runsFrom f at ≡ run ∷ others
+  pub good : all rowConverts (rowsIn run) ≡ true
 
 -- 45 "lent buffer too short", of a sheet s; and before it "the sheet's own"
 unfoldable pub copiedTold : List ℕ → ℕ → Told (List ℕ)

@@ -9,15 +9,15 @@ use rules::Kind;
 use rules::Refusal;
 use sheets::Judged;
 ghost use mathlib.Core.Path.{_≡_};
-ghost use Prim.Native.Nat.{_≤_, _<_};
+ghost use Prim.Native.Nat.{_<_};
 ghost use lib.ListN.{length};
 ghost use Rattle.rules.specs.Told.{gives};
 ghost use Rattle.csv_rules.specs.Answers.{toldCount, SheetCall, NextCall};
 ghost use Rattle.csv_rules.specs.Sheets.{csvCount, csvSheet, csvNext, placeAfter};
 ghost use Rattle.csv_rules.specs.Spot.{csvSpot};
 ghost use Rattle.csv_rules.specs.Claims.{placeOf};
-ghost use Rattle.csv_lines.specs.Lines.{sheetAt, Convertible};
-ghost use Rattle.csv.specs.Calls.{toldVerdict, lineOf, Clean, copiedTold, madeTold};
+ghost use Rattle.csv_runs.specs.Sheet.{sheetAt};
+ghost use Rattle.csv.specs.Calls.{toldVerdict, lineOf, Convertible, copiedTold, madeTold};
 
 // ---- the whole file
 // A fault of the file, and the line where it is met.
@@ -52,24 +52,16 @@ fn verdict_on(file: &[u8]) -> Verdict
     if found.unconverted != 0 {
         return wrong(Fault::Unconverted, found.unconverted);
     }
-    verdict_on_rows(file, found.first)
-}
-
-fn verdict_on_rows(file: &[u8], first: usize) -> Verdict
-    requires { ⌜ Clean (now file) first ⌝ }
-    ensures { λ r. ⌜ toldVerdict r ≡ csvCount (now (file .entry)) ⌝ }
-    ensures line { λ r. ⌜ lineOf r ≡ csvSpot (now (file .entry)) ⌝ }
-{
-    let found = csv_repeats::repeats(file, first);
-    if found.differs != 0 {
-        return wrong(Fault::HeaderDiffers, found.differs);
+    let repeats = found.repeats;
+    if repeats.differs != 0 {
+        return wrong(Fault::HeaderDiffers, repeats.differs);
     }
-    if found.returns != 0 {
-        return wrong(Fault::Returns, found.returns);
+    if repeats.returns != 0 {
+        return wrong(Fault::Returns, repeats.returns);
     }
     Verdict::Right(CsvSheets {
-        count: found.count,
-        first,
+        count: repeats.count,
+        first: found.first,
     })
 }
 
@@ -134,77 +126,34 @@ fn handed(sheet: &[u8], out: &mut [u8]) -> Made
     }
 }
 
-// The sheet of the rows from a place up to another, made in a buffer of its own, since a refusal leaves the lent one. Most sheets are small.
-fn sheet_from(
-    file: &[u8],
-    at: usize,
-    end: usize,
-    mode: &[u8],
-    sent: &[u8],
-    control: &[u8],
-    out: &mut [u8],
-) -> Made
-    requires { ⌜ Convertible (now file) at end ⌝ }
-    ensures { λ r. ⌜ SheetCall (madeTold (sheetAt (now (file .entry)) at (record { mode = now (mode .entry); sent = now (sent .entry); control = now (control .entry) })) (length (now (out .entry)))) (now (out .entry)) r (now (out .exit)) ⌝ }
-{
-    let mut sheet = [0u8; 8192];
-    small_or_not(&mut sheet, file, at, end, mode, sent, control, out)
-}
-
-fn small_or_not(
-    sheet: &mut [u8],
-    file: &[u8],
-    at: usize,
-    end: usize,
-    mode: &[u8],
-    sent: &[u8],
-    control: &[u8],
-    out: &mut [u8],
-) -> Made
-    requires { ⌜ Convertible (now file) at end ⌝ }
-    ensures { λ r. ⌜ SheetCall (madeTold (sheetAt (now (file .entry)) at (record { mode = now (mode .entry); sent = now (sent .entry); control = now (control .entry) })) (length (now (out .entry)))) (now (out .entry)) r (now (out .exit)) ⌝ }
-{
-    let n = csv_lines::put_sheet(sheet, file, at, end, mode, sent, control);
-    if n < sheet.len() {
-        return handed(&sheet[..n], out);
-    }
-    large(file, at, end, mode, sent, control, out)
-}
-
-fn large(
-    file: &[u8],
-    at: usize,
-    end: usize,
-    mode: &[u8],
-    sent: &[u8],
-    control: &[u8],
-    out: &mut [u8],
-) -> Made
-    requires { ⌜ Convertible (now file) at end ⌝ }
+// A sheet that the small buffer can't hold, made once more in one that can: its rows convert.
+fn large(file: &[u8], at: usize, mode: &[u8], sent: &[u8], control: &[u8], out: &mut [u8]) -> Made
+    requires { ⌜ (at < length (now file)) × Convertible (now file) at ⌝ }
     ensures { λ r. ⌜ SheetCall (madeTold (sheetAt (now (file .entry)) at (record { mode = now (mode .entry); sent = now (sent .entry); control = now (control .entry) })) (length (now (out .entry)))) (now (out .entry)) r (now (out .exit)) ⌝ }
 {
     let mut sheet = room();
-    made_in(&mut sheet, file, at, end, mode, sent, control, out)
+    made_in(&mut sheet, file, at, mode, sent, control, out)
 }
 
 fn made_in(
     sheet: &mut [u8],
     file: &[u8],
     at: usize,
-    end: usize,
     mode: &[u8],
     sent: &[u8],
     control: &[u8],
     out: &mut [u8],
 ) -> Made
-    requires { ⌜ (length (now sheet) ≡ 65537) × Convertible (now file) at end ⌝ }
+    requires { ⌜ (length (now sheet) ≡ 65537) × (at < length (now file)) × Convertible (now file) at ⌝ }
     ensures { λ r. ⌜ SheetCall (madeTold (sheetAt (now (file .entry)) at (record { mode = now (mode .entry); sent = now (sent .entry); control = now (control .entry) })) (length (now (out .entry)))) (now (out .entry)) r (now (out .exit)) ⌝ }
 {
-    let n = csv_lines::put_sheet(sheet, file, at, end, mode, sent, control);
-    handed(&sheet[..n], out)
+    let put = csv_runs::put_sheet(sheet, file, at, mode, sent, control);
+    let end = put.end;
+    handed(&sheet[..end], out)
 }
 
-// The sheet that begins at a place, and the place behind its rows: 50, 30; 52 and 53 of its rows; its own 40 to 43; 45.
+// The sheet that begins at a place, and the place behind its rows: 50, 30; 52 and 53 of its rows; its own 40 to 43; 45. It is made in a buffer of
+// its own, since a refusal leaves the lent one, while its rows are walked. Most sheets are small.
 pub fn csv_next(
     file: &[u8],
     at: usize,
@@ -221,7 +170,24 @@ pub fn csv_next(
             place: file.len(),
         };
     }
-    let run = csv_runs::run(file, at);
+    let mut sheet = [0u8; 8192];
+    next_in(&mut sheet, file, at, mode, sent, control, out)
+}
+
+fn next_in(
+    sheet: &mut [u8],
+    file: &[u8],
+    at: usize,
+    mode: &[u8],
+    sent: &[u8],
+    control: &[u8],
+    out: &mut [u8],
+) -> Next
+    requires { ⌜ at < length (now file) ⌝ }
+    ensures { λ r. ⌜ NextCall (csvNext (now (file .entry)) at (record { mode = now (mode .entry); sent = now (sent .entry); control = now (control .entry) }) (length (now (out .entry)))) (placeAfter (now (file .entry)) at) (now (out .entry)) r (now (out .exit)) ⌝ }
+{
+    let put = csv_runs::put_sheet(sheet, file, at, mode, sent, control);
+    let run = put.run;
     if run.bad {
         return Next {
             made: Made::Faulty(Fault::Quoting),
@@ -241,7 +207,12 @@ pub fn csv_next(
             place,
         };
     }
-    let made = sheet_from(file, at, place, mode, sent, control, out);
+    let end = put.end;
+    if end < sheet.len() {
+        let made = handed(&sheet[..end], out);
+        return Next { made, place };
+    }
+    let made = large(file, at, mode, sent, control, out);
     Next { made, place }
 }
 

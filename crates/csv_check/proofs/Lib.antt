@@ -1,2 +1,4 @@
 pub mod Count
 pub mod Lines
+pub mod Tells
+pub mod Repeating

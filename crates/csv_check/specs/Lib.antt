@@ -1,2 +1,3 @@
 pub mod Looked
+pub mod Repeats
 pub mod Walk

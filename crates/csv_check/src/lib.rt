@@ -1,4 +1,5 @@
-// 50, 51 and 52 over the commercial centre's file (Req 01), in one walk over its lines, once the column count is read.
+// 50 to 54 over the commercial centre's file (Req 01), in one walk over its lines, once the column count is read.
+use csv_repeats::Repeated;
 ghost use mathlib.Core.Path.{_≡_};
 ghost use mathlib.Core.Bool.{true, false, cond};
 ghost use lib.Dec.{ltb};
@@ -6,15 +7,17 @@ ghost use Rattle.rules.specs.Frame.{digit};
 ghost use Rattle.csv_rules.specs.Quote.{cut, linesIn};
 ghost use Rattle.csv_rules.specs.Written.{halved};
 ghost use Rattle.csv_check.specs.Walk.{goesOn, firstFound, countSpot, ColumnsAre, columnItem, WalkIs};
+ghost use Rattle.csv_check.specs.Repeats.{Askable, WithRowIf, RepeatsAre};
 ghost use Rattle.csv_check.specs.Looked.{LookedIs};
 
-// Whether the quoting is broken; the lines before the end, or before the one that breaks it; where 51 and 52 are met, by line, 0 where they
-// aren't; where the first row begins.
+// Whether the quoting is broken; the lines before the end, or before the one that breaks it; where 51 and 52 are met, by line, 0 where they aren't;
+// 53 and 54, where none of these is met; where the first row begins.
 pub struct Looked {
     pub broken: bool,
     pub lines: usize,
     pub miscounted: usize,
     pub unconverted: usize,
+    pub repeats: Repeated,
     pub first: usize,
 }
 
@@ -120,14 +123,44 @@ fn columns_of(file: &[u8]) -> Columns
     column_count(csv_rows::item(file, &version.spans, 1))
 }
 
-// The walk over the lines, where the rows should have this many items; the version line and the heading line are no rows.
+// 53 and 54 with a row more, where they are still looked for.
+fn with_row_if(
+    asked: bool,
+    met: Repeated,
+    line: usize,
+    file: &[u8],
+    first: usize,
+    at: usize,
+    before: &[usize; 90],
+    spans: &[usize; 90],
+    marks: &mut [u8; 65536],
+) -> Repeated
+    requires { ⌜ Askable (now file) first at (now before) (now spans) (met .count) asked ⌝ }
+    ensures { λ r. ⌜ WithRowIf (now (file .entry)) first at (now (before .entry)) (now (spans .entry)) (now (marks .entry)) line (met .differs) (met .returns) (met .count) asked (r .differs) (r .returns) (r .count) (now (marks .exit)) ⌝ }
+{
+    if asked {
+        return csv_repeats::with_row(met, line, file, first, at, before, spans, marks);
+    }
+    met
+}
+
+// The walk over the lines, where the rows should have this many items; the version line and the heading line are no rows. 53 and 54 are looked for
+// as long as every line converts and no row differs.
 fn walked(file: &[u8], number: usize) -> Looked
     ensures { λ r. ⌜ WalkIs (now (file .entry)) number (r .broken) (r .lines) (r .miscounted) (r .unconverted) (r .first) ⌝ }
+    ensures rows { λ r. ⌜ RepeatsAre (now (file .entry)) (r .broken) (r .lines) (r .unconverted) (r .first) (r .repeats .differs) (r .repeats .returns) (r .repeats .count) ⌝ }
 {
+    let mut marks = csv_repeats::no_marks();
+    let mut before = [0usize; 90];
     let mut at = 0;
     let mut lines = 0;
     let mut miscounted = 0;
     let mut unconverted = 0;
+    let mut repeats = Repeated {
+        differs: 0,
+        returns: 0,
+        count: 0,
+    };
     let mut first = 0;
     while at < file.len() {
         let row = csv_rows::row(file, at, false);
@@ -137,35 +170,56 @@ fn walked(file: &[u8], number: usize) -> Looked
                 lines,
                 miscounted,
                 unconverted,
+                repeats,
                 first,
             };
         }
+        let spans = row.spans;
+        let behind = at + row.size;
         lines += 1;
         miscounted = first_found(miscounted, lines, (lines < 3) | (row.count == number));
         unconverted = first_found(unconverted, lines, row.good);
         first += before_rows(lines, row.size);
-        at += row.size;
+        let asked = (3 <= lines) & (unconverted == 0) & (repeats.differs == 0);
+        let next = with_row_if(
+            asked,
+            repeats,
+            lines,
+            file,
+            first,
+            at,
+            &before,
+            &spans,
+            &mut marks,
+        );
+        repeats = next;
+        before = spans;
+        at = behind;
     }
     Looked {
         broken: false,
         lines,
         miscounted,
         unconverted,
+        repeats,
         first,
     }
 }
 
-// Looks over a file: 50, 51 and 52.
+// Looks over a file: 50 to 54.
 pub fn look(file: &[u8]) -> Looked
     ensures { λ r. ⌜ LookedIs (now (file .entry)) (r .broken) (r .lines) (r .miscounted) (r .unconverted) (r .first) ⌝ }
+    ensures rows { λ r. ⌜ RepeatsAre (now (file .entry)) (r .broken) (r .lines) (r .unconverted) (r .first) (r .repeats .differs) (r .repeats .returns) (r .repeats .count) ⌝ }
 {
     let columns = columns_of(file);
     let w = walked(file, columns.number);
+    let repeats = w.repeats;
     Looked {
         broken: w.broken,
         lines: w.lines,
         miscounted: count_spot(w.lines, columns.counts, w.miscounted),
         unconverted: w.unconverted,
+        repeats,
         first: w.first,
     }
 }

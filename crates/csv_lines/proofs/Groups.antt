@@ -84,13 +84,14 @@ unfoldable pub tables : Unit {0}
 unfolding groupLines someLines headerLines lineBy nameLines linesText lines line keyOf keys columns howOf valueBy bytes ended
 tables = tt
 
-pub header-is : (at a b c r : ℕ) (x y z w u i v j mode k sent l control : List ℕ)
-    → AddsLines at x ((i ++ v) ∷ []) a y → AddsLines a y ((j ++ mode) ∷ []) b z → AddsLines b z ((k ++ sent) ∷ []) c w → AddsLines c w ((l ++ control) ∷ []) r u
-    → i ≡ bytes "version=" → v ≡ bytes "1" → j ≡ bytes "mode=" → k ≡ bytes "sent=" → l ≡ bytes "control="
+pub header-is : (at a b c r : ℕ) (x y z w u i j mode k sent l control : List ℕ)
+    → Adds at x i a y → AddsLines a y ((j ++ mode) ∷ []) b z → AddsLines b z ((k ++ sent) ∷ []) c w → AddsLines c w ((l ++ control) ∷ []) r u
+    → i ≡ bytes "version=1\n" → j ≡ bytes "mode=" → k ≡ bytes "sent=" → l ≡ bytes "control="
     → AddsLines at x (headerLines mode sent control) r u
 unfolding tables
-header-is at a b c r x y z w u i v j mode k sent l control p q s t ei ev ej ek el =
-    rw (ei, ev, ej, ek, el) at (lines-then p (lines-then q (lines-then s t)))
+header-is at a b c r x y z w u i j mode k sent l control p q s t ei ej ek el =
+    let v : AddsLines at x (bytes "version=1" ∷ []) a y = record { adds = rw ei at p } in
+    rw (ej, ek, el) at (lines-then v (lines-then q (lines-then s t)))
 
 module _ (row : Items) (at r : ℕ) (x y : List ℕ) where
   pub visit-is : (k : List ℕ) → AddsLines at x (lineBy k Class row 21) r y → k ≡ bytes "class=" → AddsLines at x (groupLines Pv1 row) r y

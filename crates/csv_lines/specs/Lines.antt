@@ -1,19 +1,17 @@
--- The lines of a sheet that a row gives, group by group, and the sheet that begins at a place of the file.
-use mathlib.Core.Path.{_≡_}
-use mathlib.Core.Bool.{true, cond, _&&_}
+-- The lines of a sheet that a row gives, group by group.
+use mathlib.Core.Bool.{cond, _&&_}
 use mathlib.Core.List.{List, [], _∷_, _++_}
-use Prim.Native.Nat.{ℕ, zero, suc, _+_, _-_}
+use Prim.Native.Nat.{ℕ}
 use lib.ListN.{take, drop}
 use Rattle.rules.specs.declared.Name.{Name}
 use Rattle.rules.specs.declared.Name.the-variants.{Msh, Pid, Pv1, Spm, Obr, Obx}
-use Rattle.rules.specs.Lists.{bytes, all, ended}
+use Rattle.rules.specs.Lists.{bytes, ended}
 use Rattle.rules.specs.Row.{lines}
-use Rattle.rules.specs.Sheet.{linesText, rowLines, sheetOf}
-use Rattle.csv_rules.specs.Quote.{Items, Line, cut, linesIn}
+use Rattle.rules.specs.Sheet.{linesText}
+use Rattle.csv_rules.specs.Quote.{Items}
 use Rattle.csv_rules.specs.Columns.{valueBy, keys}
-use Rattle.csv_rules.specs.Sheets.{agree, Run, rowsIn, rowConverts, Given, below, rowsOf, sizes, runsFrom}
+use Rattle.csv_rules.specs.Sheets.{agree}
 use Rattle.reach.specs.Reach.{Adds}
-use Rattle.csv_rows.specs.Rows.{rowAt}
 use Rattle.csv_keys.specs.declared.How.{How}
 use Rattle.csv_keys.specs.declared.How.the-variants.{UpToBlank, PastBlank}
 use Rattle.csv_keys.specs.Keys.{howOf}
@@ -47,34 +45,3 @@ firstLines r = groupLines Pid r ++ (groupLines Pv1 r ++ (groupLines Spm r ++ (gr
 unfoldable pub nextLines : Items → Items → List (List ℕ)
 nextLines q r =
     cond (agree Spm q r) [] (groupLines Spm r) ++ (cond (agree Spm q r && agree Obr q r) [] (groupLines Obr r) ++ groupLines Obx r)
-
--- ---- the rows from a place up to another
--- those of some lines that begin in the first n bytes
-unfoldable pub upTo : ℕ → List Line → List Line
-upTo n [] = []
-upTo zero (l ∷ ls) = []
-upTo (suc n) (l ∷ ls) = l ∷ upTo (suc n - l .size) ls
-
-unfoldable pub rowsTo : List ℕ → ℕ → ℕ → List Line
-rowsTo f i end = upTo (end - i) (linesIn (cut (drop i f)))
-
--- they end there, and each converts
-pub record Following (f : List ℕ) (i end : ℕ) : Type 0 where
-  pub ends : i + sizes (rowsTo f i end) ≡ end
-  pub good : all rowConverts (rowsTo f i end) ≡ true
-
--- the lines that they give behind the row that lies where spans says
-unfoldable pub linesTo : List ℕ → ℕ → List ℕ → ℕ → List (List ℕ)
-linesTo f end spans i = rowLines (below (rowAt f spans) (rowsTo f i end))
-
--- ---- the sheet of the run that begins at a place; nothing where none does
-unfoldable pub sheetAt : List ℕ → ℕ → Given → List ℕ
-sheetAt f at g = elim (runsFrom f at) [ [] ↦ [] | u ∷ us ↦ sheetOf (rowsOf g u) ]
-
--- a run begins at a place and ends at another, and each of its rows converts
-pub record Convertible (f : List ℕ) (at end : ℕ) : Type 0 where
-  pub run : Run
-  pub others : List Run
-  pub begins : runsFrom f at ≡ run ∷ others
-  pub good : all rowConverts (rowsIn run) ≡ true
-  pub ends : end ≡ at + sizes (rowsIn run)

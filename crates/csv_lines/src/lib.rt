@@ -1,4 +1,4 @@
-// The sheet of a run of rows (Req 01): its lines, converted, as far as the buffer reaches.
+// The lines of a sheet that a row gives (Req 01), converted, as far as the buffer reaches.
 use csv_keys::How;
 ghost use mathlib.Core.Path.{_≡_};
 ghost use mathlib.Core.Bool.{true};
@@ -12,7 +12,7 @@ ghost use Rattle.csv_rules.specs.Columns.{valueBy};
 ghost use Rattle.reach.specs.Reach.{Adds};
 ghost use Rattle.csv_rows.specs.Rows.{Inside, rowAt};
 ghost use Rattle.csv_keys.specs.Keys.{howOf};
-ghost use Rattle.csv_lines.specs.Lines.{AddsLines, lineBy, nameLines, groupLines, someLines, headerLines, firstLines, nextLines, Following, linesTo, sheetAt, Convertible};
+ghost use Rattle.csv_lines.specs.Lines.{AddsLines, lineBy, nameLines, groupLines, someLines, headerLines, firstLines, nextLines};
 
 // ---- a line
 
@@ -68,11 +68,11 @@ fn plain_line<'a>(out: &mut [u8], at: usize, key: &'a [u8], value: &'a [u8]) -> 
 // ---- the groups
 
 // "the caller gives the values of keys without a column"
-fn header(out: &mut [u8], at: usize, mode: &[u8], sent: &[u8], control: &[u8]) -> usize
+pub fn header(out: &mut [u8], at: usize, mode: &[u8], sent: &[u8], control: &[u8]) -> usize
     requires { ⌜ at ≤ length (now out) ⌝ }
     ensures { λ r. ⌜ AddsLines at (now (out .entry)) (headerLines (now (mode .entry)) (now (sent .entry)) (now (control .entry))) r (now (out .exit)) ⌝ }
 {
-    let at = plain_line(out, at, b"version=", b"1");
+    let at = reach::put(out, at, b"version=1\n");
     let at = plain_line(out, at, b"mode=", mode);
     let at = plain_line(out, at, b"sent=", sent);
     plain_line(out, at, b"control=", control)
@@ -179,7 +179,7 @@ fn status(out: &mut [u8], at: usize, file: &[u8], spans: &[usize; 90]) -> usize
 // ---- the rows
 
 // The first row of a sheet: every group.
-fn first_row(out: &mut [u8], at: usize, file: &[u8], spans: &[usize; 90]) -> usize
+pub fn first_row(out: &mut [u8], at: usize, file: &[u8], spans: &[usize; 90]) -> usize
     requires { ⌜ (at ≤ length (now out)) × Inside (now file) (now spans) × (all convertible (rowAt (now file) (now spans)) ≡ true) ⌝ }
     ensures { λ r. ⌜ AddsLines at (now (out .entry)) (firstLines (rowAt (now (file .entry)) (now (spans .entry)))) r (now (out .exit)) ⌝ }
 {
@@ -191,7 +191,7 @@ fn first_row(out: &mut [u8], at: usize, file: &[u8], spans: &[usize; 90]) -> usi
 }
 
 // "a row whose specimen keys, or those and its order keys, equal the row before's joins that specimen or order"
-fn next_row(
+pub fn next_row(
     out: &mut [u8],
     at: usize,
     file: &[u8],
@@ -211,50 +211,4 @@ fn next_row(
         return result(out, at, file, spans);
     }
     result(out, at, file, spans)
-}
-
-// The rows from a place up to another, behind a row.
-fn next_rows(
-    out: &mut [u8],
-    at: usize,
-    file: &[u8],
-    from: usize,
-    end: usize,
-    first: [usize; 90],
-) -> usize
-    requires { ⌜ (at ≤ length (now out)) × Inside (now file) first × (all convertible (rowAt (now file) first) ≡ true) × Following (now file) from end ⌝ }
-    ensures { λ r. ⌜ AddsLines at (now (out .entry)) (linesTo (now (file .entry)) end first from) r (now (out .exit)) ⌝ }
-{
-    let mut before = first;
-    let mut k = at;
-    let mut i = from;
-    while i < end {
-        let r = csv_rows::row(file, i, true);
-        let spans = r.spans;
-        k = next_row(out, k, file, &before, &spans);
-        before = spans;
-        i += r.size;
-    }
-    k
-}
-
-// The sheet of the run that begins at a place and ends at another.
-pub fn put_sheet(
-    out: &mut [u8],
-    file: &[u8],
-    at: usize,
-    end: usize,
-    mode: &[u8],
-    sent: &[u8],
-    control: &[u8],
-) -> usize
-    requires { ⌜ Convertible (now file) at end ⌝ }
-    ensures { λ r. ⌜ Adds 0 (now (out .entry)) (sheetAt (now (file .entry)) at (record { mode = now (mode .entry); sent = now (sent .entry); control = now (control .entry) })) r (now (out .exit)) ⌝ }
-{
-    let first = csv_rows::row(file, at, true);
-    let spans = first.spans;
-    let k = header(out, 0, mode, sent, control);
-    let k = first_row(out, k, file, &spans);
-    let from = at + first.size;
-    next_rows(out, k, file, from, end, spans)
 }

@@ -1,4 +1,3 @@
-pub mod Tells
 pub mod Seen
 pub mod Standings
 pub mod Laws

@@ -2,15 +2,15 @@
 use mathlib.Core.Path.{_≡_, refl, ap, _∙_}
 use mathlib.Core.Bool.{Bool, true, false, cond, _||_}
 use mathlib.Core.List.{List, [], _∷_, _++_}
-use Prim.Native.Nat.{ℕ, suc, _+_, _-_, _≤_}
+use Prim.Native.Nat.{ℕ, _+_, _-_}
 use native.Mathlib.Omega.{arith}
 use borrow.Author.Tests.{ne-eqb, ltb-true}
-use lib.Dec.{eqb, ltb}
+use lib.Dec.{ltb}
 use lib.ListN.{length}
-use Rattle.rules.specs.Lists.{any, all, onto}
+use Rattle.rules.specs.Lists.{any, all}
 use Rattle.rules.proofs.Logic.{cases}
 use Rattle.rules.proofs.Lists.{any-cons, any-nil, all-first}
-use Rattle.csv_rules.specs.Quote.{Items, Lines, end, broken, line, more, Inside, Quote, linesAt, cut, Line}
+use Rattle.csv_rules.specs.Quote.{Line}
 use Rattle.csv_rules.specs.Sheets.{sameNumber, Run, joinRun, runs, sizes}
 use Rattle.csv_repeats.specs.Looks.{between}
 
@@ -125,39 +125,3 @@ pub begun-all : (rows : List Line) → length (runs rows) ≡ begunAfter [] rows
 unfolding runs begunAfter goesOn
 begun-all [] = refl
 begun-all (q ∷ rs) = runs-after rs q []
-
--- ---- a line has two bytes at least
-unfoldable AtLeast : ℕ → Lines → Type 0
-AtLeast n end = Unit {0}
-AtLeast n broken = Unit {0}
-AtLeast n (line is m ls) = n ≤ m
-
-least-none : (c : Lines) → AtLeast 0 c
-unfolding AtLeast
-least-none end = tt
-least-none broken = tt
-least-none (line is m ls) = omega arith
-
-least-more : (f : Items → Items) (n : ℕ) (c : Lines) → AtLeast n c → AtLeast (suc n) (more f c)
-unfolding AtLeast more
-least-more f n end h = tt
-least-more f n broken h = tt
-least-more f n (line is m ls) h = omega arith
-
-least-inside : (s : List ℕ) → AtLeast 1 (linesAt Inside s)
-unfolding AtLeast linesAt
-least-inside [] = tt
-least-inside (b ∷ s) =
-    cases (eqb b 0x22)
-    (λ e. rw (e, linesAt) (least-more (λ is. is) 0 (linesAt Quote s) (least-none (linesAt Quote s))))
-    (λ e. rw (e, linesAt) (least-more (onto b) 0 (linesAt Inside s) (least-none (linesAt Inside s))))
-
-least-line : (s : List ℕ) → AtLeast 2 (cut s)
-unfolding AtLeast cut linesAt
-least-line [] = tt
-least-line (b ∷ s) =
-    cases (eqb b 0x22) (λ e. rw (e, linesAt) (least-more (λ is. is) 1 (linesAt Inside s) (least-inside s))) (λ e. rw (e, linesAt) tt)
-
-pub two-bytes : (s : List ℕ) (is : Items) (n : ℕ) (ls : Lines) → cut s ≡ line is n ls → 2 ≤ n
-unfolding AtLeast
-two-bytes s is n ls e = let h : AtLeast 2 (line is n ls) = rw e at (least-line s) in h

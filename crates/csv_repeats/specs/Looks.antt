@@ -1,16 +1,15 @@
 -- How a row stands to the rows before it, as the code finds it: by the raw keys, and by a mark for each number that was met.
 use mathlib.Core.Path.{_≡_}
 use mathlib.Core.Bool.{Bool, true, false, cond, _&&_}
-use mathlib.Core.List.{List, [], _∷_}
+use mathlib.Core.List.{List, [], _∷_, _++_}
 use Prim.Native.Nat.{ℕ, _+_, _*_, _-_, _%_, _<_}
 use lib.Dec.{eqb, ltb}
-use lib.ListN.{getD, set}
+use lib.ListN.{getD, set, drop}
 use Rattle.rules.specs.declared.Name.the-variants.{Pid, Pv1}
-use Rattle.csv_rules.specs.Quote.{Items, Line}
-use Rattle.csv_rules.specs.Sheets.{sameNumber}
+use Rattle.csv_rules.specs.Quote.{Items, cut, Line, linesIn}
+use Rattle.csv_rules.specs.Sheets.{sameNumber, sizes}
 use Rattle.csv_rules.specs.Raw.{rawAgree}
 use Rattle.csv_rows.specs.Rows.{itemAt, rowAt}
-use Rattle.csv_repeats.specs.Repeats.{linesFrom}
 use Rattle.csv_repeats.specs.declared.Standing.{Standing}
 use Rattle.csv_repeats.specs.declared.Standing.the-variants.{Same, New, Back, Differs}
 
@@ -26,6 +25,16 @@ unfoldable pub hashOf : List ℕ → ℕ
 hashOf s = hashFrom 0 s
 
 -- ---- the rows before
+-- the lines from a place on
+abbrev pub linesFrom : List ℕ → ℕ → List Line
+linesFrom f at = linesIn (cut (drop at f))
+
+-- from k on they go up to at, each well quoted, and then on from there
+pub record Upto (f : List ℕ) (k at : ℕ) : Type 0 where
+  pub rows : List Line
+  pub lines : linesFrom f k ≡ rows ++ linesFrom f at
+  pub place : at ≡ k + sizes rows
+
 -- those of some lines that begin in the first n bytes
 unfoldable pub between : ℕ → List Line → List Line
 between n [] = []
@@ -77,3 +86,11 @@ begun Same = 0
 begun New = 1
 begun Back = 1
 begun Differs = 0
+
+-- 53 and 54 with the row at a place, which is the line-th line, where none before it differs
+pub record WithRow (f : List ℕ) (first at : ℕ) (before spans marks : List ℕ) (line returns count : ℕ) (d r n : ℕ) (after : List ℕ) : Type 0 where
+  pub standing : Standing
+  pub stands : Stands f first at before spans marks standing after
+  pub differs : d ≡ cond (isDiffers standing) line 0
+  pub back : r ≡ cond (eqb returns 0 && isBack standing) line returns
+  pub runs : n ≡ count + begun standing

@@ -1,4 +1,4 @@
-// 53 and 54 over the rows of the commercial centre's file (Req 01), in one pass that looks back.
+// How a row of the commercial centre's file (Req 01) stands to the rows before it: 53 and 54, by looking back.
 ghost use mathlib.Core.Path.{_≡_};
 ghost use mathlib.Core.Bool.{false, cond, _&&_};
 ghost use Prim.Native.Nat.{_-_, _≤_, _<_};
@@ -7,10 +7,9 @@ ghost use lib.ListN.{length};
 ghost use Rattle.csv_rules.specs.Written.{halved};
 ghost use Rattle.csv_rows.specs.Rows.{Inside, rowAt};
 ghost use Rattle.csv_repeats.specs.declared.Standing.the-variants.{Same, Back, Differs};
-ghost use Rattle.csv_repeats.specs.Repeats.{linesFrom, Sound, RepeatsIs};
-ghost use Rattle.csv_repeats.specs.Looks.{stirred, hashOf, between, foundIn, standOf, Stands, isDiffers, isBack, begun};
+ghost use Rattle.csv_repeats.specs.Looks.{linesFrom, Upto, stirred, hashOf, between, foundIn, standOf, Stands, WithRow, isDiffers, isBack, begun};
 
-// Where 53 and 54 are met, by line, 0 where they aren't; how many runs there are.
+// Where 53 and 54 are met so far, by line, 0 where they aren't; how many runs there are.
 pub struct Repeated {
     pub differs: usize,
     pub returns: usize,
@@ -18,7 +17,7 @@ pub struct Repeated {
 }
 
 // How a row stands to the rows before it.
-enum Standing {
+pub enum Standing {
     Same, // it goes on with the number of the row before
     New, // no row before has its number
     Back, // its number returns after another
@@ -26,7 +25,7 @@ enum Standing {
 }
 
 // The marks of the numbers, none set. Their length alone is promised: a mark too many costs a look back, no more.
-fn no_marks() -> [u8; 65536]
+pub fn no_marks() -> [u8; 65536]
     ensures { λ r. ⌜ length r ≡ 65536 ⌝ }
 {
     [0u8; 65536]
@@ -87,15 +86,15 @@ fn coming_back(agrees: bool) -> Standing
     Standing::Differs
 }
 
-// 53, where a row stands so.
-fn differs(s: Standing) -> bool
-    ensures { λ r. ⌜ r ≡ isDiffers s ⌝ }
+// 53, where a row stands so: its line.
+fn differs_at(s: Standing, line: usize) -> usize
+    ensures { λ r. ⌜ r ≡ cond (isDiffers s) line 0 ⌝ }
 {
     match s {
-        Standing::Same => false,
-        Standing::New => false,
-        Standing::Back => false,
-        Standing::Differs => true,
+        Standing::Same => 0,
+        Standing::New => 0,
+        Standing::Back => 0,
+        Standing::Differs => line,
     }
 }
 
@@ -136,7 +135,7 @@ fn first_back(returns: usize, s: Standing, line: usize) -> usize
 
 // How a row stands to those from `first` up to its own place, where its number isn't that of the row before: compared with the first that has it.
 fn sought(file: &[u8], first: usize, at: usize, spans: &[usize; 90]) -> Standing
-    requires { ⌜ (first ≤ at) × (at ≤ length (now file)) × Sound (now file) first × Inside (now file) (now spans) ⌝ }
+    requires { ⌜ (at ≤ length (now file)) × Upto (now file) first at × Inside (now file) (now spans) ⌝ }
     ensures { λ r. ⌜ r ≡ foundIn (rowAt (now (file .entry)) (now (spans .entry))) (between (at - first) (linesFrom (now (file .entry)) first)) ⌝ }
 {
     let mut k = first;
@@ -160,7 +159,7 @@ fn looked_at(
     spans: &[usize; 90],
     mark: u8,
 ) -> Standing
-    requires { ⌜ (first ≤ at) × (at ≤ length (now file)) × Sound (now file) first × Inside (now file) (now before) × Inside (now file) (now spans) ⌝ }
+    requires { ⌜ (at ≤ length (now file)) × Upto (now file) first at × Inside (now file) (now before) × Inside (now file) (now spans) ⌝ }
     ensures { λ r. ⌜ r ≡ standOf (ltb first at) (eqb mark 1) (rowAt (now (file .entry)) (now (before .entry))) (rowAt (now (file .entry)) (now (spans .entry))) (between (at - first) (linesFrom (now (file .entry)) first)) ⌝ }
 {
     if (first < at) & csv_keys::same_number(file, before, spans) {
@@ -181,7 +180,7 @@ fn stands(
     spans: &[usize; 90],
     marks: &mut [u8; 65536],
 ) -> Standing
-    requires { ⌜ (first ≤ at) × (at ≤ length (now file)) × Sound (now file) first × Inside (now file) (now before) × Inside (now file) (now spans) ⌝ }
+    requires { ⌜ (at ≤ length (now file)) × Upto (now file) first at × Inside (now file) (now before) × Inside (now file) (now spans) ⌝ }
     ensures { λ r. ⌜ Stands (now (file .entry)) first at (now (before .entry)) (now (spans .entry)) (now (marks .entry)) r (now (marks .exit)) ⌝ }
 {
     let number = csv_rows::item(file, spans, 6);
@@ -191,37 +190,24 @@ fn stands(
     looked_at(file, first, at, before, spans, mark)
 }
 
-// 53 and 54 over the rows from `first` to the file's end, which are well quoted and convert. The first row is the third line; 53 ends the pass.
-pub fn repeats(file: &[u8], first: usize) -> Repeated
-    requires { ⌜ (first ≤ length (now file)) × Sound (now file) first ⌝ }
-    ensures { λ r. ⌜ RepeatsIs (now (file .entry)) first (r .differs) (r .returns) (r .count) ⌝ }
+// 53 and 54 with the row at a place, the line-th line of the file, where none before it differs.
+pub fn with_row(
+    met: Repeated,
+    line: usize,
+    file: &[u8],
+    first: usize,
+    at: usize,
+    before: &[usize; 90],
+    spans: &[usize; 90],
+    marks: &mut [u8; 65536],
+) -> Repeated
+    requires { ⌜ (met .count ≤ at) × (at < length (now file)) × Upto (now file) first at × Inside (now file) (now before) × Inside (now file) (now spans) ⌝ }
+    ensures { λ r. ⌜ WithRow (now (file .entry)) first at (now (before .entry)) (now (spans .entry)) (now (marks .entry)) line (met .returns) (met .count) (r .differs) (r .returns) (r .count) (now (marks .exit)) ⌝ }
 {
-    let mut marks = no_marks();
-    let mut before = [0usize; 90];
-    let mut at = first;
-    let mut line = 3;
-    let mut returns = 0;
-    let mut count = 0;
-    while at < file.len() {
-        let t = csv_rows::row(file, at, true);
-        let spans = t.spans;
-        let s = stands(file, first, at, &before, &spans, &mut marks);
-        if differs(s) {
-            return Repeated {
-                differs: line,
-                returns: returns,
-                count: count,
-            };
-        }
-        returns = first_back(returns, s, line);
-        count += begins(s);
-        before = spans;
-        at += t.size;
-        line += 1;
-    }
+    let s = stands(file, first, at, before, spans, marks);
     Repeated {
-        differs: 0,
-        returns: returns,
-        count: count,
+        differs: differs_at(s, line),
+        returns: first_back(met.returns, s, line),
+        count: met.count + begins(s),
     }
 }

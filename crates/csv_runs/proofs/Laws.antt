@@ -1,4 +1,4 @@
--- The laws of the next row, and of the loop over the rows of a run. Assumes nothing.
+-- The laws of the next row, and of the loops over the rows of a run. Assumes nothing.
 use mathlib.Core.Path.{_≡_, refl, sym, ap, _∙_}
 use mathlib.Core.Bool.{Bool, true, false, cond, not, _&&_, _||_}
 use mathlib.Core.List.{List, [], _∷_, _++_, append-assoc}
@@ -23,8 +23,8 @@ use Rattle.csv_runs.specs.Runs.{RunIs}
 use Rattle.csv_runs.proofs.Runs.{numbered, all-snoc, any-snoc, first-run, run-differs, clash-raw}
 
 -- ---- the next row
-pub stops : (f : List ℕ) (q : Items) (at : ℕ) → at ≤ length f → goesOn q (linesFrom f at) ≡ false → NextIs f q at 0 true false false
-stops f q at p o = record {
+pub stops : (f : List ℕ) (q : Items) (at : ℕ) (spans : List ℕ) → at ≤ length f → goesOn q (linesFrom f at) ≡ false → NextIs f q at spans 0 true false false
+stops f q at spans p o = record {
   joined = λ h. never (sym h);
   stopped = λ h. record { other = o; nothing = refl; kept = refl; alike = refl };
   moves = omega arith;
@@ -51,7 +51,7 @@ module _ (f first : List ℕ) (at : ℕ) (spans : List ℕ) (size count : ℕ) (
 
   pub joins-on : (n a : Bool) → bad ≡ false → n ≡ same (numberOf (rowAt f first)) (numberOf (rowAt f spans)) → n ≡ true
       → a ≡ (rawAgree Pid (rowAt f first) (rowAt f spans) && rawAgree Pv1 (rowAt f first) (rowAt f spans))
-      → NextIs f (rowAt f first) at size good (not a) true
+      → NextIs f (rowAt f first) at spans size good (not a) true
   joins-on n a h e k d =
       let own = tied-raw f spans (t .items) (t .lies) in
       let q = rowAt f first in
@@ -59,6 +59,7 @@ module _ (f first : List ℕ) (at : ℕ) (spans : List ℕ) (size count : ℕ) (
         joined = λ o. record {
           items = t .items;
           lines = row-lines f at false spans size count good bad t h;
+          lies = t .lies;
           number = sym (number-is n e) ∙ k;
           converts = t .converts;
           header =
@@ -82,10 +83,8 @@ none-there f at spans size count good bad t h l = record {
   inside = omega arith;
 }
 
--- ---- the rows of a run so far
-pub record Going (f : List ℕ) (at : ℕ) (spans : List ℕ) (size : ℕ) (good differs goes : Bool) : Type 0 where
-  pub first : Line
-  pub others : List Line
+-- ---- the rows of a run so far: the first, and the others
+pub record Read (f : List ℕ) (at : ℕ) (spans : List ℕ) (size : ℕ) (good differs goes : Bool) (first : Line) (others : List Line) : Type 0 where
   pub lies : Spans f spans (first .items)
   pub lines : linesFrom f at ≡ first ∷ (others ++ linesFrom f (at + size))
   pub bytes : size ≡ sizes (first ∷ others)
@@ -95,12 +94,10 @@ pub record Going (f : List ℕ) (at : ℕ) (spans : List ℕ) (size : ℕ) (good
   pub stopped : goes ≡ false → goesOn (first .items) (linesFrom f (at + size)) ≡ false
   pub place : at + size ≤ length f
 
-pub run-begins : (f : List ℕ) (at : ℕ) (spans : List ℕ) (size count : ℕ) (good bad : Bool) → RowIs f at false spans size count good bad → bad ≡ false
-    → Going f at spans size good false true
+pub one-read : (f : List ℕ) (at : ℕ) (spans : List ℕ) (size count : ℕ) (good bad : Bool) (t : RowIs f at false spans size count good bad) → bad ≡ false
+    → Read f at spans size good false true (record { items = t .items; size = size }) []
 unfolding sizes all any
-run-begins f at spans size count good bad t h = record {
-  first = record { items = t .items; size = size };
-  others = [];
+one-read f at spans size count good bad t h = record {
   lies = t .lies;
   lines = row-lines f at false spans size count good bad t h;
   bytes = omega arith;
@@ -117,97 +114,115 @@ unfolding goesOn
 goes-same q p [] e = refl
 goes-same q p (r ∷ rs) e = rw e
 
-module _ (f : List ℕ) (at : ℕ) (spans : List ℕ) (size : ℕ) (good differs goes : Bool) (p : Going f at spans size good differs goes) where
-  pub run-over : goes ≡ false → RunIs f at size good differs false
+module _ (f : List ℕ) (at : ℕ) (spans : List ℕ) (size : ℕ) (good differs goes : Bool) (first : Line) (others : List Line)
+    (p : Read f at spans size good differs goes first others) where
+  pub run-is : goes ≡ false → runsFrom f at ≡ record { row = first; others = others } ∷ runs (linesFrom f (at + size))
   unfolding runsFrom
-  run-over h =
-      let q = p .first in
-      record {
-        found = λ o. record {
-          run = record { row = q; others = p .others };
-          others = runs (linesFrom f (at + size));
-          begins = ap runs (p .lines) ∙ first-run q (p .others) (linesFrom f (at + size)) (p .number) (p .stopped h);
-          bytes = p .bytes;
-          converts = p .converts;
-          header = λ g. p .header g ∙ sym (run-differs q (p .others) (p .number));
-        };
-        broken = λ o. never (sym o);
-        inside = p .place;
-      }
+  run-is h = ap runs (p .lines) ∙ first-run first others (linesFrom f (at + size)) (p .number) (p .stopped h)
 
-  module _ (m : ℕ) (g d j : Bool) (t : NextIs f (rowAt f spans) (at + size) m g d j) where
-    pub run-less : goes ≡ true → (length f - (at + (size + m))) + cond j 1 0 < (length f - (at + size)) + cond goes 1 0
-    run-less h =
-        rw h
-        (cases j
-        (λ z. let k : 0 < m + 0 = rw z at (t .moves) in rw z (omega (arith, t .place)))
-        (λ z. rw z (omega (arith, t .place))))
+  pub run-found : goes ≡ false → RunIs f at size good differs false
+  run-found h = record {
+    found = λ o. record {
+      run = record { row = first; others = others };
+      others = runs (linesFrom f (at + size));
+      begins = run-is h;
+      bytes = p .bytes;
+      converts = p .converts;
+      header = λ g. p .header g ∙ sym (run-differs first others (p .number));
+    };
+    broken = λ o. never (sym o);
+    inside = p .place;
+  }
 
-    number-same : numberOf (rowAt f spans) ≡ numberOf (p .first .items)
-    number-same = tied-number f spans (p .first .items) (p .lies)
+  module _ (next : List ℕ) (m : ℕ) (g d j : Bool) (t : NextIs f (rowAt f spans) (at + size) next m g d j) where
+    number-same : numberOf (rowAt f spans) ≡ numberOf (first .items)
+    number-same = tied-number f spans (first .items) (p .lies)
 
-    nothing-more : j ≡ false → Going f at spans (size + m) (good && g) (differs || d) j
-    nothing-more z =
+    pub none-more : j ≡ false → Read f at spans (size + m) (good && g) (differs || d) j first others
+    none-more z =
         let S = t .stopped z in
         let e : size + m ≡ size = omega (arith, S .nothing) in
         rw (S .kept, S .alike, e, and-true good, or-false differs)
         (record {
-          first = p .first;
-          others = p .others;
           lies = p .lies;
           lines = p .lines;
           bytes = p .bytes;
           number = p .number;
           converts = p .converts;
           header = p .header;
-          stopped = λ o. sym (goes-same (rowAt f spans) (p .first .items) (linesFrom f (at + size)) number-same) ∙ S .other;
+          stopped = λ o. sym (goes-same (rowAt f spans) (first .items) (linesFrom f (at + size)) number-same) ∙ S .other;
           place = p .place;
         })
 
-    module _ (J : Joins f (rowAt f spans) (at + size) m g d) where
+    module _ (J : Joins f (rowAt f spans) (at + size) next m g d) where
       abbrev row : Line
       row = record { items = J .items; size = m }
 
-      lines-more : linesFrom f at ≡ p .first ∷ ((p .others ++ (row ∷ [])) ++ linesFrom f (at + (size + m)))
+      lines-more : linesFrom f at ≡ first ∷ ((others ++ (row ∷ [])) ++ linesFrom f (at + (size + m)))
       lines-more =
           let e : (at + size) + m ≡ at + (size + m) = omega arith in
-          p .lines ∙ ap (λ (l : List Line). p .first ∷ (p .others ++ l)) (J .lines ∙ ap (λ (n : ℕ). row ∷ linesFrom f n) e)
-          ∙ ap (λ (l : List Line). p .first ∷ l) (sym (append-assoc (p .others) (row ∷ []) (linesFrom f (at + (size + m)))))
+          p .lines ∙ ap (λ (l : List Line). first ∷ (others ++ l)) (J .lines ∙ ap (λ (n : ℕ). row ∷ linesFrom f n) e)
+          ∙ ap (λ (l : List Line). first ∷ l) (sym (append-assoc others (row ∷ []) (linesFrom f (at + (size + m)))))
 
-      number-first : sameNumber (p .first .items) (row .items) ≡ true
+      number-first : sameNumber (first .items) (row .items) ≡ true
       number-first = ap (λ (n : List ℕ). same n (numberOf (J .items))) (sym number-same) ∙ J .number
 
       -- the raw keys of the first row as they lie in the file are its raw keys
-      header-raw : d ≡ not (rawAgree Pid (p .first .items) (row .items) && rawAgree Pv1 (p .first .items) (row .items))
+      header-raw : d ≡ not (rawAgree Pid (first .items) (row .items) && rawAgree Pv1 (first .items) (row .items))
       header-raw =
-          let own = tied-raw f spans (p .first .items) (p .lies) in
+          let own = tied-raw f spans (first .items) (p .lies) in
           J .header
           ∙ ap (λ (x : List (List ℕ)). not (sameTexts x (rawKeys Pid (J .items)) && rawAgree Pv1 (rowAt f spans) (J .items))) (own Pid)
-          ∙ ap (λ (x : List (List ℕ)). not (rawAgree Pid (p .first .items) (J .items) && sameTexts x (rawKeys Pv1 (J .items)))) (own Pv1)
+          ∙ ap (λ (x : List (List ℕ)). not (rawAgree Pid (first .items) (J .items) && sameTexts x (rawKeys Pv1 (J .items)))) (own Pv1)
 
-      header-more : (good && g) ≡ true → (differs || d) ≡ any (clash (p .first .items)) (p .others ++ (row ∷ []))
+      header-more : (good && g) ≡ true → (differs || d) ≡ any (clash (first .items)) (others ++ (row ∷ []))
       header-more o =
           let w = both good g o in
-          let a = all-first rowConverts (p .first) (p .others) (sym (p .converts) ∙ w .0) in
-          let c = clash-raw (p .first) row number-first (a .0) (sym (J .converts) ∙ w .1) in
-          rw (any-snoc (clash (p .first .items)) (p .others) row, c, ← header-raw, p .header (w .0))
+          let a = all-first rowConverts first others (sym (p .converts) ∙ w .0) in
+          let c = clash-raw first row number-first (a .0) (sym (J .converts) ∙ w .1) in
+          rw (any-snoc (clash (first .items)) others row, c, ← header-raw, p .header (w .0))
 
-      one-more : j ≡ true → Going f at spans (size + m) (good && g) (differs || d) j
+      pub one-more : j ≡ true → Read f at spans (size + m) (good && g) (differs || d) j first (others ++ (row ∷ []))
       unfolding sizes
       one-more z = record {
-        first = p .first;
-        others = p .others ++ (row ∷ []);
         lies = p .lies;
         lines = lines-more;
-        bytes = omega (arith, p .bytes, sizes-append (p .others) (row ∷ []));
-        number = rw (all-snoc (numbered (numberOf (p .first .items))) (p .others) row, p .number) number-first;
+        bytes = omega (arith, p .bytes, sizes-append others (row ∷ []));
+        number = rw (all-snoc (numbered (numberOf (first .items))) others row, p .number) number-first;
         converts =
-            rw (p .converts, J .converts, all-cons rowConverts (p .first) (p .others), all-cons rowConverts (p .first) (p .others ++ (row ∷ [])), all-snoc rowConverts (p .others) row)
-            (sym (and-assoc (rowConverts (p .first)) (all rowConverts (p .others)) (rowConverts row)));
+            rw (p .converts, J .converts, all-cons rowConverts first others, all-cons rowConverts first (others ++ (row ∷ [])), all-snoc rowConverts others row)
+            (sym (and-assoc (rowConverts first) (all rowConverts others) (rowConverts row)));
         header = header-more;
         stopped = λ o. never (sym z ∙ o);
         place = omega (arith, t .place);
       }
 
-    pub run-on : Going f at spans (size + m) (good && g) (differs || d) j
-    run-on = cases j (λ z. one-more (t .joined z) z) nothing-more
+-- ---- the loops
+pub run-less : (f : List ℕ) (q : Items) (at size : ℕ) (next : List ℕ) (m : ℕ) (g d j goes : Bool) → NextIs f q (at + size) next m g d j → goes ≡ true
+    → (length f - (at + (size + m))) + cond j 1 0 < (length f - (at + size)) + cond goes 1 0
+run-less f q at size next m g d j goes t h =
+    rw h
+    (cases j
+    (λ z. let k : 0 < m + 0 = rw z at (t .moves) in rw z (omega (arith, t .place)))
+    (λ z. rw z (omega (arith, t .place))))
+
+pub record Going (f : List ℕ) (at : ℕ) (spans : List ℕ) (size : ℕ) (good differs goes : Bool) : Type 0 where
+  pub first : Line
+  pub others : List Line
+  pub read : Read f at spans size good differs goes first others
+
+pub run-begins : (f : List ℕ) (at : ℕ) (spans : List ℕ) (size count : ℕ) (good bad : Bool) → RowIs f at false spans size count good bad → bad ≡ false
+    → Going f at spans size good false true
+run-begins f at spans size count good bad t h = record { first = record { items = t .items; size = size }; others = []; read = one-read f at spans size count good bad t h }
+
+module _ (f : List ℕ) (at : ℕ) (spans : List ℕ) (size : ℕ) (good differs goes : Bool) (G : Going f at spans size good differs goes) where
+  pub run-over : goes ≡ false → RunIs f at size good differs false
+  run-over = run-found f at spans size good differs goes (G .first) (G .others) (G .read)
+
+  pub run-on : (next : List ℕ) (m : ℕ) (g d j : Bool) → NextIs f (rowAt f spans) (at + size) next m g d j → Going f at spans (size + m) (good && g) (differs || d) j
+  run-on next m g d j t =
+      cases j
+      (λ z.
+      let J = t .joined z in
+      record { first = G .first; others = G .others ++ (record { items = J .items; size = m } ∷ []); read = one-more f at spans size good differs goes (G .first) (G .others) (G .read) next m g d j t J z })
+      (λ z. record { first = G .first; others = G .others; read = none-more f at spans size good differs goes (G .first) (G .others) (G .read) next m g d j t z })

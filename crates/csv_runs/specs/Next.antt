@@ -8,6 +8,7 @@ use Rattle.rules.specs.declared.Name.the-variants.{Pid, Pv1}
 use Rattle.csv_rules.specs.Quote.{Items, cut, Line, linesIn}
 use Rattle.csv_rules.specs.Sheets.{sameNumber, rowConverts}
 use Rattle.csv_rules.specs.Raw.{rawAgree}
+use Rattle.csv_rows.specs.Rows.{Spans}
 
 -- whether the first of some rows has the number of the row q
 unfoldable pub goesOn : Items → List Line → Bool
@@ -17,10 +18,12 @@ goesOn q (r ∷ rs) = sameNumber q (r .items)
 abbrev pub linesFrom : List ℕ → ℕ → List Line
 linesFrom f at = linesIn (cut (drop at f))
 
--- a row with the number of the row q stands there: its bytes, whether it converts, whether its header keys differ from q's as they lie in the file
-pub record Joins (f : List ℕ) (q : Items) (at size : ℕ) (good differs : Bool) : Type 0 where
+-- a row with the number of the row q stands there: where its items lie, its bytes, whether it converts, whether its header keys differ from q's
+-- as they lie in the file
+pub record Joins (f : List ℕ) (q : Items) (at : ℕ) (spans : List ℕ) (size : ℕ) (good differs : Bool) : Type 0 where
   pub items : Items
   pub lines : linesFrom f at ≡ record { items = items; size = size } ∷ linesFrom f (at + size)
+  pub lies : Spans f spans items
   pub number : sameNumber q items ≡ true
   pub converts : good ≡ rowConverts (record { items = items; size = size })
   pub header : differs ≡ not (rawAgree Pid q items && rawAgree Pv1 q items)
@@ -32,8 +35,8 @@ pub record Stops (f : List ℕ) (q : Items) (at size : ℕ) (good differs : Bool
   pub kept : good ≡ true
   pub alike : differs ≡ false
 
-pub record NextIs (f : List ℕ) (q : Items) (at size : ℕ) (good differs joins : Bool) : Type 0 where
-  pub joined : joins ≡ true → Joins f q at size good differs
+pub record NextIs (f : List ℕ) (q : Items) (at : ℕ) (spans : List ℕ) (size : ℕ) (good differs joins : Bool) : Type 0 where
+  pub joined : joins ≡ true → Joins f q at spans size good differs
   pub stopped : joins ≡ false → Stops f q at size good differs
   pub moves : 0 < size + cond joins 0 1
   pub place : at + size ≤ length f

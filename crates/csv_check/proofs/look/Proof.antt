@@ -5,7 +5,7 @@ use Rattle.csv_check.proofs.look.Statement.{statement}
 use Rattle.csv_check.proofs.look.Tie as tie
 
 returns : tie.Need-returns
-returns c = search (look-all, needs)
+returns c = (search (look-all, needs), search needs)
 
 pub look-spec : {M : Type 1} → statement M
 look-spec =

@@ -3,13 +3,13 @@ use borrow.Author.Needs.{needs}
 use Prim.Native.Nat.{_-_, _≤_}
 use lib.ListN.{length}
 use Rattle.csv_rows.specs.Rows.{rowAt}
-use Rattle.csv_repeats.specs.Repeats.{Sound}
-use Rattle.csv_repeats.proofs.Laws.{Sought, sought-starts, sought-ends, sought-here, sought-on, sought-less, sound-next, next-place}
+use Rattle.csv_repeats.specs.Looks.{Upto}
+use Rattle.csv_repeats.proofs.Laws.{Sought, sought-starts, sought-ends, sought-here, sought-on, sought-less, upto-next, next-place}
 use Rattle.csv_repeats.proofs.sought.Statement.{statement}
 use Rattle.csv_repeats.proofs.sought.Tie as tie
 
 abbrev Inv-loop : tie.InvT-loop
-Inv-loop file first at spans k₀ k = (k ≤ length file) × Sound file k × Sought file first at (rowAt file spans) k
+Inv-loop file first at spans k₀ k = (k ≤ length file) × Upto file k at × Sought file first at (rowAt file spans) k
 
 abbrev μ-loop : tie.MeasureT-loop
 μ-loop file first at spans k₀ k = length file - k
@@ -27,7 +27,7 @@ loop-less : tie.Need-loop-less Inv-loop μ-loop
 loop-less c = search (sought-less, needs)
 
 loop-again : tie.Need-loop-again Inv-loop μ-loop
-loop-again c = search (sound-next, sought-on, needs)
+loop-again c = search (upto-next, sought-on, needs)
 
 returns-2 : tie.Need-returns-2 Inv-loop μ-loop
 returns-2 c = search (sought-ends, needs)
