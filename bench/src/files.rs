@@ -36,8 +36,26 @@ const KANA: [&str; 4] = [
     "",
 ];
 
+/// The text of the n-th result number.
+pub type Number = fn(usize) -> String;
+
+/// 1, 2, 3 and so on.
+pub fn in_turn(n: usize) -> String {
+    n.to_string()
+}
+
+/// Ten digits that tell nothing of those before.
+pub fn in_no_order(n: usize) -> String {
+    let mut mixed = n as u64;
+    for _ in 0..3 {
+        mixed = mixed.wrapping_mul(9_201_743_158_302_551_713);
+        mixed ^= mixed >> 29;
+    }
+    format!("{:010}", mixed % 10_000_000_000)
+}
+
 /// A file of so many bytes at most, with as many results as go into it.
-pub fn file(bytes: usize) -> Vec<u8> {
+pub fn file(bytes: usize, number_text: Number) -> Vec<u8> {
     let mut file = Vec::new();
     write_line(&["Ver1.00", "45", "20140318"], &mut file);
     write_line(
@@ -47,7 +65,7 @@ pub fn file(bytes: usize) -> Vec<u8> {
     for number in 1.. {
         for result in 0..1 + number * 7 % 8 {
             let before = file.len();
-            write_line(&row(number, result), &mut file);
+            write_line(&row(number, &number_text(number), result), &mut file);
             if file.len() > bytes {
                 file.truncate(before);
                 return file;
@@ -59,7 +77,7 @@ pub fn file(bytes: usize) -> Vec<u8> {
 
 /// A row: its columns are filled as the commercial centre fills them. Most kinds of results are numbers,
 /// some have a form, one is a text, and one has no value.
-fn row(number: usize, result: usize) -> [String; 45] {
+fn row(number: usize, number_text: &str, result: usize) -> [String; 45] {
     let [item, own, name, unit, value, form, flag, status] =
         RESULTS[(number + result) % RESULTS.len()];
     let person = number % FAMILIES.len();
@@ -75,7 +93,7 @@ fn row(number: usize, result: usize) -> [String; 45] {
         (4, "\x1B$BEl5~Fb2I%/%j%K%C%/\x1B(B"),
         (5, "01"),
         (6, "\x1B$B0e;UB@O:\x1B(B"),
-        (7, &number.to_string()),
+        (7, number_text),
         (8, &patient),
         (9, &kanji_name),
         (10, KANA[person]),

@@ -133,29 +133,40 @@ fn grown(name: &str, call: &str, times: [f64; 4]) {
 fn sheets_of_files() {
     println!();
     println!(
-        "| Bytes | Sheets | Rust, ms | Library, ms | Ratio | growth of Rust | of the library |"
+        "| Numbers | Bytes | Sheets | Rust, ms | Library, ms | Ratio | growth of Rust | of the library |"
     );
-    println!("|---|---|---|---|---|---|---|");
-    let mut before = None;
-    for megabytes in [1, 2, 4, 8] {
-        let file = files::file(megabytes * 1_000_000);
-        let mut out = vec![0; SHEET_LIMIT];
-        let sheets = agree_on_file(&file, &mut out);
-        let (rust, library) = race(
-            || keep(csv_sheets(&file, &given())),
-            || by_library(&file, &mut out, |sheet| keep(sheet)),
-        );
-        let grown = before.map_or(["", ""].map(String::from), |(one, other)| {
-            [rust / one, library / other].map(|growth: f64| format!("{growth:.2}"))
-        });
-        before = Some((rust, library));
-        let (bytes, ratio) = (file.len(), rust / library);
-        let [rust, library] = [rust, library].map(|time| time / 1e3);
-        let [rust_grown, library_grown] = grown;
-        println!(
-            "| {bytes} | {sheets} | {rust:.1} | {library:.1} | {ratio:.2} | {rust_grown} | {library_grown} |"
-        );
+    println!("|---|---|---|---|---|---|---|---|");
+    let numbers: [(&str, files::Number); 2] = [
+        ("in turn", files::in_turn),
+        ("in no order", files::in_no_order),
+    ];
+    for (name, text) in numbers {
+        let mut before = None;
+        for megabytes in [1, 2, 4, 8] {
+            let file = files::file(megabytes * 1_000_000, text);
+            let times = sheets_of_file(name, &file, before);
+            before = Some(times);
+        }
     }
+}
+
+/// Prints a row: the times, and how they have grown. Gives the times.
+fn sheets_of_file(numbers: &str, file: &[u8], before: Option<(f64, f64)>) -> (f64, f64) {
+    let mut out = vec![0; SHEET_LIMIT];
+    let sheets = agree_on_file(file, &mut out);
+    let (rust, library) = race(
+        || keep(csv_sheets(file, &given())),
+        || by_library(file, &mut out, |sheet| keep(sheet)),
+    );
+    let [rust_grown, library_grown] = before.map_or(["", ""].map(String::from), |(one, other)| {
+        [rust / one, library / other].map(|growth: f64| format!("{growth:.2}"))
+    });
+    let (bytes, ratio) = (file.len(), rust / library);
+    let [rust_ms, library_ms] = [rust, library].map(|time| time / 1e3);
+    println!(
+        "| {numbers} | {bytes} | {sheets} | {rust_ms:.1} | {library_ms:.1} | {ratio:.2} | {rust_grown} | {library_grown} |"
+    );
+    (rust, library)
 }
 
 fn given() -> Given {

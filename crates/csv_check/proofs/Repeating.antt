@@ -1,34 +1,35 @@
 -- The laws of 53 and 54 in the walk: what the rows so far say, and a row more. Assumes nothing.
 use mathlib.Core.Path.{_≡_, refl, sym, ap, _∙_}
 use mathlib.Core.Bool.{Bool, true, false, cond, _&&_}
-use mathlib.Core.List.{List, [], _∷_, _++_}
-use Prim.Native.Nat.{ℕ, _+_, _-_, _*_, _≤_, _<_}
+use mathlib.Core.List.{List, [], _∷_}
+use Prim.Native.Nat.{ℕ, _+_, _*_, _≤_, _<_}
 use native.Mathlib.Omega.{arith}
 use native.Mathlib.Numerals.{add-one}
 use borrow.Author.Tests.{ltb-true, ltb-false, leb-true, le-leb, eqb-true, eqb-false, ne-eqb, lt-ltb, le-ltb, lt-leb}
 use lib.Dec.{eqb, leb, ltb}
-use lib.ListN.{length, getD, set, replicate, length-set, getD-replicate}
+use lib.ListN.{length, getD, replicate, getD-replicate}
 use Rattle.rules.specs.Lists.{any, all}
 use Rattle.rules.proofs.Logic.{cases, both, never, and-false}
-use Rattle.rules.proofs.Lists.{all-cons, all-first}
-use Rattle.csv_rules.specs.Quote.{Items, Line}
-use Rattle.csv_rules.specs.Columns.{numberOf}
+use Rattle.rules.proofs.Lists.{all-cons}
+use Rattle.csv_rules.specs.Quote.{Line}
 use Rattle.csv_rules.specs.Sheets.{clash, differ, rowConverts, runs, sizes}
 use Rattle.csv_rules.specs.Spot.{firstAfter, clashes, comesBack}
-use Rattle.csv_rules.proofs.Behind.{among, marked, Marked, none-marked, unmarked-is-new, marked-again}
-use Rattle.csv_rows.specs.Rows.{itemAt, rowAt, Inside, Spans, RowIs}
+use Rattle.csv_rows.specs.Rows.{Inside, RowIs}
 use Rattle.csv_rows.proofs.Laws.{row-lines, rows-end}
 use Rattle.csv_repeats.specs.declared.Standing.{Standing}
 use Rattle.csv_repeats.specs.declared.Standing.the-variants.{Same, New, Back, Differs}
-use Rattle.csv_repeats.specs.Looks.{hashOf, linesFrom, Upto, between, standOf, Stands, WithRow, isDiffers, isBack, begun}
+use Rattle.csv_places.specs.Places.{linesFrom, Places}
+use Rattle.csv_places.specs.Slots.{Nothing}
+use Rattle.csv_repeats.specs.Looks.{Upto, fromOf, Stands, WithRow, isDiffers, isBack, begun}
 use Rattle.csv_repeats.proofs.Laws.{row-alike}
-use Rattle.csv_repeats.proofs.Seen.{back, sized, between-seen, goesOn, begunAfter, begun-all}
-use Rattle.csv_repeats.proofs.Standings.{Alike, stand-alike, stand-first, Says, says-first, says-later}
+use Rattle.csv_repeats.proofs.Seen.{back, sized, goesOn, begunAfter, begun-all}
+use Rattle.csv_repeats.proofs.Standings.{Says}
+use Rattle.csv_repeats.proofs.Kept.{Kept, Near, kept-starts, kept-places, kept-upto, stands-says, stands-kept}
 use Rattle.csv_check.specs.Walk.{firstFound}
 use Rattle.csv_check.specs.Repeats.{RepeatsIs, RepeatsAre, Askable, WithRowIf}
 
 -- ---- where 53 and 54 are still looked for
-module _ (f : List ℕ) (first at : ℕ) (before spans : List ℕ) (count : ℕ) (asked : Bool) (A : Askable f first at before spans count asked) where
+module _ (f : List ℕ) (at : ℕ) (before spans places : List ℕ) (unkept count : ℕ) (asked : Bool) (A : Askable f at before spans places unkept count asked) where
   pub ask-few : count ≤ at
   ask-few = A .few
 
@@ -41,24 +42,22 @@ module _ (f : List ℕ) (first at : ℕ) (before spans : List ℕ) (count : ℕ)
   pub ask-row : Inside f spans
   ask-row = A .row
 
-  pub ask-seen : asked ≡ true → Upto f first at
-  ask-seen = A .seen
+  pub ask-table : asked ≡ true → Places f places
+  ask-table = A .table
 
-module _ (f : List ℕ) (first at : ℕ) (before spans marks : List ℕ) (line differs returns count : ℕ) (asked : Bool) where
-  pub if-asked : asked ≡ true → (d r n : ℕ) (after : List ℕ) → WithRow f first at before spans marks line returns count d r n after
-      → WithRowIf f first at before spans marks line differs returns count asked d r n after
-  if-asked h d r n after R = record { with = λ e. R; kept = λ e. never (sym h ∙ e) }
+  pub ask-through : asked ≡ true → Upto f (fromOf unkept at) at
+  ask-through = A .through
 
-  pub if-not : asked ≡ false → WithRowIf f first at before spans marks line differs returns count asked differs returns count marks
-  if-not h = record { with = λ e. never (sym e ∙ h); kept = λ e. (refl, refl, refl, refl) }
+module _ (f : List ℕ) (first at : ℕ) (before spans places : List ℕ) (unkept line differs returns count : ℕ) (asked : Bool) where
+  pub if-asked : asked ≡ true → (o d r n : ℕ) (after : List ℕ) → WithRow f first at before spans places unkept line returns count o d r n after
+      → WithRowIf f first at before spans places unkept line differs returns count asked o d r n after
+  if-asked h o d r n after R = record { with = λ e. R; kept = λ e. never (sym h ∙ e) }
+
+  pub if-not : asked ≡ false → WithRowIf f first at before spans places unkept line differs returns count asked unkept differs returns count places
+  if-not h = record { with = λ e. never (sym e ∙ h); kept = λ e. (refl, refl, refl, refl, refl) }
 
 -- ---- the rows so far, the nearest first, and those to come, of which the first is the line-th line
--- the row before lies where the code remembers it
-unfoldable pub Near : List ℕ → List ℕ → List Line → Type 0
-Near f before [] = Unit {0}
-Near f before (q ∷ seen) = Spans f before (q .items)
-
-pub record Going (f : List ℕ) (first : ℕ) (marks before : List ℕ) (at line returns count : ℕ) : Type 0 where
+pub record Going (f : List ℕ) (first : ℕ) (places before : List ℕ) (at unkept line returns count : ℕ) : Type 0 where
   pub seen : List Line
   pub lines : linesFrom f first ≡ back seen (linesFrom f at)
   pub place : at ≡ first + sizes seen
@@ -68,13 +67,13 @@ pub record Going (f : List ℕ) (first : ℕ) (marks before : List ℕ) (at line
   pub clash-at : firstAfter clashes 3 [] (linesFrom f first) ≡ firstAfter clashes line seen (linesFrom f at)
   pub back-at : firstAfter comesBack 3 [] (linesFrom f first) ≡ cond (eqb returns 0) (firstAfter comesBack line seen (linesFrom f at)) returns
   pub runs-are : length (runs (linesFrom f first)) ≡ count + begunAfter seen (linesFrom f at)
-  pub marks-are : Marked hashOf marks seen
+  pub kept-are : Kept f seen at places unkept
   pub near : Near f before seen
   pub third : 3 ≤ line
 
-going-starts : (f : List ℕ) (first : ℕ) (marks before : List ℕ) → Going f first marks before first 3 0 0
+going-starts : (f : List ℕ) (first : ℕ) (places before : List ℕ) → length places ≡ 65536 → Nothing places → Going f first places before first 0 3 0 0
 unfolding back sizes all differ Near
-going-starts f first marks before = record {
+going-starts f first places before m n = record {
   seen = [];
   lines = refl;
   place = omega arith;
@@ -84,53 +83,15 @@ going-starts f first marks before = record {
   clash-at = refl;
   back-at = refl;
   runs-are = begun-all (linesFrom f first) ∙ (let z : begunAfter [] (linesFrom f first) ≡ 0 + begunAfter [] (linesFrom f first) = omega arith in z);
-  marks-are = none-marked hashOf marks;
+  kept-are = kept-starts f first places m n;
   near = tt;
   third = omega arith;
 }
 
--- in the file's order
-back-append : (seen a rest : List Line) → back seen (a ++ rest) ≡ back seen a ++ rest
-unfolding back
-back-append [] a rest = refl
-back-append (q ∷ s) a rest = back-append s (q ∷ a) rest
-
-sizes-back : (seen a : List Line) → sizes (back seen a) ≡ sizes seen + sizes a
-unfolding back sizes
-sizes-back [] a = omega arith
-sizes-back (q ∷ s) a = omega (arith, sizes-back s (q ∷ a))
-
-going-upto : (f : List ℕ) (first : ℕ) (marks before : List ℕ) (at line returns count : ℕ) → Going f first marks before at line returns count → Upto f first at
-unfolding sizes
-going-upto f first marks before at line returns count G = record {
-  rows = back (G .seen) [];
-  lines = G .lines ∙ back-append (G .seen) [] (linesFrom f at);
-  place = omega (arith, G .place, sizes-back (G .seen) []);
-}
-
--- by whether there are rows before
-says-by : (f : List ℕ) (first at : ℕ) (before : List ℕ) (seen : List Line) (l : Line) (r : Items) (m : Bool) → at ≡ first + sizes seen → Near f before seen
-    → all sized seen ≡ true → rowConverts l ≡ true → all rowConverts seen ≡ true → differ seen ≡ false → Alike r (l .items)
-    → (m ≡ false → among seen l ≡ false) → Says seen l (standOf (ltb first at) m (rowAt f before) r (back seen []))
-unfolding Near sizes back
-says-by f first at before [] l r m e n z lc sc d a new =
-    rw (le-ltb first at (omega arith), stand-first m (rowAt f before) (l .items) r (l .items) [] a) (says-first m (l .items) l)
-says-by f first at before (q ∷ s) l r m e n z lc sc d a new =
-    let w = all-first sized q s z in
-    rw (
-      lt-ltb first at (omega (arith, ltb-true 0 (q .size) (w .0))),
-      stand-alike true m (rowAt f before) (q .items) r (l .items) (back (q ∷ s) []) (row-alike f before (q .items) n) a,
-    )
-    (says-later q l s lc sc d m new)
-
-number-hash : (f spans : List ℕ) (items : Items) → Spans f spans items → hashOf (itemAt f spans 6) ≡ hashOf (numberOf items)
-unfolding numberOf
-number-hash f spans items P = ap hashOf (P .each 6 (omega arith))
-
 -- ---- a row more, which converts
-module _ (f : List ℕ) (first : ℕ) (marks before : List ℕ) (at line returns count : ℕ) (G : Going f first marks before at line returns count)
+module _ (f : List ℕ) (first : ℕ) (places before : List ℕ) (at unkept line returns count : ℕ) (G : Going f first places before at unkept line returns count)
     (spans : List ℕ) (size n : ℕ) (good bad : Bool) (T : RowIs f at false spans size n good bad) (b : bad ≡ false) (g : good ≡ true)
-    (s : Standing) (after : List ℕ) (R : Stands f first at before spans marks s after) where
+    (s : Standing) (o : ℕ) (after : List ℕ) (R : Stands f first at before spans places unkept s o after) where
   abbrev row : Line
   row = record { items = T .items; size = size }
 
@@ -144,16 +105,9 @@ module _ (f : List ℕ) (first : ℕ) (marks before : List ℕ) (at line returns
   row-some = let m : 0 < size + 0 = rw b at (T .moves) in omega arith
 
   says : Says (G .seen) row s
-  unfolding marked
   says =
-      let m = eqb (getD marks (hashOf (itemAt f spans 6)) 0) 1 in
-      let z : at - first ≡ sizes (G .seen) = omega (arith, G .place) in
-      let d : between (at - first) (linesFrom f first) ≡ back (G .seen) [] =
-      ap (between (at - first)) (G .lines) ∙ between-seen (G .seen) (linesFrom f at) (at - first) (G .sizes-are) z in
-      let h : m ≡ marked hashOf marks row = ap (λ (h : ℕ). eqb (getD marks h 0) 1) (number-hash f spans (T .items) (T .lies)) in
-      rw (R .is, d)
-      (says-by f first at before (G .seen) row (rowAt f spans) m (G .place) (G .near) (G .sizes-are) row-converts (G .converts) (G .agree)
-      (row-alike f spans (T .items) (T .lies)) (λ e. unmarked-is-new hashOf marks (G .seen) row (G .marks-are) (sym h ∙ e)))
+      stands-says f first at before spans places unkept (G .seen) (G .kept-are) row (G .place) (G .near) (G .sizes-are) (row-alike f spans (T .items) (T .lies)) s o after R
+      row-converts (G .converts) (G .agree)
 
   -- 53
   row-differs : isDiffers s ≡ true → firstAfter clashes 3 [] (linesFrom f first) ≡ line
@@ -180,14 +134,11 @@ module _ (f : List ℕ) (first : ℕ) (marks before : List ℕ) (at line returns
         (λ c. let q : p ≡ returns = o ∙ rw (z, b, c) in rw (c, q, z, firstAfter)))
         (λ z. let q : p ≡ returns = o ∙ rw z in rw (q, z)))
 
-    row-on : length marks ≡ 65536 → (p k : ℕ) → p ≡ cond (eqb returns 0 && isBack s) line returns → k ≡ begun s
-        → Going f first after spans (at + size) (line + 1) p (count + k)
+    row-on : (at ≡ 0 → ⊥) → (p k : ℕ) → p ≡ cond (eqb returns 0 && isBack s) line returns → k ≡ begun s
+        → Going f first after spans (at + size) o (line + 1) p (count + k)
     unfolding back sizes all differ Near firstAfter begunAfter
-    row-on many p k o u =
+    row-on z p k q u =
         let begins = says .begins h in
-        let hash = number-hash f spans (T .items) (T .lies) in
-        let low : hashOf (numberOf (T .items)) < length marks = rw (← hash, many) (R .place) in
-        let are : after ≡ set marks (hashOf (numberOf (T .items))) 1 = R .marked ∙ ap (λ (x : ℕ). set marks x 1) hash in
         record {
           seen = row ∷ G .seen;
           lines = G .lines ∙ ap (back (G .seen)) rows;
@@ -196,24 +147,27 @@ module _ (f : List ℕ) (first : ℕ) (marks before : List ℕ) (at line returns
           sizes-are = rw (all-cons sized row (G .seen), lt-ltb 0 size row-some) (G .sizes-are);
           agree = rw none (G .agree);
           clash-at = G .clash-at ∙ ap (firstAfter clashes line (G .seen)) rows ∙ rw (none, firstAfter, add-one);
-          back-at = G .back-at ∙ back-next p o;
+          back-at = G .back-at ∙ back-next p q;
           runs-are =
-              let z : begunAfter (G .seen) (linesFrom f at) ≡ cond (goesOn (G .seen) row) 0 1 + begunAfter (row ∷ G .seen) (linesFrom f (at + size)) =
+              let y : begunAfter (G .seen) (linesFrom f at) ≡ cond (goesOn (G .seen) row) 0 1 + begunAfter (row ∷ G .seen) (linesFrom f (at + size)) =
               ap (begunAfter (G .seen)) rows in
-              omega (arith, G .runs-are, z, u, begins);
-          marks-are = rw are (marked-again hashOf marks (G .seen) row low (G .marks-are));
+              omega (arith, G .runs-are, y, u, begins);
+          kept-are =
+              stands-kept f first at before spans places unkept (G .seen) (G .kept-are) row (G .place) (G .near) (G .sizes-are) (row-alike f spans (T .items) (T .lies)) s o after R
+              rows row-some z;
           near = T .lies;
           third = omega (arith, G .third);
         }
 
 -- ---- the walk: 53 and 54 are looked for behind the heading line, as long as every line converts and no row differs
-pub record Repeating (f marks before : List ℕ) (at lines unconverted first differs returns count : ℕ) : Type 0 where
-  pub many : length marks ≡ 65536
+pub record Repeating (f places before : List ℕ) (at lines unconverted first unkept differs returns count : ℕ) : Type 0 where
   pub lies : Inside f before
   pub place : at ≤ length f
   pub few : count ≤ at
-  pub top : lines < 2 → (first ≡ at) × (differs ≡ 0) × (returns ≡ 0) × (count ≡ 0)
-  pub going : 2 ≤ lines → unconverted ≡ 0 → differs ≡ 0 → Going f first marks before at (lines + 1) returns count
+  pub lines-few : lines ≤ at
+  pub top : lines < 2 → (first ≡ at) × (unkept ≡ 0) × (differs ≡ 0) × (returns ≡ 0) × (count ≡ 0)
+  pub none : lines < 2 → (length places ≡ 65536) × Nothing places
+  pub going : 2 ≤ lines → unconverted ≡ 0 → differs ≡ 0 → Going f first places before at unkept (lines + 1) returns count
   pub met : 2 ≤ lines → unconverted ≡ 0 → (differs ≡ 0 → ⊥) → firstAfter clashes 3 [] (linesFrom f first) ≡ differs
 
 nothing-there : (f : List ℕ) (n : ℕ) → n < 45 → getD (replicate 90 0) (2 * n) 0 + getD (replicate 90 0) (2 * n + 1) 0 ≤ length f
@@ -222,13 +176,14 @@ nothing-there f n h = omega (arith, getD-replicate {A = ℕ} 90 (2 * n) 0 0 (ome
 nowhere : (f before : List ℕ) → before ≡ replicate 90 0 → Inside f before
 nowhere f before e = rw e (record { size = refl; inside = nothing-there f })
 
-pub rep-starts : (f marks before : List ℕ) → length marks ≡ 65536 → before ≡ replicate 90 0 → Repeating f marks before 0 0 0 0 0 0 0
-rep-starts f marks before m e = record {
-  many = m;
+pub rep-starts : (f places before : List ℕ) → length places ≡ 65536 → Nothing places → before ≡ replicate 90 0 → Repeating f places before 0 0 0 0 0 0 0 0
+rep-starts f places before m n e = record {
   lies = nowhere f before e;
   place = omega arith;
   few = omega arith;
-  top = λ h. (refl, refl, refl, refl);
+  lines-few = omega arith;
+  top = λ h. (refl, refl, refl, refl, refl);
+  none = λ h. (m, n);
   going = λ h. absurd (omega arith);
   met = λ h. absurd (omega arith);
 }
@@ -242,7 +197,7 @@ few-begun New = omega arith
 few-begun Back = omega arith
 few-begun Differs = omega arith
 
-module _ (f marks before : List ℕ) (at lines unconverted first differs returns count : ℕ) (P : Repeating f marks before at lines unconverted first differs returns count) where
+module _ (f places before : List ℕ) (at lines unconverted first unkept differs returns count : ℕ) (P : Repeating f places before at lines unconverted first unkept differs returns count) where
   over-none : 2 ≤ lines → unconverted ≡ 0 → length f ≤ at → differs ≡ 0 → RepeatsIs f first differs returns count
   unfolding firstAfter begunAfter
   over-none l u h d =
@@ -262,7 +217,7 @@ module _ (f marks before : List ℕ) (at lines unconverted first differs returns
   }
 
   module _ (spans : List ℕ) (size n : ℕ) (good bad : Bool) (T : RowIs f at false spans size n good bad) (b : bad ≡ false)
-      (x u : ℕ) (w : x ≡ cond (ltb (lines + 1) 3) size 0) (o : u ≡ firstFound unconverted (lines + 1) good) where
+      (x u : ℕ) (w : x ≡ cond (ltb (lines + 1) 3) size 0) (i : u ≡ firstFound unconverted (lines + 1) good) where
     abbrev asked : Bool
     asked = leb 3 (lines + 1) && eqb u 0 && eqb differs 0
 
@@ -271,8 +226,8 @@ module _ (f marks before : List ℕ) (at lines unconverted first differs returns
     unfolding firstFound
     so-far z =
         cases (eqb unconverted 0)
-        (λ e. cases good (λ k. (eqb-true unconverted 0 e, k)) (λ k. absurd (let y : u ≡ lines + 1 = o ∙ rw (e, k) in omega arith)))
-        (λ e. absurd (eqb-false unconverted 0 e (let y : u ≡ unconverted = o ∙ rw e in sym y ∙ z)))
+        (λ e. cases good (λ k. (eqb-true unconverted 0 e, k)) (λ k. absurd (let y : u ≡ lines + 1 = i ∙ rw (e, k) in omega arith)))
+        (λ e. absurd (eqb-false unconverted 0 e (let y : u ≡ unconverted = i ∙ rw e in sym y ∙ z)))
 
     stays : 2 ≤ lines → first + x ≡ first
     stays l = let y : x ≡ 0 = w ∙ rw (le-ltb (lines + 1) 3 (omega arith)) in omega arith
@@ -284,15 +239,17 @@ module _ (f marks before : List ℕ) (at lines unconverted first differs returns
         let l = leb-true 3 (lines + 1) (q .0) in
         (omega arith, eqb-true u 0 (q .1), eqb-true differs 0 (p .1))
 
-    pub rep-ask : at < length f → Askable f (first + x) at before spans count asked
+    asked-going : asked ≡ true → Going f first places before at unkept (lines + 1) returns count
+    asked-going h = let a = asked-of h in P .going (a .0) (so-far (a .1) .0) (a .2)
+
+    pub rep-ask : at < length f → Askable f at before spans places unkept count asked
     rep-ask h = record {
       few = P .few;
       place = h;
       lies = P .lies;
       row = T .lies .inside;
-      seen = λ h.
-          let a = asked-of h in
-          rw (stays (a .0)) (going-upto f first marks before at (lines + 1) returns count (P .going (a .0) (so-far (a .1) .0) (a .2)));
+      table = λ h. let G = asked-going h in kept-places f (G .seen) at places unkept (G .kept-are);
+      through = λ h. let G = asked-going h in kept-upto f (G .seen) at places unkept (G .kept-are);
     }
 
     head-unasked : lines < 2 → asked ≡ false
@@ -304,48 +261,51 @@ module _ (f marks before : List ℕ) (at lines unconverted first differs returns
     rows-asked : 2 ≤ lines → u ≡ 0 → eqb differs 0 ≡ true → asked ≡ true
     rows-asked l y z = rw (le-leb 3 (lines + 1) (omega arith), y, z)
 
-    module _ (d p c : ℕ) (after : List ℕ) (R : WithRowIf f (first + x) at before spans marks (lines + 1) differs returns count asked d p c after) where
+    module _ (o d p c : ℕ) (after : List ℕ) (R : WithRowIf f (first + x) at before spans places unkept (lines + 1) differs returns count asked o d p c after) where
       -- the version line and the heading line
       module _ (l : lines < 2) where
-        head-on : (first + x ≡ at + size) × (d ≡ 0) × (p ≡ 0) × (c ≡ 0)
+        head-on : (first + x ≡ at + size) × (o ≡ 0) × (d ≡ 0) × (p ≡ 0) × (c ≡ 0)
         head-on =
             let q = R .kept (head-unasked l) in
             let z = P .top l in
             let y : x ≡ size = w ∙ rw (lt-ltb (lines + 1) 3 (omega arith)) in
-            (omega (arith, z .0), q .0 ∙ z .1, q .1 ∙ z .2, q .2 ∙ z .3)
+            (omega (arith, z .0), q .3 ∙ z .1, q .0 ∙ z .2, q .1 ∙ z .3, q .2 ∙ z .4)
 
-        head-going : 2 ≤ lines + 1 → Going f (first + x) after spans (at + size) ((lines + 1) + 1) p c
+        head-none : (length after ≡ 65536) × Nothing after
+        head-none = rw (R .kept (head-unasked l) .4) (P .none l)
+
+        head-going : 2 ≤ lines + 1 → Going f (first + x) after spans (at + size) o ((lines + 1) + 1) p c
         head-going h =
             let z : (lines + 1) + 1 ≡ 3 = omega arith in
             let q = head-on in
-            rw (q .0, q .2, q .3, z) (going-starts f (at + size) after spans)
+            rw (q .0, q .1, q .3, q .4, z) (going-starts f (at + size) after spans (head-none .0) (head-none .1))
 
       -- a row
       module _ (l : 2 ≤ lines) (y : u ≡ 0) where
         module _ (z : eqb differs 0 ≡ true) where
-          with : WithRow f first at before spans marks (lines + 1) returns count d p c after
+          with : WithRow f first at before spans places unkept (lines + 1) returns count o d p c after
           with = rw (stays l) at (R .with (rows-asked l y z))
 
-          going : Going f first marks before at (lines + 1) returns count
+          going : Going f first places before at unkept (lines + 1) returns count
           going = P .going l (so-far y .0) (eqb-true differs 0 z)
 
-          with-on : d ≡ 0 → Going f first after spans (at + size) ((lines + 1) + 1) p c
+          with-on : d ≡ 0 → Going f first after spans (at + size) o ((lines + 1) + 1) p c
           with-on h =
-              let n-d : isDiffers (with .standing) ≡ false =
-              cases (isDiffers (with .standing)) (λ q. let o : d ≡ lines + 1 = with .differs ∙ rw q in absurd (omega arith)) (λ q. q) in
+              let alike : isDiffers (with .standing) ≡ false =
+              cases (isDiffers (with .standing)) (λ q. let k : d ≡ lines + 1 = with .differs ∙ rw q in absurd (omega arith)) (λ q. q) in
               rw (with .runs)
-              (row-on f first marks before at (lines + 1) returns count going spans size n good bad T b (so-far y .1) (with .standing) after (with .stands)
-              n-d (P .many) p (begun (with .standing)) (with .back) refl)
+              (row-on f first places before at unkept (lines + 1) returns count going spans size n good bad T b (so-far y .1) (with .standing) o after (with .stands)
+              alike (λ k. absurd (omega (arith, P .lines-few))) p (begun (with .standing)) (with .back) refl)
 
           with-met : (d ≡ 0 → ⊥) → firstAfter clashes 3 [] (linesFrom f first) ≡ d
           with-met h =
               cases (isDiffers (with .standing))
               (λ q.
-              row-differs f first marks before at (lines + 1) returns count going spans size n good bad T b (so-far y .1) (with .standing) after (with .stands) q
+              row-differs f first places before at unkept (lines + 1) returns count going spans size n good bad T b (so-far y .1) (with .standing) o after (with .stands) q
               ∙ sym (with .differs ∙ rw q))
               (λ q. absurd (h (with .differs ∙ rw q)))
 
-        row-going : d ≡ 0 → Going f (first + x) after spans (at + size) ((lines + 1) + 1) p c
+        row-going : d ≡ 0 → Going f (first + x) after spans (at + size) o ((lines + 1) + 1) p c
         row-going h =
             cases (eqb differs 0)
             (λ z. rw (stays l) (with-on z h))
@@ -358,12 +318,6 @@ module _ (f marks before : List ℕ) (at lines unconverted first differs returns
             (λ z. with-met z h)
             (λ z. P .met l (so-far y .0) (eqb-false differs 0 z) ∙ sym (R .kept (differs-unasked z) .0)))
 
-      marks-many : length after ≡ 65536
-      marks-many =
-          cases asked
-          (λ h. ap length (R .with h .stands .marked) ∙ simp length-set (P .many))
-          (λ h. ap length (R .kept h .3) ∙ P .many)
-
       -- a row begins one run at most
       few-more : c ≤ count + 1
       few-more =
@@ -371,13 +325,14 @@ module _ (f marks before : List ℕ) (at lines unconverted first differs returns
           (λ h. let q = R .with h in omega (arith, q .runs, few-begun (q .standing)))
           (λ h. omega (arith, R .kept h .2))
 
-      pub rep-on : Repeating f after spans (at + size) (lines + 1) u (first + x) d p c
-      rep-on = record {
-        many = marks-many;
+      pub rep-on : Repeating f after spans (at + size) (lines + 1) u (first + x) o d p c
+      rep-on = let m : 0 < size + 0 = rw b at (T .moves) in record {
         lies = T .lies .inside;
         place = T .place;
-        few = let m : 0 < size + 0 = rw b at (T .moves) in omega (arith, P .few, few-more);
+        few = omega (arith, P .few, few-more);
+        lines-few = omega (arith, P .lines-few);
         top = λ h. head-on (omega arith);
+        none = λ h. head-none (omega arith);
         going = λ h y z. cases (ltb lines 2) (λ q. head-going (ltb-true lines 2 q) h) (λ q. row-going (ltb-false lines 2 q) y z);
-        met = λ h y z. cases (ltb lines 2) (λ q. absurd (z (head-on (ltb-true lines 2 q) .1))) (λ q. row-met (ltb-false lines 2 q) y z);
+        met = λ h y z. cases (ltb lines 2) (λ q. absurd (z (head-on (ltb-true lines 2 q) .2))) (λ q. row-met (ltb-false lines 2 q) y z);
       }

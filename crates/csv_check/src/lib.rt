@@ -133,13 +133,13 @@ fn with_row_if(
     at: usize,
     before: &[usize; 90],
     spans: &[usize; 90],
-    marks: &mut [u8; 65536],
+    places: &mut [u32; 65536],
 ) -> Repeated
-    requires { ⌜ Askable (now file) first at (now before) (now spans) (met .count) asked ⌝ }
-    ensures { λ r. ⌜ WithRowIf (now (file .entry)) first at (now (before .entry)) (now (spans .entry)) (now (marks .entry)) line (met .differs) (met .returns) (met .count) asked (r .differs) (r .returns) (r .count) (now (marks .exit)) ⌝ }
+    requires { ⌜ Askable (now file) at (now before) (now spans) (now places) (met .unkept) (met .count) asked ⌝ }
+    ensures { λ r. ⌜ WithRowIf (now (file .entry)) first at (now (before .entry)) (now (spans .entry)) (now (places .entry)) (met .unkept) line (met .differs) (met .returns) (met .count) asked (r .unkept) (r .differs) (r .returns) (r .count) (now (places .exit)) ⌝ }
 {
     if asked {
-        return csv_repeats::with_row(met, line, file, first, at, before, spans, marks);
+        return csv_repeats::with_row(met, line, file, first, at, before, spans, places);
     }
     met
 }
@@ -150,7 +150,7 @@ fn walked(file: &[u8], number: usize) -> Looked
     ensures { λ r. ⌜ WalkIs (now (file .entry)) number (r .broken) (r .lines) (r .miscounted) (r .unconverted) (r .first) ⌝ }
     ensures rows { λ r. ⌜ RepeatsAre (now (file .entry)) (r .broken) (r .lines) (r .unconverted) (r .first) (r .repeats .differs) (r .repeats .returns) (r .repeats .count) ⌝ }
 {
-    let mut marks = csv_repeats::no_marks();
+    let mut places = csv_places::empty();
     let mut before = [0usize; 90];
     let mut at = 0;
     let mut lines = 0;
@@ -160,6 +160,7 @@ fn walked(file: &[u8], number: usize) -> Looked
         differs: 0,
         returns: 0,
         count: 0,
+        unkept: 0,
     };
     let mut first = 0;
     while at < file.len() {
@@ -190,7 +191,7 @@ fn walked(file: &[u8], number: usize) -> Looked
             at,
             &before,
             &spans,
-            &mut marks,
+            &mut places,
         );
         repeats = next;
         before = spans;

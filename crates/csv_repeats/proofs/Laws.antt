@@ -1,59 +1,30 @@
--- The laws of the look back, and of the hash. Assumes nothing.
+-- The laws of the look back. Assumes nothing.
 use mathlib.Core.Path.{_≡_, refl, sym, ap, _∙_}
-use mathlib.Core.Bool.{Bool, true, false, cond, not, _&&_}
+use mathlib.Core.Bool.{Bool, true, false, cond, _&&_}
 use mathlib.Core.List.{List, [], _∷_, _++_}
-use Prim.Native.Nat.{ℕ, _+_, _-_, _*_, _%_, _≤_, _<_}
+use Prim.Native.Nat.{ℕ, _+_, _-_, _≤_, _<_}
 use native.Mathlib.Omega.{arith}
-use native.Mathlib.Nat.{mod-lt}
-use borrow.Author.Tests.{eq-eqb, ne-eqb}
+use borrow.Author.Tests.{ne-eqb}
 use lib.Dec.{eqb, ltb}
-use lib.ListN.{length, getD, drop, set}
+use lib.ListN.{length}
 use Rattle.rules.specs.declared.Name.the-variants.{Pid, Pv1}
 use Rattle.rules.specs.Lists.{same}
-use Rattle.rules.proofs.Logic.{cases}
-use Rattle.rules.proofs.Lists.{here, over}
+use Rattle.rules.proofs.Logic.{cases, never}
 use Rattle.csv_rules.specs.Quote.{Items, Line}
-use Rattle.csv_rules.specs.Written.{halved}
 use Rattle.csv_rules.specs.Columns.{numberOf}
-use Rattle.csv_rules.specs.Sheets.{sizes}
-use Rattle.csv_rules.proofs.Behind.{marked}
-use Rattle.csv_rows.specs.Rows.{itemAt, stretch, rowAt, Spans, RowIs}
+use Rattle.csv_rules.specs.Sheets.{sameNumber, sizes}
+use Rattle.csv_rows.specs.Rows.{rowAt, Spans, RowIs}
 use Rattle.csv_rows.proofs.Laws.{row-lines, row-broken}
 use Rattle.csv_rows.proofs.Tied.{tied-raw, tied-number}
 use Rattle.csv_repeats.specs.declared.Standing.{Standing}
 use Rattle.csv_repeats.specs.declared.Standing.the-variants.{Same, New, Back, Differs}
-use Rattle.csv_repeats.specs.Looks.{linesFrom, Upto, stirred, hashFrom, hashOf, between, sameHeader, foundIn, standOf, Stands, WithRow, isDiffers, isBack, begun}
+use Rattle.csv_places.specs.declared.Slot.{Slot}
+use Rattle.csv_places.specs.declared.Slot.the-variants.{Held, Free, Crowded}
+use Rattle.csv_places.specs.Places.{linesFrom, itemsAt, RowThere, Places, SlotIs, keeps, withPlace}
+use Rattle.csv_places.proofs.Laws.{items-there, row-inside}
+use Rattle.csv_repeats.specs.Looks.{Upto, between, sameHeader, foundIn, fromOf, lookedFor, HeldThere, Looked, Stands, WithRow, isDiffers, isBack, begun}
 use Rattle.csv_repeats.proofs.Seen.{between-none}
 use Rattle.csv_repeats.proofs.Standings.{Alike}
-
--- ---- the hash of an item as it lies in the file
-pub hash-starts : (s : List ℕ) → hashOf (halved false s) ≡ hashFrom 0 (halved false (drop 0 s))
-unfolding hashOf
-hash-starts s = refl
-
-hash-one : (h b : ℕ) (second : Bool) (s : List ℕ)
-    → hashFrom h (halved second (b ∷ s)) ≡ hashFrom (cond second h (stirred h b)) (halved (not second && eqb b 0x22) s)
-unfolding hashFrom halved
-hash-one h b true s = refl
-hash-one h b false s = refl
-
-module _ (s : List ℕ) (h i : ℕ) (second : Bool) (inv : hashOf (halved false s) ≡ hashFrom h (halved second (drop i s))) where
-  pub hash-on : i < length s → (k : ℕ) → k ≡ cond second h (stirred h (getD s i 0))
-      → hashOf (halved false s) ≡ hashFrom k (halved (not second && eqb (getD s i 0) 0x22) (drop (i + 1) s))
-  hash-on l k e =
-      inv ∙ ap (λ (x : List ℕ). hashFrom h (halved second x)) (here 0 s i l) ∙ hash-one h (getD s i 0) second (drop (i + 1) s)
-      ∙ ap (λ (x : ℕ). hashFrom x (halved (not second && eqb (getD s i 0) 0x22) (drop (i + 1) s))) (sym e)
-
-  pub hash-ends : length s ≤ i → h ≡ hashOf (halved false s)
-  unfolding hashFrom halved
-  hash-ends l = sym (inv ∙ ap (λ (x : List ℕ). hashFrom h (halved second x)) (over s i l) ∙ cases second (λ e. rw e) (λ e. rw e))
-
-pub byte-first : (h b w : ℕ) (second : Bool) → second ≡ false → w ≡ b → ((10 * h + w) + 65488) % 65536 ≡ cond second h (stirred h b)
-unfolding stirred
-byte-first h b w second e q = rw (e, q)
-
-pub byte-small : (n : ℕ) → n % 65536 < 65536
-byte-small n = mod-lt n (omega arith)
 
 -- ---- the first line that is named
 pub back-first : (returns at : ℕ) (s : Standing) (t : Bool) → t ≡ isBack s → (eqb returns 0 && t) ≡ true → at ≡ cond (eqb returns 0 && isBack s) at returns
@@ -138,32 +109,79 @@ module _ (f : List ℕ) (first at k : ℕ) (r : Items) (inv : Sought f first at 
       pub sought-on : t ≡ false → Sought f first at r (k + size)
       sought-on w = sought-one ∙ rw (← e, w)
 
+-- ---- a row that is kept of a number
+module _ (f : List ℕ) (p : ℕ) (T : RowThere f p) where
+  pub there-inside : p < length f
+  there-inside = row-inside f p T
+
+  pub there-found : (q : List ℕ) (size n : ℕ) (good bad : Bool) → RowIs f p true q size n good bad → (r : Items) (g : Bool) → g ≡ sameHeader r (rowAt f q)
+      → (s : Standing) → s ≡ cond g Back Differs → s ≡ cond (sameHeader r (itemsAt f p)) Back Differs
+  there-found q size n good bad R r g e s k =
+      let b : bad ≡ false = cases bad (λ z. absurd (omega (arith, ap length (sym (row-broken f p true q size n good bad R z .0) ∙ T .is)))) (λ z. z) in
+      let w : record { items = R .items; size = size } ∷ linesFrom f (p + size) ≡ T .row ∷ T .others = sym (row-lines f p true q size n good bad R b) ∙ T .is in
+      let o : record { items = R .items; size = size } ≡ T .row = cc in
+      let i : R .items ≡ itemsAt f p = ap (λ (l : Line). l .items) o ∙ sym (items-there f p T) in
+      let a = row-alike f q (R .items) (R .lies) in
+      k ∙ rw (e, a .pid, a .pv1, i)
+
+pub held-there : (f places : List ℕ) (r : Items) (s : Slot) → Places f places → SlotIs f places r s → HeldThere f s
+unfolding SlotIs HeldThere
+held-there f places r (Held p) P H = rw (H .is) at (P .rows (H .slot) (λ z. H .some (sym (H .is) ∙ z)))
+held-there f places r (Free i) P H = tt
+held-there f places r Crowded P H = tt
+
+-- ---- where the rows begin that are gone through
+pub from-none : (unkept at : ℕ) → unkept ≡ 0 → at ≡ fromOf unkept at
+unfolding fromOf
+from-none unkept at h = rw h
+
+pub from-there : (unkept at : ℕ) → (unkept ≡ 0 → ⊥) → unkept ≡ fromOf unkept at
+unfolding fromOf
+from-there unkept at h = rw (ne-eqb unkept 0 h)
+
 -- ---- a standing found
-pub stands-same : (some marked g t : Bool) (b r : Items) (done : List Line) (s : Standing) → t ≡ same (numberOf b) (numberOf r) → (some && t) ≡ true
-    → g ≡ sameHeader r b → s ≡ cond g Same Differs → s ≡ standOf some marked b r done
-unfolding standOf
-stands-same some marked g t b r done s e w o p = p ∙ rw (← e, w, ← o)
+module _ (f : List ℕ) (from at : ℕ) (r : Items) (slot : Slot) (s : Standing) where
+  pub held-for : (p : ℕ) → slot ≡ Held p → s ≡ cond (sameHeader r (itemsAt f p)) Back Differs → s ≡ lookedFor f from at r slot
+  unfolding lookedFor
+  held-for p h e = e ∙ rw h
 
-pub stands-sought : (some t : Bool) (mark : ℕ) (b r : Items) (done : List Line) (s : Standing) → t ≡ same (numberOf b) (numberOf r) → (some && t) ≡ false
-    → mark ≡ 1 → s ≡ foundIn r done → s ≡ standOf some (eqb mark 1) b r done
-unfolding standOf
-stands-sought some t mark b r done s e w m p = p ∙ rw (← e, w, eq-eqb mark 1 m)
+  pub free-for : (i : ℕ) → slot ≡ Free i → s ≡ foundIn r (between (at - from) (linesFrom f from)) → s ≡ lookedFor f from at r slot
+  unfolding lookedFor
+  free-for i h e = e ∙ rw h
 
-pub stands-new : (some t : Bool) (mark : ℕ) (b r : Items) (done : List Line) → t ≡ same (numberOf b) (numberOf r) → (some && t) ≡ false
-    → (mark ≡ 1 → ⊥) → New ≡ standOf some (eqb mark 1) b r done
-unfolding standOf
-stands-new some t mark b r done e w m = rw (← e, w, ne-eqb mark 1 m)
+  pub crowded-for : slot ≡ Crowded → s ≡ foundIn r (between (at - from) (linesFrom f from)) → s ≡ lookedFor f from at r slot
+  unfolding lookedFor
+  crowded-for h e = e ∙ rw h
 
-pub stands-are : (f : List ℕ) (first at : ℕ) (before spans marks raw : List ℕ) (h : ℕ) (s : Standing) → raw ≡ stretch f spans 6 → h ≡ hashOf (halved false raw)
-    → h < 65536 → s ≡ standOf (ltb first at) (eqb (getD marks h 0) 1) (rowAt f before) (rowAt f spans) (between (at - first) (linesFrom f first))
-    → Stands f first at before spans marks s (set marks h 1)
-unfolding itemAt
-stands-are f first at before spans marks raw h s e k l o =
-    let q : h ≡ hashOf (halved false (stretch f spans 6)) = k ∙ ap (λ (x : List ℕ). hashOf (halved false x)) e in
-    record { is = rw q at o; marked = ap (λ (x : ℕ). set marks x 1) q; place = rw q at l }
+pub held-at : (f : List ℕ) (slot : Slot) (p : ℕ) → HeldThere f slot → slot ≡ Held p → RowThere f p
+unfolding HeldThere
+held-at f slot p h e = rw e at h
+
+pub upto-from : (f : List ℕ) (unkept at from : ℕ) → Upto f (fromOf unkept at) at → from ≡ fromOf unkept at → Upto f from at
+upto-from f unkept at from U e = rw e U
+
+pub looked-is : (f : List ℕ) (at : ℕ) (r : Items) (places : List ℕ) (unkept : ℕ) (slot : Slot) → SlotIs f places r slot → (from : ℕ) → from ≡ fromOf unkept at
+    → (s : Standing) → s ≡ lookedFor f from at r slot → (after : List ℕ) → after ≡ withPlace places slot at → (k : Bool) → k ≡ keeps slot at
+    → (o : ℕ) → o ≡ cond k unkept from → Looked f at r places unkept s o after
+looked-is f at r places unkept slot S from q s e after t k h o u =
+    record { slot = slot; slot-is = S; is = e ∙ ap (λ (n : ℕ). lookedFor f n at r slot) q; table = t; opened = u ∙ rw (q, h) }
+
+module _ (f : List ℕ) (first at : ℕ) (before spans places : List ℕ) (unkept : ℕ) (t : Bool) (e : t ≡ sameNumber (rowAt f before) (rowAt f spans)) where
+  pub stands-same : (ltb first at && t) ≡ true → (g : Bool) → g ≡ sameHeader (rowAt f spans) (rowAt f before) → (s : Standing) → s ≡ cond g Same Differs
+      → Stands f first at before spans places unkept s unkept places
+  stands-same w g o s p = record {
+    same = λ h. (p ∙ rw o, refl, refl);
+    other = λ h. never (sym (rw e at w) ∙ h);
+  }
+
+  pub stands-other : (ltb first at && t) ≡ false → (s : Standing) (o : ℕ) (after : List ℕ) → Looked f at (rowAt f spans) places unkept s o after
+      → Stands f first at before spans places unkept s o after
+  stands-other w s o after L = record { same = λ h. never (sym h ∙ rw e at w); other = λ h. L }
 
 -- ---- 53 and 54 with a row more
-pub with-is : (f : List ℕ) (first at : ℕ) (before spans marks : List ℕ) (line returns count : ℕ) (s : Standing) (after : List ℕ) → Stands f first at before spans marks s after
+pub with-is : (f : List ℕ) (first at : ℕ) (before spans places : List ℕ) (unkept line returns count : ℕ) (s : Standing) (o : ℕ) (after : List ℕ)
+    → Stands f first at before spans places unkept s o after
     → (d r n : ℕ) → d ≡ cond (isDiffers s) line 0 → r ≡ cond (eqb returns 0 && isBack s) line returns → n ≡ begun s
-    → WithRow f first at before spans marks line returns count d r (count + n) after
-with-is f first at before spans marks line returns count s after S d r n e o u = record { standing = s; stands = S; differs = e; back = o; runs = ap (λ (k : ℕ). count + k) u }
+    → WithRow f first at before spans places unkept line returns count o d r (count + n) after
+with-is f first at before spans places unkept line returns count s o after S d r n e b u =
+    record { standing = s; stands = S; differs = e; back = b; runs = ap (λ (k : ℕ). count + k) u }

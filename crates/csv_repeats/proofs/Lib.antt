@@ -1,3 +1,4 @@
 pub mod Seen
 pub mod Standings
 pub mod Laws
+pub mod Kept

@@ -1,35 +1,22 @@
--- How a row stands to the rows before it, as the code finds it: by the raw keys, and by a mark for each number that was met.
+-- How a row stands to the rows before it, as the code finds it: by the raw keys, and by the places that are kept of the numbers that were met.
 use mathlib.Core.Path.{_≡_}
 use mathlib.Core.Bool.{Bool, true, false, cond, _&&_}
 use mathlib.Core.List.{List, [], _∷_, _++_}
-use Prim.Native.Nat.{ℕ, _+_, _*_, _-_, _%_, _<_}
+use Prim.Native.Nat.{ℕ, _+_, _-_}
 use lib.Dec.{eqb, ltb}
-use lib.ListN.{getD, set, drop}
 use Rattle.rules.specs.declared.Name.the-variants.{Pid, Pv1}
-use Rattle.csv_rules.specs.Quote.{Items, cut, Line, linesIn}
+use Rattle.csv_rules.specs.Quote.{Items, Line}
 use Rattle.csv_rules.specs.Sheets.{sameNumber, sizes}
 use Rattle.csv_rules.specs.Raw.{rawAgree}
-use Rattle.csv_rows.specs.Rows.{itemAt, rowAt}
+use Rattle.csv_rows.specs.Rows.{rowAt}
+use Rattle.csv_places.specs.declared.Slot.{Slot}
+use Rattle.csv_places.specs.declared.Slot.the-variants.{Held, Free, Crowded}
+use Rattle.csv_places.specs.Places.{linesFrom, itemsAt, RowThere, SlotIs, keeps, withPlace}
 use Rattle.csv_repeats.specs.declared.Standing.{Standing}
 use Rattle.csv_repeats.specs.declared.Standing.the-variants.{Same, New, Back, Differs}
 
--- ---- the hash of a number: its own value below 65,536, where it is of digits
-unfoldable pub stirred : ℕ → ℕ → ℕ
-stirred h b = (10 * h + b + 65488) % 65536
-
-unfoldable pub hashFrom : ℕ → List ℕ → ℕ
-hashFrom h [] = h
-hashFrom h (b ∷ s) = hashFrom (stirred h b) s
-
-unfoldable pub hashOf : List ℕ → ℕ
-hashOf s = hashFrom 0 s
-
 -- ---- the rows before
--- the lines from a place on
-abbrev pub linesFrom : List ℕ → ℕ → List Line
-linesFrom f at = linesIn (cut (drop at f))
-
--- from k on they go up to at, each well quoted, and then on from there
+-- from k on the lines go up to at, each well quoted, and then on from there
 pub record Upto (f : List ℕ) (k at : ℕ) : Type 0 where
   pub rows : List Line
   pub lines : linesFrom f k ≡ rows ++ linesFrom f at
@@ -49,23 +36,36 @@ unfoldable pub foundIn : Items → List Line → Standing
 foundIn r [] = New
 foundIn r (q ∷ qs) = cond (sameNumber r (q .items)) (cond (sameHeader r (q .items)) Back Differs) (foundIn r qs)
 
--- a row, the row before it where there is one, whether its number is marked, and the rows before
-unfoldable pub standOf : Bool → Bool → Items → Items → List Line → Standing
-standOf some marked b r done =
-    cond (some && sameNumber b r) (cond (sameHeader r b) Same Differs) (cond marked (foundIn r done) New)
+-- ---- the numbers that aren't kept: unkept is the place of the first row with one, 0 where every number is kept; the rows from there on are gone
+-- through
+unfoldable pub fromOf : ℕ → ℕ → ℕ
+fromOf unkept at = cond (eqb unkept 0) at unkept
 
--- what is found of the row at a place, and its number's mark set
-pub record Stands (f : List ℕ) (first at : ℕ) (before spans marks : List ℕ) (r : Standing) (after : List ℕ) : Type 0 where
-  pub is :
-      r
-      ≡ standOf
-      (ltb first at)
-      (eqb (getD marks (hashOf (itemAt f spans 6)) 0) 1)
-      (rowAt f before)
-      (rowAt f spans)
-      (between (at - first) (linesFrom f first))
-  pub marked : after ≡ set marks (hashOf (itemAt f spans 6)) 1
-  pub place : hashOf (itemAt f spans 6) < 65536
+-- a row whose number isn't that of the row before, by what is kept of it
+unfoldable pub lookedFor : List ℕ → ℕ → ℕ → Items → Slot → Standing
+lookedFor f from at r (Held p) = cond (sameHeader r (itemsAt f p)) Back Differs
+lookedFor f from at r (Free i) = foundIn r (between (at - from) (linesFrom f from))
+lookedFor f from at r Crowded = foundIn r (between (at - from) (linesFrom f from))
+
+-- a row begins at a place that is held
+unfoldable pub HeldThere : List ℕ → Slot → Type 0
+HeldThere f (Held p) = RowThere f p
+HeldThere f (Free i) = Unit {0}
+HeldThere f Crowded = Unit {0}
+
+-- its place is kept, where it can be
+pub record Looked (f : List ℕ) (at : ℕ) (r : Items) (places : List ℕ) (unkept : ℕ) (s : Standing) (o : ℕ) (after : List ℕ) : Type 0 where
+  pub slot : Slot
+  pub slot-is : SlotIs f places r slot
+  pub is : s ≡ lookedFor f (fromOf unkept at) at r slot
+  pub table : after ≡ withPlace places slot at
+  pub opened : o ≡ cond (keeps slot at) unkept (fromOf unkept at)
+
+-- the row at a place
+pub record Stands (f : List ℕ) (first at : ℕ) (before spans places : List ℕ) (unkept : ℕ) (s : Standing) (o : ℕ) (after : List ℕ) : Type 0 where
+  pub same : (ltb first at && sameNumber (rowAt f before) (rowAt f spans)) ≡ true
+      → (s ≡ cond (sameHeader (rowAt f spans) (rowAt f before)) Same Differs) × (o ≡ unkept) × (after ≡ places)
+  pub other : (ltb first at && sameNumber (rowAt f before) (rowAt f spans)) ≡ false → Looked f at (rowAt f spans) places unkept s o after
 
 -- ---- what a standing says
 abbrev pub isDiffers : Standing → Bool
@@ -88,9 +88,9 @@ begun Back = 1
 begun Differs = 0
 
 -- 53 and 54 with the row at a place, which is the line-th line, where none before it differs
-pub record WithRow (f : List ℕ) (first at : ℕ) (before spans marks : List ℕ) (line returns count : ℕ) (d r n : ℕ) (after : List ℕ) : Type 0 where
+pub record WithRow (f : List ℕ) (first at : ℕ) (before spans places : List ℕ) (unkept line returns count : ℕ) (o d r n : ℕ) (after : List ℕ) : Type 0 where
   pub standing : Standing
-  pub stands : Stands f first at before spans marks standing after
+  pub stands : Stands f first at before spans places unkept standing o after
   pub differs : d ≡ cond (isDiffers standing) line 0
   pub back : r ≡ cond (eqb returns 0 && isBack standing) line returns
   pub runs : n ≡ count + begun standing

@@ -2,15 +2,11 @@
 use mathlib.Core.Path.{_≡_, refl, sym, ap, _∙_}
 use mathlib.Core.Bool.{Bool, true, false, not, _&&_, _||_}
 use mathlib.Core.List.{List, [], _∷_, _++_}
-use Prim.Native.Nat.{ℕ, _<_}
-use borrow.Author.Tests.{eqb-true, eqb-false}
-use lib.Dec.{eqb}
-use lib.ListN.{length, getD, set}
-use lib.Seq.{getD-set-same, getD-set-other}
+use Prim.Native.Nat.{ℕ}
 use Rattle.rules.specs.declared.Name.the-variants.{Pid, Pv1}
-use Rattle.rules.specs.Lists.{same, all, any}
+use Rattle.rules.specs.Lists.{same, any}
 use Rattle.rules.proofs.Logic.{cases, both, neither, never, or-true, or-false}
-use Rattle.rules.proofs.Lists.{same-eq, same-self, all-first, all-cons, any-cons, any-first, any-nil}
+use Rattle.rules.proofs.Lists.{same-eq, same-self, any-cons, any-first, any-nil}
 use Rattle.csv_rules.specs.Quote.{Line}
 use Rattle.csv_rules.specs.Columns.{keys, numberOf}
 use Rattle.csv_rules.specs.Sheets.{sameTexts, agree, sameNumber, clash, differ, Run, joinRun, runs, returns}
@@ -253,43 +249,3 @@ returns-behind q rs =
     let b = any (λ (w : Run). sameNumber (q .items) (w .row .items)) us in
     let n : touches (q ∷ []) us ≡ b = touches-more q [] us ∙ ap (λ t. b || t) (no-touch us) ∙ or-false b in
     ap returns (W .are) ∙ e ∙ sym (returns-from rs q (q ∷ []) (W .run) us (before-next q []) (W .are) ∙ ap (λ t. t || returns us) n)
-
--- ---- a mark for each number that was met, by any hash of it: an unmarked number is new
-unfoldable pub marked : (List ℕ → ℕ) → List ℕ → Line → Bool
-marked hash marks x = eqb (getD marks (hash (numberOf (x .items))) 0) 1
-
-abbrev pub Marked : (List ℕ → ℕ) → List ℕ → List Line → Type 0
-Marked hash marks seen = all (marked hash marks) seen ≡ true
-
-pub none-marked : (hash : List ℕ → ℕ) (marks : List ℕ) → Marked hash marks []
-unfolding all
-none-marked hash marks = refl
-
-pub unmarked-is-new : (hash : List ℕ → ℕ) (marks : List ℕ) (seen : List Line) (r : Line) → Marked hash marks seen → marked hash marks r ≡ false → among seen r ≡ false
-unfolding marked
-unmarked-is-new hash marks [] r M h = any-nil (λ (y : Line). sameNumber (r .items) (y .items))
-unmarked-is-new hash marks (x ∷ s) r M h =
-    let q = all-first (marked hash marks) x s M in
-    cases (sameNumber (r .items) (x .items))
-    (λ e. never (sym (q .0) ∙ ap (λ (n : List ℕ). eqb (getD marks (hash n) 0) 1) (sym (same-eq (numberOf (r .items)) (numberOf (x .items)) e)) ∙ h))
-    (λ e. rw (any-cons (λ (y : Line). sameNumber (r .items) (y .items)) x s, e) (unmarked-is-new hash marks s r (q .1) h))
-
-still-marked : (hash : List ℕ → ℕ) (marks : List ℕ) (h : ℕ) (x : Line) → h < length marks → marked hash marks x ≡ true → marked hash (set marks h 1) x ≡ true
-unfolding marked
-still-marked hash marks h x l e =
-    let n = hash (numberOf (x .items)) in
-    cases (eqb n h) (λ q. rw (eqb-true n h q, getD-set-same marks h 1 0 l)) (λ q. rw (getD-set-other marks h n 1 0 (eqb-false n h q)) e)
-
-all-still : (hash : List ℕ → ℕ) (marks : List ℕ) (h : ℕ) (s : List Line) → h < length marks → Marked hash marks s → Marked hash (set marks h 1) s
-unfolding all
-all-still hash marks h [] l M = refl
-all-still hash marks h (x ∷ s) l M =
-    let q = all-first (marked hash marks) x s M in
-    rw (all-cons (marked hash (set marks h 1)) x s, still-marked hash marks h x l (q .0), all-still hash marks h s l (q .1))
-
-pub marked-again : (hash : List ℕ → ℕ) (marks : List ℕ) (seen : List Line) (r : Line) → hash (numberOf (r .items)) < length marks → Marked hash marks seen
-    → Marked hash (set marks (hash (numberOf (r .items))) 1) (r ∷ seen)
-unfolding marked
-marked-again hash marks seen r l M =
-    let h = hash (numberOf (r .items)) in
-    rw (all-cons (marked hash (set marks h 1)) r seen, all-still hash marks h seen l M, getD-set-same marks h 1 0 l)

@@ -8,11 +8,11 @@ use Rattle.csv_check.proofs.walked.Statement.{statement}
 use Rattle.csv_check.proofs.walked.Tie as tie
 
 abbrev Inv-loop : tie.InvT-loop
-Inv-loop file number marks₀ before₀ at₀ lines₀ miscounted₀ unconverted₀ repeats₀ first₀ marks before at lines miscounted unconverted repeats first =
-    Walking file number at lines miscounted unconverted first × Repeating file marks before at lines unconverted first (repeats .differs) (repeats .returns) (repeats .count)
+Inv-loop file number places₀ before₀ at₀ lines₀ miscounted₀ unconverted₀ repeats₀ first₀ places before at lines miscounted unconverted repeats first =
+    Walking file number at lines miscounted unconverted first × Repeating file places before at lines unconverted first (repeats .unkept) (repeats .differs) (repeats .returns) (repeats .count)
 
 abbrev μ-loop : tie.MeasureT-loop
-μ-loop file number marks₀ before₀ at₀ lines₀ miscounted₀ unconverted₀ repeats₀ first₀ marks before at lines miscounted unconverted repeats first = length file - at
+μ-loop file number places₀ before₀ at₀ lines₀ miscounted₀ unconverted₀ repeats₀ first₀ places before at lines miscounted unconverted repeats first = length file - at
 
 loop-holds : tie.Need-loop-holds Inv-loop μ-loop
 loop-holds c = (search (walk-starts, needs), search (rep-starts, needs))
@@ -37,8 +37,13 @@ loop-less c = search (walk-less, needs)
 
 loop-again : tie.Need-loop-again Inv-loop μ-loop
 loop-again c =
-    let begun = c .before .before .before .before .before .before .before .before .before .before .before .before .before in
-    (search (walk-on, begun .loop-test, begun .before .loop .inv .0, begun .before .before .before .shared-slice-known, needs), search (rep-on, needs))
+    let found = c .before .before .before .before .before in
+    let begun = found .before .before .before .before .before .before in (
+      walk-on _ _ _ _ _ _ _ (begun .before .before .before .loop .inv .0) _ _ _ _ _ (begun .before .row .ensures) (begun .if1 .left) _ _ _
+          (found .before .before .first-found .ensures) (found .before .first-found2 .ensures) (found .before-rows .ensures)
+          (search (begun .before .before .loop-test, needs)) (search (begun .before .before .before .before .before, needs)),
+      search (rep-on, needs),
+    )
 
 returns-2 : tie.Need-returns-2 Inv-loop μ-loop
 returns-2 c = (search (walk-over, needs), search (rep-over, needs))

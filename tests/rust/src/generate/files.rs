@@ -221,22 +221,27 @@ fn fragment(random: &mut Random) -> Vec<u8> {
     file
 }
 
-/// Rows of seven columns, with hundreds of numbers that are much alike; one may return.
+/// Rows of seven columns, with hundreds of numbers that are much alike; one may return, or all.
 fn many_numbers(random: &mut Random) -> Vec<u8> {
     let (first, step) = (
         random.below(100_000),
         random.pick(&[1, 9, 10, 256, 1_000, 65_536]),
     );
+    let of_one_weight = random.one_in(3);
     let row = |number: usize| {
         let mut row = vec![Vec::new(); NUMBER];
-        row[NUMBER - 1] = (first + number * step).to_string().into();
+        row[NUMBER - 1] = match of_one_weight {
+            true => number_of_one_weight(number),
+            false => (first + number * step).to_string().into(),
+        };
         row
     };
     let count = random.within(100..=300);
     let mut rows: Vec<Items> = (0..count).map(row).collect();
-    match random.below(3) {
+    match random.below(4) {
         0 => rows.push(row(random.below(count))),
-        1 => {
+        1 => rows.extend(rows.clone()),
+        2 => {
             let mut returning = row(random.below(count));
             returning.resize(COLUMNS, Vec::new());
             returning[8 - 1] = b"another".to_vec();
@@ -253,6 +258,14 @@ fn many_numbers(random: &mut Random) -> Vec<u8> {
         rows,
     };
     draft.to_bytes(random)
+}
+
+/// One of 1,024 texts that a table by a hash may take for the same: each of their pairs of bytes weighs
+/// the same where the first byte counts eleven times.
+fn number_of_one_weight(number: usize) -> Vec<u8> {
+    const PAIRS: [&[u8]; 4] = [b"1B", b"27", b"3,", b"4!"];
+    let pairs = (0..5).map(|place| PAIRS[number >> (2 * place) & 3]);
+    pairs.flatten().copied().collect()
 }
 
 /// Meets the limit of the sheet from both sides, with files that make still longer ones and such as

@@ -5,10 +5,10 @@ use mathlib.Core.Bool.{false}
 use Prim.Native.Nat.{_-_, _≤_, _<_}
 use lib.ListN.{length, drop}
 use Rattle.csv_rules.specs.Written.{halved}
-use Rattle.csv_repeats.specs.Looks.{hashFrom, hashOf}
-use Rattle.csv_repeats.proofs.Laws.{hash-starts, hash-on, hash-ends}
-use Rattle.csv_repeats.proofs.hash.Statement.{statement}
-use Rattle.csv_repeats.proofs.hash.Tie as tie
+use Rattle.csv_places.specs.Places.{hashFrom, hashOf}
+use Rattle.csv_places.proofs.Laws.{hash-starts, hash-on, hash-ends}
+use Rattle.csv_places.proofs.hash.Statement.{statement}
+use Rattle.csv_places.proofs.hash.Tie as tie
 
 abbrev Inv-loop : tie.InvT-loop
 Inv-loop raw h₀ second₀ i₀ h second i = (i ≤ length raw) × (h < 65536) × (hashOf (halved false raw) ≡ hashFrom h (halved second (drop i raw)))

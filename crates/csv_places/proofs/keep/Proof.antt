@@ -1,0 +1,41 @@
+-- `keep` meets its contract. Assumes nothing.
+use borrow.Author.Needs.{needs, scaled-fits}
+use Rattle.csv_places.specs.Places.{keeps, withPlace}
+use Rattle.csv_places.proofs.Laws.{free-inside, kept-low, kept-high, with-low, with-high}
+use Rattle.csv_places.proofs.keep.Statement.{statement}
+use Rattle.csv_places.proofs.keep.Tie as tie
+
+mul-places : tie.Need-mul-places
+mul-places c = scaled-fits _ 65536 4 (search (free-inside, needs)) (search needs)
+
+element-write-places : tie.Need-element-write-places
+element-write-places c = search (free-inside, needs)
+
+returns : tie.Need-returns
+returns c = (search (kept-low, needs), search (with-low, needs))
+
+returns-2 : tie.Need-returns-2
+unfolding keeps withPlace
+returns-2 c = search needs
+
+returns-3 : tie.Need-returns-3
+returns-3 c = (search (kept-high, needs), search (with-high, needs))
+
+returns-4 : tie.Need-returns-4
+unfolding keeps withPlace
+returns-4 c = search needs
+
+pub keep-spec : {M : Type 1} → statement M
+keep-spec =
+    tie.close
+    (tie.spec
+    (λ c. search needs)
+    (λ c. search needs)
+    (λ c. search needs)
+    mul-places
+    element-write-places
+    returns
+    (λ c. search needs)
+    returns-2
+    returns-3
+    returns-4)

@@ -1,0 +1,90 @@
+-- A table of places in a file: where a row with a number begins, by a hash of the number. A number has 64 slots that it may have, the first by its
+-- hash; it is kept in the first of them that is free.
+use mathlib.Core.Path.{_≡_}
+use mathlib.Core.Bool.{Bool, true, false, cond}
+use mathlib.Core.List.{List, [], _∷_}
+use Prim.Native.Nat.{ℕ, zero, suc, _+_, _*_, _%_, _<_}
+use lib.Dec.{eqb, ltb}
+use lib.ListN.{length, drop, getD, set}
+use Rattle.rules.specs.Lists.{same, any}
+use Rattle.csv_rules.specs.Quote.{Items, cut, Line, linesIn}
+use Rattle.csv_rules.specs.Columns.{numberOf}
+use Rattle.csv_places.specs.declared.Slot.{Slot}
+use Rattle.csv_places.specs.declared.Slot.the-variants.{Held, Free, Crowded}
+
+-- the lines from a place on, and the items of the first
+abbrev pub linesFrom : List ℕ → ℕ → List Line
+linesFrom f at = linesIn (cut (drop at f))
+
+unfoldable pub itemsAt : List ℕ → ℕ → Items
+itemsAt f p = elim (linesFrom f p) [ [] ↦ [] | l ∷ ls ↦ l .items ]
+
+-- ---- the hash of a number
+unfoldable pub stirred : ℕ → ℕ → ℕ
+stirred h b = (11 * h + b) % 65536
+
+unfoldable pub hashFrom : ℕ → List ℕ → ℕ
+hashFrom h [] = h
+hashFrom h (b ∷ s) = hashFrom (stirred h b) s
+
+unfoldable pub hashOf : List ℕ → ℕ
+hashOf s = hashFrom 0 s
+
+-- ---- the table: 0 is no place, for the version line stands there
+unfoldable pub slotAfter : ℕ → ℕ
+slotAfter i = cond (eqb i 65535) 0 (i + 1)
+
+-- the places in n slots from one on, up to the first that is free
+unfoldable pub kept : List ℕ → ℕ → ℕ → List ℕ
+kept places i zero = []
+kept places i (suc n) = elim (eqb (getD places i 0) 0) [ true ↦ [] | false ↦ getD places i 0 ∷ kept places (slotAfter i) n ]
+
+-- a row with the number of r begins at p
+abbrev pub numberAt : List ℕ → Items → ℕ → Bool
+numberAt f r p = same (numberOf r) (numberOf (itemsAt f p))
+
+-- the number of r is known
+unfoldable pub known : List ℕ → List ℕ → Items → Bool
+known f places r = any (numberAt f r) (kept places (hashOf (numberOf r)) 64)
+
+-- a row begins at each place that is kept
+pub record RowThere (f : List ℕ) (p : ℕ) : Type 0 where
+  pub row : Line
+  pub others : List Line
+  pub is : linesFrom f p ≡ row ∷ others
+
+pub record Places (f places : List ℕ) : Type 0 where
+  pub many : length places ≡ 65536
+  pub rows : (i : ℕ) → (getD places i 0 ≡ 0 → ⊥) → RowThere f (getD places i 0)
+
+-- ---- what is kept of the number of r
+-- p is a place in the table, and a row with the number begins there
+pub record HeldAt (f places : List ℕ) (r : Items) (p : ℕ) : Type 0 where
+  pub slot : ℕ
+  pub is : getD places slot 0 ≡ p
+  pub some : p ≡ 0 → ⊥
+  pub number : numberAt f r p ≡ true
+  pub knows : known f places r ≡ true
+
+-- i is free, and a place that is put there makes the number known
+pub record FreeAt (f places : List ℕ) (r : Items) (i : ℕ) : Type 0 where
+  pub place : i < 65536
+  pub is : getD places i 0 ≡ 0
+  pub unknown : known f places r ≡ false
+  pub then : (p : ℕ) → (p ≡ 0 → ⊥) → numberAt f r p ≡ true → known f (set places i p) r ≡ true
+
+unfoldable pub SlotIs : List ℕ → List ℕ → Items → Slot → Type 0
+SlotIs f places r (Held p) = HeldAt f places r p
+SlotIs f places r (Free i) = FreeAt f places r i
+SlotIs f places r Crowded = known f places r ≡ false
+
+-- ---- a place kept: whether it is, and the table then. Places are kept below 4,294,967,296.
+unfoldable pub keeps : Slot → ℕ → Bool
+keeps (Held p) at = true
+keeps (Free i) at = ltb at 4294967296
+keeps Crowded at = false
+
+unfoldable pub withPlace : List ℕ → Slot → ℕ → List ℕ
+withPlace places (Held p) at = places
+withPlace places (Free i) at = cond (ltb at 4294967296) (set places i at) places
+withPlace places Crowded at = places

@@ -1,0 +1,132 @@
+// A table of places in the commercial centre's file (Req 01): where a row with a result number begins, by a hash of the number. Each number may have
+// 64 slots, from the one of its hash on, and has the first of them that was free.
+ghost use mathlib.Core.Path.{_≡_};
+ghost use mathlib.Core.Bool.{false, cond};
+ghost use Prim.Native.Nat.{_<_};
+ghost use lib.ListN.{length};
+ghost use Rattle.csv_rules.specs.Written.{halved};
+ghost use Rattle.csv_rows.specs.Rows.{Inside, rowAt};
+ghost use Rattle.csv_places.specs.Places.{stirred, hashOf, slotAfter, numberAt, RowThere, Places, SlotIs, keeps, withPlace};
+ghost use Rattle.csv_places.specs.Slots.{Nothing, freeSlot};
+
+// What is kept of a number.
+pub enum Slot {
+    Held(usize), // a row with it begins at this place
+    Free(usize), // nothing; this slot is free
+    Crowded, // nothing, and the slots that it may have are taken
+}
+
+// The table, empty.
+pub fn empty() -> [u32; 65536]
+    ensures { λ r. ⌜ length r ≡ 65536 ⌝ }
+    ensures none { λ r. ⌜ Nothing r ⌝ }
+{
+    [0u32; 65536]
+}
+
+// A hash with a byte more; the second of two quotes is left out. The factor is odd, so that numbers which differ in their first bytes alone still
+// differ.
+fn with_byte(h: usize, b: u8, second: bool) -> usize
+    requires { ⌜ h < 65536 ⌝ }
+    ensures { λ r. ⌜ r ≡ cond second h (stirred h b) ⌝ }
+    ensures small { λ r. ⌜ r < 65536 ⌝ }
+{
+    if second {
+        return h;
+    }
+    (11 * h + wide(b)) % 65536
+}
+
+fn wide(b: u8) -> usize
+    ensures { λ r. ⌜ r ≡ b ⌝ }
+    ensures byte { λ r. ⌜ r < 256 ⌝ }
+{
+    b as usize
+}
+
+// The hash of an item, from how it lies in the file.
+fn hash(raw: &[u8]) -> usize
+    ensures { λ r. ⌜ r ≡ hashOf (halved false (now (raw .entry))) ⌝ }
+    ensures small { λ r. ⌜ r < 65536 ⌝ }
+{
+    let mut h = 0;
+    let mut second = false;
+    let mut i = 0;
+    while i < raw.len() {
+        let b = raw[i];
+        h = with_byte(h, b, second);
+        second = !second & (b == 0x22);
+        i += 1;
+    }
+    h
+}
+
+// The slot behind one, the first behind the last.
+fn slot_after(slot: usize) -> usize
+    requires { ⌜ slot < 65536 ⌝ }
+    ensures { λ r. ⌜ r ≡ slotAfter slot ⌝ }
+    ensures within { λ r. ⌜ r < 65536 ⌝ }
+{
+    if slot == 65535 {
+        return 0;
+    }
+    slot + 1
+}
+
+// An entry of the table as a place.
+fn place_of(entry: u32) -> usize
+    ensures { λ r. ⌜ r ≡ entry ⌝ }
+{
+    entry as usize
+}
+
+// Whether the row that begins at a place has the number of a row.
+fn number_there(file: &[u8], p: usize, spans: &[usize; 90]) -> bool
+    requires { ⌜ RowThere (now file) p × Inside (now file) (now spans) ⌝ }
+    ensures { λ r. ⌜ r ≡ numberAt (now (file .entry)) (rowAt (now (file .entry)) (now (spans .entry))) p ⌝ }
+{
+    let t = csv_rows::row(file, p, true);
+    let q = t.spans;
+    csv_keys::same_number(file, spans, &q)
+}
+
+// What is kept of the number of a row: looked for from the slot of its hash on.
+pub fn look_up(file: &[u8], places: &[u32; 65536], spans: &[usize; 90]) -> Slot
+    requires { ⌜ Places (now file) (now places) × Inside (now file) (now spans) ⌝ }
+    ensures { λ r. ⌜ SlotIs (now (file .entry)) (now (places .entry)) (rowAt (now (file .entry)) (now (spans .entry))) r ⌝ }
+{
+    let number = csv_rows::item(file, spans, 6);
+    let mut slot = hash(number);
+    let mut left = 64usize;
+    while 0 < left {
+        let p = place_of(places[slot]);
+        if p == 0 {
+            return Slot::Free(slot);
+        }
+        if number_there(file, p, spans) {
+            return Slot::Held(p);
+        }
+        slot = slot_after(slot);
+        left -= 1;
+    }
+    Slot::Crowded
+}
+
+// Keeps a place for a number, where a slot is free; tells whether the number is known then.
+pub fn keep(places: &mut [u32; 65536], slot: Slot, at: usize) -> bool
+    requires { ⌜ freeSlot slot < 65536 ⌝ }
+    ensures { λ r. ⌜ r ≡ keeps slot at ⌝ }
+    ensures kept { λ r. ⌜ now (places .exit) ≡ withPlace (now (places .entry)) slot at ⌝ }
+{
+    match slot {
+        Slot::Held(_) => true,
+        Slot::Free(i) => {
+            if at < 4294967296 {
+                places[i] = at as u32;
+                return true;
+            }
+            false
+        }
+        Slot::Crowded => false,
+    }
+}
