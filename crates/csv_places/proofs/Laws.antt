@@ -45,7 +45,7 @@ module _ (s : List ℕ) (h i : ℕ) (second : Bool) (inv : hashOf (halved false 
   unfolding hashFrom halved
   hash-ends l = sym (inv ∙ ap (λ (x : List ℕ). hashFrom h (halved second x)) (over s i l) ∙ cases second (λ e. rw e) (λ e. rw e))
 
-pub byte-first : (h b w : ℕ) (second : Bool) → second ≡ false → w ≡ b → (11 * h + w) % 65536 ≡ cond second h (stirred h b)
+pub byte-first : (h b w : ℕ) (second : Bool) → second ≡ false → w ≡ b → ((h + w) * 40503) % 65536 ≡ cond second h (stirred h b)
 unfolding stirred
 byte-first h b w second e q = rw (e, q)
 

@@ -21,7 +21,7 @@ itemsAt f p = elim (linesFrom f p) [ [] ↦ [] | l ∷ ls ↦ l .items ]
 
 -- ---- the hash of a number
 unfoldable pub stirred : ℕ → ℕ → ℕ
-stirred h b = (11 * h + b) % 65536
+stirred h b = ((h + b) * 40503) % 65536
 
 unfoldable pub hashFrom : ℕ → List ℕ → ℕ
 hashFrom h [] = h

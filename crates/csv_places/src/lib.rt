@@ -24,8 +24,8 @@ pub fn empty() -> [u32; 65536]
     [0u32; 65536]
 }
 
-// A hash with a byte more; the second of two quotes is left out. The factor is odd, so that numbers which differ in their first bytes alone still
-// differ.
+// A hash with a byte more; the second of two quotes is left out. The factor is 65,536 by the golden ratio, an odd number: numbers in turn lie far
+// apart, and those that differ in their first bytes alone still differ.
 fn with_byte(h: usize, b: u8, second: bool) -> usize
     requires { ⌜ h < 65536 ⌝ }
     ensures { λ r. ⌜ r ≡ cond second h (stirred h b) ⌝ }
@@ -34,7 +34,7 @@ fn with_byte(h: usize, b: u8, second: bool) -> usize
     if second {
         return h;
     }
-    (11 * h + wide(b)) % 65536
+    ((h + wide(b)) * 40503) % 65536
 }
 
 fn wide(b: u8) -> usize

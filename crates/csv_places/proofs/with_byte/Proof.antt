@@ -8,4 +8,4 @@ returns-2 : tie.Need-returns-2
 returns-2 c = (search (byte-first, needs), search (byte-small, needs))
 
 pub with-byte-spec : {M : Type 1} → statement M
-with-byte-spec = tie.close (tie.spec (λ c. search needs) (λ c. search needs) (λ c κs. search needs) (λ c. search needs) returns-2)
+with-byte-spec = tie.close (tie.spec (λ c. search needs) (λ c κs. search needs) (λ c. search needs) (λ c. search needs) returns-2)

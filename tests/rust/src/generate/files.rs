@@ -260,12 +260,12 @@ fn many_numbers(random: &mut Random) -> Vec<u8> {
     draft.to_bytes(random)
 }
 
-/// One of 1,024 texts that a table by a hash may take for the same: each of their pairs of bytes weighs
-/// the same where the first byte counts eleven times.
+/// One of 1,024 texts that a table by a hash may take for the same: its threes of bytes weigh alike
+/// where all before a byte, and the byte, count 40,503 times more with each byte.
 fn number_of_one_weight(number: usize) -> Vec<u8> {
-    const PAIRS: [&[u8]; 4] = [b"1B", b"27", b"3,", b"4!"];
-    let pairs = (0..5).map(|place| PAIRS[number >> (2 * place) & 3]);
-    pairs.flatten().copied().collect()
+    const THREES: [&[u8]; 4] = [b"06b", b"8G3", b"hT8", b"s8A"];
+    let threes = (0..5).map(|place| THREES[number >> (2 * place) & 3]);
+    threes.flatten().copied().collect()
 }
 
 /// Meets the limit of the sheet from both sides, with files that make still longer ones and such as
