@@ -35,10 +35,11 @@ use Rattle.reach.specs.Reach.{Adds}
 use Rattle.reach.proofs.Laws.{front-cut, front-is}
 use Rattle.csv_runs.specs.Runs.{RunIs}
 use Rattle.csv_runs.specs.Sheet.{sheetAt, PutIs}
-use Rattle.csv.specs.declared.Blame.{Blame}
-use Rattle.csv.specs.declared.Verdict.{Verdict}
-use Rattle.csv.specs.declared.Verdict.the-variants.{Wrong}
-use Rattle.csv.specs.Calls.{toldVerdict, Convertible, copiedTold, madeTold}
+use Rattle.csv_check.specs.declared.Blame.{Blame}
+use Rattle.csv_check.specs.declared.Verdict.{Verdict}
+use Rattle.csv_check.specs.declared.Verdict.the-variants.{Wrong}
+use Rattle.csv_check.specs.Verdicts.{toldVerdict}
+use Rattle.csv.specs.Calls.{Convertible, copiedTold, madeTold}
 
 -- ---- an answer that refuses leaves the buffer
 pub told-as : {t u : Told (List ℕ)} {x : List ℕ} {r : Made} {y : List ℕ} → t ≡ u → SheetCall u x r y → SheetCall t x r y

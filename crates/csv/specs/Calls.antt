@@ -1,4 +1,4 @@
--- What is found over a whole file, and what is told of a sheet that was made.
+-- What is told of a sheet that was made.
 use mathlib.Core.Path.{_≡_}
 use mathlib.Core.Bool.{true}
 use mathlib.Core.List.{List, _∷_}
@@ -8,20 +8,7 @@ use lib.ListN.{length}
 use Rattle.rules.specs.Told.{Told, gives, refuse_if_else_, _>>_}
 use Rattle.rules.specs.Lists.{all}
 use Rattle.rules.specs.Sheet.{readSheet}
-use Rattle.csv_rules.specs.declared.CsvSheets.{CsvSheets}
 use Rattle.csv_rules.specs.Sheets.{Run, rowsIn, rowConverts, runsFrom}
-use Rattle.csv_rules.specs.Answers.{toldFault}
-use Rattle.csv.specs.declared.Verdict.{Verdict}
-use Rattle.csv.specs.declared.Verdict.the-variants.{Right, Wrong}
-
--- its sheets, or its fault; and the line of that fault, 0 where there is none
-abbrev pub toldVerdict : Verdict → Told CsvSheets
-toldVerdict (Right c) = gives c
-toldVerdict (Wrong b) = toldFault (b .fault)
-
-abbrev pub lineOf : Verdict → ℕ
-lineOf (Right c) = 0
-lineOf (Wrong b) = b .line
 
 -- a run begins at a place, and each of its rows converts
 pub record Convertible (f : List ℕ) (at : ℕ) : Type 0 where

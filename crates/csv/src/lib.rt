@@ -1,5 +1,6 @@
 // The calls on the commercial centre's file (Req 01): how many sheets it holds, one of them, the one that begins at a place; and where the file is
 // refused. They take any bytes, any ordinal and any place.
+use csv_check::Verdict;
 use csv_rules::Counted;
 use csv_rules::CsvSheets;
 use csv_rules::Fault;
@@ -17,59 +18,14 @@ ghost use Rattle.csv_rules.specs.Sheets.{csvCount, csvSheet, csvNext, placeAfte
 ghost use Rattle.csv_rules.specs.Spot.{csvSpot};
 ghost use Rattle.csv_rules.specs.Claims.{placeOf};
 ghost use Rattle.csv_runs.specs.Sheet.{sheetAt};
-ghost use Rattle.csv.specs.Calls.{toldVerdict, lineOf, Convertible, copiedTold, madeTold};
+ghost use Rattle.csv.specs.Calls.{Convertible, copiedTold, madeTold};
 
 // ---- the whole file
-// A fault of the file, and the line where it is met.
-pub struct Blame {
-    pub fault: Fault,
-    pub line: usize,
-}
-
-pub enum Verdict {
-    Right(CsvSheets),
-    Wrong(Blame),
-}
-
-fn wrong(fault: Fault, line: usize) -> Verdict
-    ensures { λ r. ⌜ r ≡ Verdict.Wrong (record { fault = fault; line = line }) ⌝ }
-{
-    Verdict::Wrong(Blame { fault, line })
-}
-
-// 50 to 54, "in that order, each over the whole file".
-fn verdict_on(file: &[u8]) -> Verdict
-    ensures { λ r. ⌜ toldVerdict r ≡ csvCount (now (file .entry)) ⌝ }
-    ensures line { λ r. ⌜ lineOf r ≡ csvSpot (now (file .entry)) ⌝ }
-{
-    let found = csv_check::look(file);
-    if found.broken {
-        return wrong(Fault::Quoting, found.lines + 1);
-    }
-    if found.miscounted != 0 {
-        return wrong(Fault::Columns, found.miscounted);
-    }
-    if found.unconverted != 0 {
-        return wrong(Fault::Unconverted, found.unconverted);
-    }
-    let repeats = found.repeats;
-    if repeats.differs != 0 {
-        return wrong(Fault::HeaderDiffers, repeats.differs);
-    }
-    if repeats.returns != 0 {
-        return wrong(Fault::Returns, repeats.returns);
-    }
-    Verdict::Right(CsvSheets {
-        count: repeats.count,
-        first: found.first,
-    })
-}
-
 // How many sheets a file holds, and where its first row stands; or 50 to 54.
 pub fn csv_count(file: &[u8]) -> Counted
     ensures { λ r. ⌜ toldCount r ≡ csvCount (now (file .entry)) ⌝ }
 {
-    match verdict_on(file) {
+    match csv_check::verdict_on(file) {
         Verdict::Right(sheets) => Counted::Sheets(sheets),
         Verdict::Wrong(blame) => {
             let fault = blame.fault;
@@ -82,7 +38,7 @@ pub fn csv_count(file: &[u8]) -> Counted
 pub fn csv_spot(file: &[u8]) -> usize
     ensures { λ r. ⌜ r ≡ csvSpot (now (file .entry)) ⌝ }
 {
-    match verdict_on(file) {
+    match csv_check::verdict_on(file) {
         Verdict::Right(_) => 0,
         Verdict::Wrong(blame) => blame.line,
     }
@@ -254,7 +210,7 @@ pub fn csv_sheet(
 ) -> Made
     ensures { λ r. ⌜ SheetCall (csvSheet (now (file .entry)) which (record { mode = now (mode .entry); sent = now (sent .entry); control = now (control .entry) }) (length (now (out .entry)))) (now (out .entry)) r (now (out .exit)) ⌝ }
 {
-    match verdict_on(file) {
+    match csv_check::verdict_on(file) {
         Verdict::Wrong(blame) => {
             let fault = blame.fault;
             Made::Faulty(fault)

@@ -2,3 +2,4 @@ pub mod Count
 pub mod Lines
 pub mod Tells
 pub mod Repeating
+pub mod Whole

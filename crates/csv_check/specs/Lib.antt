@@ -1,3 +1,4 @@
 pub mod Looked
 pub mod Repeats
+pub mod Verdicts
 pub mod Walk

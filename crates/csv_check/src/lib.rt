@@ -1,24 +1,29 @@
 // 50 to 54 over the commercial centre's file (Req 01), in one walk over its lines, once the column count is read.
 use csv_repeats::Repeated;
+use csv_rules::CsvSheets;
+use csv_rules::Fault;
 ghost use mathlib.Core.Path.{_≡_};
 ghost use mathlib.Core.Bool.{true, false, cond};
 ghost use lib.Dec.{ltb};
 ghost use Rattle.rules.specs.Frame.{digit};
 ghost use Rattle.csv_rules.specs.Quote.{cut, linesIn};
+ghost use Rattle.csv_rules.specs.Sheets.{csvCount};
+ghost use Rattle.csv_rules.specs.Spot.{csvSpot};
 ghost use Rattle.csv_rules.specs.Written.{halved};
 ghost use Rattle.csv_check.specs.Walk.{goesOn, firstFound, countSpot, ColumnsAre, columnItem, WalkIs};
 ghost use Rattle.csv_check.specs.Repeats.{Askable, WithRowIf, RepeatsAre};
 ghost use Rattle.csv_check.specs.Looked.{LookedIs};
+ghost use Rattle.csv_check.specs.Verdicts.{toldVerdict, lineOf};
 
 // Whether the quoting is broken; the lines before the end, or before the one that breaks it; where 51 and 52 are met, by line, 0 where they aren't;
 // 53 and 54, where none of these is met; where the first row begins.
-pub struct Looked {
-    pub broken: bool,
-    pub lines: usize,
-    pub miscounted: usize,
-    pub unconverted: usize,
-    pub repeats: Repeated,
-    pub first: usize,
+struct Looked {
+    broken: bool,
+    lines: usize,
+    miscounted: usize,
+    unconverted: usize,
+    repeats: Repeated,
+    first: usize,
 }
 
 // The column count: whether it is a number from 7 up; the number, and 10,000,000,000,000,000,000 for it and all above: no row has so many items.
@@ -208,7 +213,7 @@ fn walked(file: &[u8], number: usize) -> Looked
 }
 
 // Looks over a file: 50 to 54.
-pub fn look(file: &[u8]) -> Looked
+fn look(file: &[u8]) -> Looked
     ensures { λ r. ⌜ LookedIs (now (file .entry)) (r .broken) (r .lines) (r .miscounted) (r .unconverted) (r .first) ⌝ }
     ensures rows { λ r. ⌜ RepeatsAre (now (file .entry)) (r .broken) (r .lines) (r .unconverted) (r .first) (r .repeats .differs) (r .repeats .returns) (r .repeats .count) ⌝ }
 {
@@ -223,4 +228,50 @@ pub fn look(file: &[u8]) -> Looked
         repeats,
         first: w.first,
     }
+}
+
+// A fault of the file, and the line where it is met.
+pub struct Blame {
+    pub fault: Fault,
+    pub line: usize,
+}
+
+// What is told of a file: its sheets, or its fault.
+pub enum Verdict {
+    Right(CsvSheets),
+    Wrong(Blame),
+}
+
+fn wrong(fault: Fault, line: usize) -> Verdict
+    ensures { λ r. ⌜ r ≡ Verdict.Wrong (record { fault = fault; line = line }) ⌝ }
+{
+    Verdict::Wrong(Blame { fault, line })
+}
+
+// 50 to 54, "in that order, each over the whole file".
+pub fn verdict_on(file: &[u8]) -> Verdict
+    ensures { λ r. ⌜ toldVerdict r ≡ csvCount (now (file .entry)) ⌝ }
+    ensures line { λ r. ⌜ lineOf r ≡ csvSpot (now (file .entry)) ⌝ }
+{
+    let found = look(file);
+    if found.broken {
+        return wrong(Fault::Quoting, found.lines + 1);
+    }
+    if found.miscounted != 0 {
+        return wrong(Fault::Columns, found.miscounted);
+    }
+    if found.unconverted != 0 {
+        return wrong(Fault::Unconverted, found.unconverted);
+    }
+    let repeats = found.repeats;
+    if repeats.differs != 0 {
+        return wrong(Fault::HeaderDiffers, repeats.differs);
+    }
+    if repeats.returns != 0 {
+        return wrong(Fault::Returns, repeats.returns);
+    }
+    Verdict::Right(CsvSheets {
+        count: repeats.count,
+        first: found.first,
+    })
 }

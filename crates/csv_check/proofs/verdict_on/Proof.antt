@@ -1,10 +1,10 @@
--- `csv::verdict_on` meets its contract. Assumes nothing.
+-- `csv_check::verdict_on` meets its contract. Assumes nothing.
 use native.Mathlib.Omega.{arith}
 use Rattle.csv_rules.proofs.Order.{few-lines}
-use Rattle.csv.proofs.Whole.{quoting-told, quoting-line, columns-told, columns-line, unconverted-told, unconverted-line, header-told, header-line, returns-told, returns-line, right-told, right-line}
+use Rattle.csv_check.proofs.Whole.{quoting-told, quoting-line, columns-told, columns-line, unconverted-told, unconverted-line, header-told, header-line, returns-told, returns-line, right-told, right-line}
 use borrow.Author.Needs.{needs}
-use Rattle.csv.proofs.verdict_on.Statement.{statement}
-use Rattle.csv.proofs.verdict_on.Tie as tie
+use Rattle.csv_check.proofs.verdict_on.Statement.{statement}
+use Rattle.csv_check.proofs.verdict_on.Tie as tie
 
 add-wrong : tie.Need-add-wrong
 add-wrong c = omega (arith, few-lines _ _ (c .before .before .look .ensures .0 .counts))
