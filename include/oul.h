@@ -18,10 +18,10 @@
  *     oul_to_message    2048
  *     oul_segment        256
  *     oul_spot           256
- *     oul_csv_count    77824
- *     oul_csv_sheet    86016
+ *     oul_csv_count   274432
+ *     oul_csv_sheet   278528
  *     oul_csv_next     86016
- *     oul_csv_spot     77824
+ *     oul_csv_spot    274432
  *
  * The archive defines these ten symbols and no others, and asks for memcpy and memset.
  */

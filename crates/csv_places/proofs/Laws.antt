@@ -115,11 +115,11 @@ module _ (t : ℕ → Bool) (T : List ℕ) (s p : ℕ) (free : getD T s 0 ≡ 0)
 -- ---- what is known
 pub known-stays : (f places : List ℕ) (r : Items) (i p : ℕ) → getD places i 0 ≡ 0 → known f places r ≡ true → known f (set places i p) r ≡ true
 unfolding known
-known-stays f places r i p free h = kept-stays (numberAt f r) places i p free (hashOf (numberOf r)) 64 h
+known-stays f places r i p free h = kept-stays (numberAt f r) places i p free (hashOf (numberOf r)) 512 h
 
 pub known-same : (f places : List ℕ) (r q : Items) → numberOf r ≡ numberOf q → known f places r ≡ known f places q
 unfolding known
-known-same f places r q e = ap (λ (n : List ℕ). any (λ (p : ℕ). same n (numberOf (itemsAt f p))) (kept places (hashOf n) 64)) e
+known-same f places r q e = ap (λ (n : List ℕ). any (λ (p : ℕ). same n (numberOf (itemsAt f p))) (kept places (hashOf n) 512)) e
 
 -- ---- rows at places
 pub items-there : (f : List ℕ) (p : ℕ) (T : RowThere f p) → itemsAt f p ≡ T .row .items
@@ -162,7 +162,7 @@ hash-here : (f spans raw : List ℕ) (h : ℕ) → raw ≡ stretch f spans 6 →
 unfolding numberOf rowAt itemsFrom itemAt
 hash-here f spans raw h e k = k ∙ ap (λ (x : List ℕ). hashOf (halved false x)) e
 
-pub look-starts : (f T spans raw : List ℕ) (h : ℕ) → raw ≡ stretch f spans 6 → h ≡ hashOf (halved false raw) → Looking f T (rowAt f spans) h 64
+pub look-starts : (f T spans raw : List ℕ) (h : ℕ) → raw ≡ stretch f spans 6 → h ≡ hashOf (halved false raw) → Looking f T (rowAt f spans) h 512
 unfolding known
 look-starts f T spans raw h e k = let q = hash-here f spans raw h e k in record { same = rw q; then = λ i p z a. rw q at a }
 

@@ -1,4 +1,4 @@
--- A table of places in a file: where a row with a number begins, by a hash of the number. A number has 64 slots that it may have, the first by its
+-- A table of places in a file: where a row with a number begins, by a hash of the number. A number has 512 slots that it may have, the first by its
 -- hash; it is kept in the first of them that is free.
 use mathlib.Core.Path.{_≡_}
 use mathlib.Core.Bool.{Bool, true, false, cond}
@@ -45,7 +45,7 @@ numberAt f r p = same (numberOf r) (numberOf (itemsAt f p))
 
 -- the number of r is known
 unfoldable pub known : List ℕ → List ℕ → Items → Bool
-known f places r = any (numberAt f r) (kept places (hashOf (numberOf r)) 64)
+known f places r = any (numberAt f r) (kept places (hashOf (numberOf r)) 512)
 
 -- a row begins at each place that is kept
 pub record RowThere (f : List ℕ) (p : ℕ) : Type 0 where

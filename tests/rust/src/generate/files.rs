@@ -236,7 +236,10 @@ fn many_numbers(random: &mut Random) -> Vec<u8> {
         };
         row
     };
-    let count = random.within(100..=300);
+    let count = match of_one_weight {
+        true => random.within(100..=700),
+        false => random.within(100..=300),
+    };
     let mut rows: Vec<Items> = (0..count).map(row).collect();
     match random.below(4) {
         0 => rows.push(row(random.below(count))),
