@@ -115,11 +115,11 @@ module _ (t : ℕ → Bool) (T : List ℕ) (s p : ℕ) (free : getD T s 0 ≡ 0)
 -- ---- what is known
 pub known-stays : (f places : List ℕ) (r : Items) (i p : ℕ) → getD places i 0 ≡ 0 → known f places r ≡ true → known f (set places i p) r ≡ true
 unfolding known
-known-stays f places r i p free h = kept-stays (numberAt f r) places i p free (hashOf (numberOf r)) 512 h
+known-stays f places r i p free h = kept-stays (numberAt f r) places i p free (hashOf (numberOf r)) 64 h
 
 pub known-same : (f places : List ℕ) (r q : Items) → numberOf r ≡ numberOf q → known f places r ≡ known f places q
 unfolding known
-known-same f places r q e = ap (λ (n : List ℕ). any (λ (p : ℕ). same n (numberOf (itemsAt f p))) (kept places (hashOf n) 512)) e
+known-same f places r q e = ap (λ (n : List ℕ). any (λ (p : ℕ). same n (numberOf (itemsAt f p))) (kept places (hashOf n) 64)) e
 
 -- ---- rows at places
 pub items-there : (f : List ℕ) (p : ℕ) (T : RowThere f p) → itemsAt f p ≡ T .row .items
@@ -157,14 +157,19 @@ nothing-kept n = record { none = nothing-in n }
 pub record Looking (f T : List ℕ) (r : Items) (slot left : ℕ) : Type 0 where
   pub same : known f T r ≡ any (numberAt f r) (kept T slot left)
   pub then : (i p : ℕ) → getD T i 0 ≡ 0 → any (numberAt f r) (kept (set T i p) slot left) ≡ true → known f (set T i p) r ≡ true
+  pub few : left ≤ 64
+  pub first : left ≡ 64 → slot ≡ hashOf (numberOf r)
+  pub taken : left < 64 → getD T (hashOf (numberOf r)) 0 ≡ 0 → ⊥
 
 hash-here : (f spans raw : List ℕ) (h : ℕ) → raw ≡ stretch f spans 6 → h ≡ hashOf (halved false raw) → h ≡ hashOf (numberOf (rowAt f spans))
 unfolding numberOf rowAt itemsFrom itemAt
 hash-here f spans raw h e k = k ∙ ap (λ (x : List ℕ). hashOf (halved false x)) e
 
-pub look-starts : (f T spans raw : List ℕ) (h : ℕ) → raw ≡ stretch f spans 6 → h ≡ hashOf (halved false raw) → Looking f T (rowAt f spans) h 512
+pub look-starts : (f T spans raw : List ℕ) (h : ℕ) → raw ≡ stretch f spans 6 → h ≡ hashOf (halved false raw) → Looking f T (rowAt f spans) h 64
 unfolding known
-look-starts f T spans raw h e k = let q = hash-here f spans raw h e k in record { same = rw q; then = λ i p z a. rw q at a }
+look-starts f T spans raw h e k =
+    let q = hash-here f spans raw h e k in
+    record { same = rw q; then = λ i p z a. rw q at a; few = omega arith; first = λ z. q; taken = λ z. absurd (omega arith) }
 
 left-more : (left : ℕ) → 0 < left → left ≡ suc (left - 1)
 left-more left h = omega arith
@@ -176,7 +181,7 @@ module _ (f T : List ℕ) (slot p : ℕ) (is : p ≡ getD T slot 0) where
 module _ (f T : List ℕ) (r : Items) (slot left : ℕ) (L : Looking f T r slot left) where
   pub look-ends : left ≤ 0 → SlotIs f T r Crowded
   unfolding SlotIs kept any
-  look-ends h = let e : left ≡ 0 = omega arith in L .same ∙ rw e
+  look-ends h = let e : left ≡ 0 = omega arith in record { unknown = L .same ∙ rw e; taken = L .taken (omega arith) }
 
   module _ (h : 0 < left) (p : ℕ) (is : p ≡ getD T slot 0) where
     pub look-free : Places f T → slot < 65536 → p ≡ 0 → SlotIs f T r (Free slot)
@@ -223,6 +228,9 @@ module _ (f T : List ℕ) (r : Items) (slot left : ℕ) (L : Looking f T r slot 
               (ap (λ (m : ℕ). any (numberAt f r) (kept (set T i x) slot m)) (left-more left h)
               ∙ ap (any (numberAt f r)) (more-stays (numberAt f r) T i x z slot (left - 1) filled)
               ∙ any-there (numberAt f r) (getD T slot 0) (kept (set T i x) (slotAfter slot) (left - 1)) (rw q at a));
+          few = omega (arith, L .few);
+          first = λ z. absurd (omega (arith, L .few));
+          taken = λ z. cases (eqb left 64) (λ y. rw (← L .first (eqb-true left 64 y)) filled) (λ y. L .taken (omega (arith, L .few, eqb-false left 64 y)));
         }
 
 -- ---- a place kept

@@ -1,4 +1,4 @@
--- A table of places in a file: where a row with a number begins, by a hash of the number. A number has 512 slots that it may have, the first by its
+-- A table of places in a file: where a row with a number begins, by a hash of the number. A number has 64 slots that it may have, the first by its
 -- hash; it is kept in the first of them that is free.
 use mathlib.Core.Path.{_≡_}
 use mathlib.Core.Bool.{Bool, true, false, cond}
@@ -7,15 +7,13 @@ use Prim.Native.Nat.{ℕ, zero, suc, _+_, _*_, _%_, _<_}
 use lib.Dec.{eqb, ltb}
 use lib.ListN.{length, drop, getD, set}
 use Rattle.rules.specs.Lists.{same, any}
-use Rattle.csv_rules.specs.Quote.{Items, cut, Line, linesIn}
+use Rattle.csv_rules.specs.Quote.{Items, Line}
 use Rattle.csv_rules.specs.Columns.{numberOf}
+use Rattle.csv_rows.specs.Rows.{linesFrom}
 use Rattle.csv_places.specs.declared.Slot.{Slot}
 use Rattle.csv_places.specs.declared.Slot.the-variants.{Held, Free, Crowded}
 
--- the lines from a place on, and the items of the first
-abbrev pub linesFrom : List ℕ → ℕ → List Line
-linesFrom f at = linesIn (cut (drop at f))
-
+-- the items of the first line from a place on
 unfoldable pub itemsAt : List ℕ → ℕ → Items
 itemsAt f p = elim (linesFrom f p) [ [] ↦ [] | l ∷ ls ↦ l .items ]
 
@@ -45,7 +43,7 @@ numberAt f r p = same (numberOf r) (numberOf (itemsAt f p))
 
 -- the number of r is known
 unfoldable pub known : List ℕ → List ℕ → Items → Bool
-known f places r = any (numberAt f r) (kept places (hashOf (numberOf r)) 512)
+known f places r = any (numberAt f r) (kept places (hashOf (numberOf r)) 64)
 
 -- a row begins at each place that is kept
 pub record RowThere (f : List ℕ) (p : ℕ) : Type 0 where
@@ -73,10 +71,15 @@ pub record FreeAt (f places : List ℕ) (r : Items) (i : ℕ) : Type 0 where
   pub unknown : known f places r ≡ false
   pub then : (p : ℕ) → (p ≡ 0 → ⊥) → numberAt f r p ≡ true → known f (set places i p) r ≡ true
 
+-- nothing, and the slot of its hash is taken
+pub record CrowdedAt (f places : List ℕ) (r : Items) : Type 0 where
+  pub unknown : known f places r ≡ false
+  pub taken : getD places (hashOf (numberOf r)) 0 ≡ 0 → ⊥
+
 unfoldable pub SlotIs : List ℕ → List ℕ → Items → Slot → Type 0
 SlotIs f places r (Held p) = HeldAt f places r p
 SlotIs f places r (Free i) = FreeAt f places r i
-SlotIs f places r Crowded = known f places r ≡ false
+SlotIs f places r Crowded = CrowdedAt f places r
 
 -- ---- a place kept: whether it is, and the table then. Places are kept below 4,294,967,296.
 unfoldable pub keeps : Slot → ℕ → Bool

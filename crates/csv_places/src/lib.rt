@@ -1,5 +1,5 @@
 // A table of places in the commercial centre's file (Req 01): where a row with a result number begins, by a hash of the number. Each number may have
-// 512 slots, from the one of its hash on, and has the first of them that was free.
+// 64 slots, from the one of its hash on, and has the first of them that was free.
 ghost use mathlib.Core.Path.{_≡_};
 ghost use mathlib.Core.Bool.{false, cond};
 ghost use Prim.Native.Nat.{_<_};
@@ -97,7 +97,7 @@ pub fn look_up(file: &[u8], places: &[u32; 65536], spans: &[usize; 90]) -> Slot
 {
     let number = csv_rows::item(file, spans, 6);
     let mut slot = hash(number);
-    let mut left = 512usize;
+    let mut left = 64usize;
     while 0 < left {
         let p = place_of(places[slot]);
         if p == 0 {

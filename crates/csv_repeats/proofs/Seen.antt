@@ -1,18 +1,17 @@
 -- The rows before a row, the nearest first: how they lie in the file, and how many runs they begin. Assumes nothing.
-use mathlib.Core.Path.{_≡_, refl, ap, _∙_}
-use mathlib.Core.Bool.{Bool, true, false, cond}
+use mathlib.Core.Path.{_≡_, refl, sym, ap, _∙_}
+use mathlib.Core.Bool.{Bool, true, false, cond, _||_}
 use mathlib.Core.List.{List, [], _∷_, _++_, append-assoc}
-use Prim.Native.Nat.{ℕ, _+_, _-_}
+use Prim.Native.Nat.{ℕ, _+_, _≤_}
 use native.Mathlib.Omega.{arith}
-use borrow.Author.Tests.{ne-eqb, ltb-true}
+use borrow.Author.Tests.{ltb-true}
 use lib.Dec.{ltb}
 use lib.ListN.{length}
 use Rattle.rules.specs.Lists.{any, all}
-use Rattle.rules.proofs.Logic.{cases}
-use Rattle.rules.proofs.Lists.{all-first}
+use Rattle.rules.proofs.Logic.{cases, or-assoc}
+use Rattle.rules.proofs.Lists.{all-first, any-cons, any-nil}
 use Rattle.csv_rules.specs.Quote.{Line}
 use Rattle.csv_rules.specs.Sheets.{sameNumber, Run, joinRun, runs, sizes}
-use Rattle.csv_repeats.specs.Looks.{between}
 
 -- ---- in the file's order
 -- the rows before, and then others
@@ -23,19 +22,17 @@ back (q ∷ seen) rest = back seen (q ∷ rest)
 abbrev pub sized : Line → Bool
 sized l = ltb 0 (l .size)
 
-pub between-none : (ls : List Line) → between 0 ls ≡ []
-unfolding between
-between-none [] = refl
-between-none (l ∷ ls) = refl
+pub back-append : (seen rest : List Line) → back seen rest ≡ back seen [] ++ rest
+unfolding back
+back-append [] rest = refl
+back-append (q ∷ seen) rest =
+    back-append seen (q ∷ rest) ∙ sym (ap (λ (s : List Line). s ++ rest) (back-append seen (q ∷ [])) ∙ append-assoc (back seen []) (q ∷ []) rest)
 
-pub between-late : (late rest : List Line) (n : ℕ) → all sized late ≡ true → n ≡ sizes late → between n (late ++ rest) ≡ late
-unfolding between sizes
-between-late [] rest n h e = ap (λ (k : ℕ). between k rest) e ∙ between-none rest
-between-late (l ∷ ls) rest n h e =
-    let w = all-first sized l ls h in
-    let k = ltb-true 0 (l .size) (w .0) in
-    let m : n - l .size ≡ sizes ls = omega arith in
-    rw (ne-eqb n 0 (λ z. omega arith)) (ap (λ (x : List Line). l ∷ x) (between-late ls rest (n - l .size) (w .1) m))
+-- each has a byte at least
+pub few-sized : (seen : List Line) → all sized seen ≡ true → length seen ≤ sizes seen
+unfolding sizes
+few-sized [] h = omega arith
+few-sized (l ∷ seen) h = let w = all-first sized l seen h in omega (arith, ltb-true 0 (l .size) (w .0), few-sized seen (w .1))
 
 -- ---- a row among some
 pub record In (w : Line) (s : List Line) : Type 0 where
@@ -54,36 +51,30 @@ pub in-cases : {P : Type 0} (w q : Line) (s a b : List Line) → q ∷ s ≡ a +
 in-cases w q s [] b e f g = f (cc)
 in-cases w q s (x ∷ a) b e f g = g (record { left = a; right = b; is = cc })
 
+-- a row is among none
 pub not-in : {P : Type 0} (w : Line) (a b : List Line) → [] ≡ a ++ (w ∷ b) → P
 not-in w [] b e = let z : _≡_ {A = ℕ} 0 1 = cc in absurd (omega arith)
 not-in w (x ∷ a) b e = let z : _≡_ {A = ℕ} 0 1 = cc in absurd (omega arith)
-
--- one of two lists
-pub in-parts : {P : Type 0} (w : Line) (s t : List Line) → In w (s ++ t) → (In w s → P) → (In w t → P) → P
-in-parts w [] t i f g = g i
-in-parts w (q ∷ s) t i f g =
-    in-cases w q (s ++ t) (i .left) (i .right) (i .is)
-    (λ e. f (record { left = []; right = s; is = ap (λ (x : Line). x ∷ s) e }))
-    (λ j. in-parts w s t j (λ k. f (in-there w q s k)) g)
-
-pub in-left : (w : Line) (s t : List Line) → In w s → In w (s ++ t)
-in-left w s t i = record { left = i .left; right = i .right ++ t; is = ap (λ (x : List Line). x ++ t) (i .is) ∙ append-assoc (i .left) (w ∷ i .right) t }
 
 pub in-any : (p : Line → Bool) (w : Line) (a b : List Line) → p w ≡ true → any p (a ++ (w ∷ b)) ≡ true
 unfolding any
 in-any p w [] b h = rw (h, any)
 in-any p w (x ∷ a) b h = cases (p x) (λ e. rw (e, any)) (λ e. rw (e, any) (in-any p w a b h))
 
+pub any-append : (p : Line → Bool) (a b : List Line) → any p (a ++ b) ≡ (any p a || any p b)
+any-append p [] b = rw (any-nil p)
+any-append p (x ∷ a) b = rw (any-cons p x (a ++ b), any-cons p x a, any-append p a b) (or-assoc (p x) (any p a) (any p b))
+
 -- ---- runs
 -- whether a row goes on with the number of the row before
-unfoldable pub goesOn : List Line → Line → Bool
-goesOn [] r = false
-goesOn (q ∷ seen) r = sameNumber (q .items) (r .items)
+unfoldable pub sameRun : List Line → Line → Bool
+sameRun [] r = false
+sameRun (q ∷ seen) r = sameNumber (q .items) (r .items)
 
 -- the runs that some rows begin
 unfoldable pub begunAfter : List Line → List Line → ℕ
 begunAfter seen [] = 0
-begunAfter seen (r ∷ rs) = cond (goesOn seen r) 0 1 + begunAfter (r ∷ seen) rs
+begunAfter seen (r ∷ rs) = cond (sameRun seen r) 0 1 + begunAfter (r ∷ seen) rs
 
 joined-more : (q r : Line) (us : List Run) → length (joinRun q (joinRun r us)) ≡ cond (sameNumber (q .items) (r .items)) 0 1 + length (joinRun r us)
 unfolding joinRun
@@ -94,7 +85,7 @@ joined-more q r (u ∷ us) =
     (λ f. rw (f, joinRun) (cases (sameNumber (q .items) (r .items)) (λ e. rw (e, joinRun) (omega arith)) (λ e. rw (e, joinRun) (omega arith))))
 
 runs-after : (rs : List Line) (q : Line) (seen : List Line) → length (runs (q ∷ rs)) ≡ 1 + begunAfter (q ∷ seen) rs
-unfolding runs joinRun begunAfter goesOn
+unfolding runs joinRun begunAfter sameRun
 runs-after [] q seen = refl
 runs-after (r ∷ rs) q seen =
     let e = joined-more q r (runs rs) in
@@ -102,6 +93,6 @@ runs-after (r ∷ rs) q seen =
     omega (arith, e, h)
 
 pub begun-all : (rows : List Line) → length (runs rows) ≡ begunAfter [] rows
-unfolding runs begunAfter goesOn
+unfolding runs begunAfter sameRun
 begun-all [] = refl
 begun-all (q ∷ rs) = runs-after rs q []

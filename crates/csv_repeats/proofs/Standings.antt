@@ -1,23 +1,24 @@
--- How a row stands to the rows before it says 53, 54 and whether a run begins. Assumes nothing.
+-- How a row stands to the rows before it says 53, 54 and whether a run begins. The rows before are those that are kept, and behind them the late ones,
+-- which aren't; the nearest first. Assumes nothing.
 use mathlib.Core.Path.{_≡_, refl, sym, ap, _∙_}
-use mathlib.Core.Bool.{Bool, true, false, cond, not}
-use mathlib.Core.List.{List, [], _∷_}
+use mathlib.Core.Bool.{Bool, true, false, cond, not, _||_}
+use mathlib.Core.List.{List, [], _∷_, _++_}
 use Rattle.rules.specs.declared.Name.the-variants.{Pid, Pv1}
 use Rattle.rules.specs.Lists.{any, all}
-use Rattle.rules.proofs.Logic.{cases, never}
+use Rattle.rules.proofs.Logic.{cases, never, both, or-false, or-true, or-assoc}
 use Rattle.rules.proofs.Lists.{any-cons, any-nil, any-first, all-first}
 use Rattle.csv_rules.specs.Quote.{Items, Line}
 use Rattle.csv_rules.specs.Columns.{numberOf}
 use Rattle.csv_rules.specs.Raw.{rawKeys}
 use Rattle.csv_rules.specs.Sheets.{sameNumber, clash, differ, rowConverts}
 use Rattle.csv_rules.specs.Spot.{comesBack}
-use Rattle.csv_rules.proofs.Behind.{number-sym, among, one-for-all, new-agrees}
+use Rattle.csv_rules.proofs.Behind.{number-sym, among, one-for-all, new-agrees, none-over, clash-self}
 use Rattle.csv_rules.proofs.Raw.{agree-raw}
 use Rattle.csv_rules.proofs.Order.{all-parts}
 use Rattle.csv_repeats.specs.declared.Standing.{Standing}
 use Rattle.csv_repeats.specs.declared.Standing.the-variants.{Same, New, Back, Differs}
-use Rattle.csv_repeats.specs.Looks.{sameHeader, foundIn, isDiffers, isBack, begun}
-use Rattle.csv_repeats.proofs.Seen.{In, in-here, in-there, in-any, goesOn}
+use Rattle.csv_repeats.specs.Looks.{sameHeader, isDiffers, isBack, begun}
+use Rattle.csv_repeats.proofs.Seen.{In, in-here, in-there, in-any, any-append, sameRun}
 
 -- ---- a row as it lies in the file stands as its items do
 pub record Alike (r q : Items) : Type 0 where
@@ -25,80 +26,126 @@ pub record Alike (r q : Items) : Type 0 where
   pub pid : rawKeys Pid r ≡ rawKeys Pid q
   pub pv1 : rawKeys Pv1 r ≡ rawKeys Pv1 q
 
-pub found-alike : (r q : Items) → Alike r q → (done : List Line) → foundIn r done ≡ foundIn q done
-unfolding foundIn
-found-alike r q a [] = refl
-found-alike r q a (x ∷ done) = rw (a .number, a .pid, a .pv1, found-alike r q a done)
-
--- ---- looked for
-pub found-cases : {P : Type 0} (r : Items) (done : List Line)
-    → (foundIn r done ≡ New → any (λ (y : Line). sameNumber r (y .items)) done ≡ false → P)
-    → ((w : Line) → In w done → sameNumber r (w .items) ≡ true → foundIn r done ≡ cond (sameHeader r (w .items)) Back Differs → P)
-    → P
-unfolding foundIn any
-found-cases r [] f g = f refl refl
-found-cases r (q ∷ qs) f g =
-    cases (sameNumber r (q .items))
-    (λ e. g q (in-here q qs) e (rw e))
-    (λ e. found-cases r qs (λ n a. f (rw e n) (rw (e, any) a)) (λ w i s h. g w (in-there w q qs i) s (rw e h)))
-
 -- ---- what a standing tells
-pub record Says (seen : List Line) (l : Line) (s : Standing) : Type 0 where
-  pub differs : isDiffers s ≡ any (clash (l .items)) seen
-  pub begins : isDiffers s ≡ false → begun s ≡ cond (goesOn seen l) 0 1
-  pub returns : isDiffers s ≡ false → isBack s ≡ comesBack seen l
+pub record Says (kept late : List Line) (l : Line) (s : Standing) : Type 0 where
+  pub differs : isDiffers s ≡ true → any (clash (l .items)) (late ++ kept) ≡ true
+  pub agrees : isDiffers s ≡ false → any (clash (l .items)) kept ≡ false
+  pub begins : isDiffers s ≡ false → begun s ≡ cond (sameRun (late ++ kept) l) 0 1
+  pub returns : isBack s ≡ true → comesBack (late ++ kept) l ≡ true
+  pub stays : isDiffers s ≡ false → isBack s ≡ false → comesBack (late ++ kept) l ≡ comesBack late l
+
+-- a row that differs from none that is kept
+abbrev pub away : List Line → Line → Bool
+away kept l = not (any (clash (l .items)) kept)
 
 header-clash : (l q : Line) → rowConverts l ≡ true → rowConverts q ≡ true → sameNumber (l .items) (q .items) ≡ true
     → clash (l .items) q ≡ not (sameHeader (l .items) (q .items))
 header-clash l q h k n = rw (n, agree-raw Pid (l .items) (q .items) h k, agree-raw Pv1 (l .items) (q .items) h k)
 
--- the row before has its number
-module _ (q l : Line) (seen : List Line) where
-  on-same : sameNumber (q .items) (l .items) ≡ true → any (clash (l .items)) (q ∷ seen) ≡ false → Says (q ∷ seen) l Same
-  unfolding goesOn comesBack
-  on-same n a = record { differs = sym a; begins = λ h. rw n; returns = λ h. rw n }
+on-differs : (kept late : List Line) (l : Line) → any (clash (l .items)) (late ++ kept) ≡ true → Says kept late l Differs
+on-differs kept late l a = record {
+  differs = λ h. a;
+  agrees = λ h. never h;
+  begins = λ h. never h;
+  returns = λ h. never (sym h);
+  stays = λ h. never h;
+}
 
--- none of the rows before has it
-among-none : (l q : Line) (seen : List Line) → among (q ∷ seen) l ≡ false → (sameNumber (q .items) (l .items) ≡ false) × (among seen l ≡ false)
-among-none l q seen a = let w = any-first (λ (y : Line). sameNumber (l .items) (y .items)) q seen a in (number-sym q l ∙ w .0, w .1)
+-- ---- none that is kept has its number
+pub none-back : (kept : List Line) (l : Line) → among kept l ≡ false → comesBack kept l ≡ false
+unfolding comesBack
+none-back [] l a = refl
+none-back (q ∷ kept) l a =
+    let w = any-first (λ (y : Line). sameNumber (l .items) (y .items)) q kept a in
+    rw (w .1) (cases (sameNumber (q .items) (l .items)) (λ e. rw e) (λ e. rw e))
 
-pub says-new : (seen : List Line) (l : Line) → among seen l ≡ false → Says seen l New
-unfolding goesOn comesBack
-says-new [] l a = record { differs = sym (any-nil (clash (l .items))); begins = λ h. refl; returns = λ h. refl }
-says-new (q ∷ seen) l a =
-    let w = among-none l q seen a in
-    record { differs = sym (new-agrees l (q ∷ seen) a); begins = λ h. rw (w .0); returns = λ h. rw (w .0, w .1) }
+late-back : (kept late : List Line) (l : Line) → among kept l ≡ false → comesBack (late ++ kept) l ≡ comesBack late l
+unfolding comesBack
+late-back kept [] l a = none-back kept l a
+late-back kept (q ∷ late) l a =
+    let p : Line → Bool = λ (y : Line). sameNumber (l .items) (y .items) in
+    rw (any-append p late kept, a, or-false (any p late))
 
-on-differs : (seen : List Line) (l : Line) → any (clash (l .items)) seen ≡ true → Says seen l Differs
-on-differs seen l a = record { differs = sym a; begins = λ h. never h; returns = λ h. never h }
+pub says-new : (kept late : List Line) (l : Line) → among kept l ≡ false → sameRun (late ++ kept) l ≡ false → Says kept late l New
+says-new kept late l a g = record {
+  differs = λ h. never (sym h);
+  agrees = λ h. new-agrees l kept a;
+  begins = λ h. rw g;
+  returns = λ h. never (sym h);
+  stays = λ h b. late-back kept late l a;
+}
 
--- some has it, and not the one before
-on-back : (seen : List Line) (l : Line) → goesOn seen l ≡ false → among seen l ≡ true → any (clash (l .items)) seen ≡ false → Says seen l Back
-unfolding goesOn comesBack
-on-back [] l n a c = never (sym a ∙ any-nil (λ (y : Line). sameNumber (l .items) (y .items)))
-on-back (q ∷ seen) l n a c =
+-- ---- some has it, and not the row before
+back-there : (seen : List Line) (l : Line) → sameRun seen l ≡ false → among seen l ≡ true → comesBack seen l ≡ true
+unfolding sameRun comesBack
+back-there [] l n a = never (sym a ∙ any-nil (λ (y : Line). sameNumber (l .items) (y .items)))
+back-there (q ∷ seen) l n a =
     let e : among seen l ≡ true = rw (any-cons (λ (y : Line). sameNumber (l .items) (y .items)) q seen, ← number-sym q l, n) at a in
-    record { differs = sym c; begins = λ h. rw n; returns = λ h. rw (n, e) }
+    rw (n, e)
 
-module _ (seen : List Line) (l : Line) (lc : rowConverts l ≡ true) (sc : all rowConverts seen ≡ true) (d : differ seen ≡ false) where
+on-back : (kept late : List Line) (l : Line) → sameRun (late ++ kept) l ≡ false → among kept l ≡ true → any (clash (l .items)) kept ≡ false → Says kept late l Back
+on-back kept late l g a c =
+    let p : Line → Bool = λ (y : Line). sameNumber (l .items) (y .items) in
+    let m : among (late ++ kept) l ≡ true = rw (any-append p late kept, a) (or-true (any p late)) in
+    record {
+      differs = λ h. never (sym h);
+      agrees = λ h. c;
+      begins = λ h. rw g;
+      returns = λ h. back-there (late ++ kept) l g m;
+      stays = λ h b. never b;
+    }
+
+module _ (kept : List Line) (l : Line) (lc : rowConverts l ≡ true) (sc : all rowConverts kept ≡ true) (d : differ kept ≡ false) where
   -- compared with one row of its number
-  clash-one : (w : Line) → In w seen → sameNumber (l .items) (w .items) ≡ true → any (clash (l .items)) seen ≡ not (sameHeader (l .items) (w .items))
+  clash-one : (w : Line) → In w kept → sameNumber (l .items) (w .items) ≡ true → any (clash (l .items)) kept ≡ not (sameHeader (l .items) (w .items))
   clash-one w i n =
       let wc = all-first rowConverts w (i .right) (all-parts rowConverts (i .left) (w ∷ i .right) (rw (i .is) at sc) .1) .0 in
       ap (any (clash (l .items))) (i .is) ∙ one-for-all (i .left) (i .right) w l (rw (i .is) at d) n ∙ header-clash l w lc wc n
 
-  pub says-back : (w : Line) → In w seen → sameNumber (l .items) (w .items) ≡ true → goesOn seen l ≡ false → Says seen l (cond (sameHeader (l .items) (w .items)) Back Differs)
-  says-back w i n g =
+  pub says-back : (late : List Line) (w : Line) → In w kept → sameNumber (l .items) (w .items) ≡ true → sameRun (late ++ kept) l ≡ false
+      → Says kept late l (cond (sameHeader (l .items) (w .items)) Back Differs)
+  says-back late w i n g =
       let c = clash-one w i n in
       let p : Line → Bool = λ (y : Line). sameNumber (l .items) (y .items) in
-      let a : among seen l ≡ true = ap (any p) (i .is) ∙ in-any p w (i .left) (i .right) n in
-      cases (sameHeader (l .items) (w .items)) (λ h. rw h (on-back seen l g a (c ∙ ap not h))) (λ h. rw h (on-differs seen l (c ∙ ap not h)))
+      let a : among kept l ≡ true = ap (any p) (i .is) ∙ in-any p w (i .left) (i .right) n in
+      cases (sameHeader (l .items) (w .items))
+      (λ h. rw h (on-back kept late l g a (c ∙ ap not h)))
+      (λ h.
+      let t : any (clash (l .items)) (late ++ kept) ≡ true = rw (any-append (clash (l .items)) late kept, c, h) (or-true (any (clash (l .items)) late)) in
+      rw h (on-differs kept late l t))
 
-pub says-same : (q l : Line) (seen : List Line) → rowConverts l ≡ true → all rowConverts (q ∷ seen) ≡ true → differ (q ∷ seen) ≡ false
-    → sameNumber (q .items) (l .items) ≡ true → Says (q ∷ seen) l (cond (sameHeader (l .items) (q .items)) Same Differs)
-says-same q l seen lc sc d n =
-    let c = clash-one (q ∷ seen) l lc sc d q (in-here q seen) (number-sym l q ∙ n) in
-    cases (sameHeader (l .items) (q .items)) (λ e. rw e (on-same q l seen n (c ∙ ap not e))) (λ e. rw e (on-differs (q ∷ seen) l (c ∙ ap not e)))
+-- ---- the row before has its number
+on-same : (kept : List Line) (q : Line) (seen : List Line) (l : Line) → sameNumber (q .items) (l .items) ≡ true → comesBack (q ∷ seen) l ≡ false
+unfolding comesBack
+on-same kept q seen l n = rw n
+
+same-back : (kept late : List Line) (l q : Line) (seen : List Line) → late ++ kept ≡ q ∷ seen → sameNumber (q .items) (l .items) ≡ true
+    → comesBack (late ++ kept) l ≡ comesBack late l
+unfolding comesBack
+same-back kept [] l q seen e n = ap (λ (s : List Line). comesBack s l) e ∙ on-same kept q seen l n
+same-back kept (x ∷ late) l q seen e n =
+    let o : x ≡ q = cc in
+    let m : sameNumber (x .items) (l .items) ≡ true = rw o n in
+    rw m
+
+pub says-same : (kept late : List Line) (q l : Line) (seen : List Line) → late ++ kept ≡ q ∷ seen → rowConverts l ≡ true → rowConverts q ≡ true
+    → any (clash (q .items)) kept ≡ false → sameNumber (q .items) (l .items) ≡ true
+    → Says kept late l (cond (sameHeader (l .items) (q .items)) Same Differs)
+unfolding sameRun
+says-same kept late q l seen e lc qc a n =
+    let m = number-sym l q ∙ n in
+    let c = header-clash l q lc qc m in
+    cases (sameHeader (l .items) (q .items))
+    (λ h. rw h (record {
+      differs = λ y. never (sym y);
+      agrees = λ y. none-over l q kept m (c ∙ ap not h) a;
+      begins = λ y. rw (e, n);
+      returns = λ y. never (sym y);
+      stays = λ y z. same-back kept late l q seen e n;
+    }))
+    (λ h.
+    let t : any (clash (l .items)) (late ++ kept) ≡ true = rw (e, any-cons (clash (l .items)) q seen, c, h) in
+    rw h (on-differs kept late l t))
 
 -- ---- a row that none of those before has the number of
 pub none-among : (seen : List Line) (l : Line) → ((w : Line) → In w seen → sameNumber (l .items) (w .items) ≡ true → ⊥) → among seen l ≡ false

@@ -1,51 +1,29 @@
 -- How a row stands to the rows before it, as the code finds it: by the raw keys, and by the places that are kept of the numbers that were met.
 use mathlib.Core.Path.{_≡_}
 use mathlib.Core.Bool.{Bool, true, false, cond, _&&_}
-use mathlib.Core.List.{List, [], _∷_, _++_}
-use Prim.Native.Nat.{ℕ, _+_, _-_}
+use mathlib.Core.List.{List}
+use Prim.Native.Nat.{ℕ, _+_}
 use lib.Dec.{eqb, ltb}
 use Rattle.rules.specs.declared.Name.the-variants.{Pid, Pv1}
-use Rattle.csv_rules.specs.Quote.{Items, Line}
-use Rattle.csv_rules.specs.Sheets.{sameNumber, sizes}
+use Rattle.csv_rules.specs.Quote.{Items}
+use Rattle.csv_rules.specs.Sheets.{sameNumber}
 use Rattle.csv_rules.specs.Raw.{rawAgree}
 use Rattle.csv_rows.specs.Rows.{rowAt}
 use Rattle.csv_places.specs.declared.Slot.{Slot}
 use Rattle.csv_places.specs.declared.Slot.the-variants.{Held, Free, Crowded}
-use Rattle.csv_places.specs.Places.{linesFrom, itemsAt, RowThere, SlotIs, keeps, withPlace}
+use Rattle.csv_places.specs.Places.{itemsAt, RowThere, SlotIs, keeps, withPlace}
 use Rattle.csv_repeats.specs.declared.Standing.{Standing}
 use Rattle.csv_repeats.specs.declared.Standing.the-variants.{Same, New, Back, Differs}
-
--- ---- the rows before
--- from k on the lines go up to at, each well quoted, and then on from there
-pub record Upto (f : List ℕ) (k at : ℕ) : Type 0 where
-  pub rows : List Line
-  pub lines : linesFrom f k ≡ rows ++ linesFrom f at
-  pub place : at ≡ k + sizes rows
-
--- those of some lines that begin in the first n bytes
-unfoldable pub between : ℕ → List Line → List Line
-between n [] = []
-between n (l ∷ ls) = cond (eqb n 0) [] (l ∷ between (n - l .size) ls)
 
 -- 53, of two rows of a number
 abbrev pub sameHeader : Items → Items → Bool
 sameHeader r q = rawAgree Pid r q && rawAgree Pv1 r q
 
--- a row whose number isn't that of the row before, and the first of some rows that has it
-unfoldable pub foundIn : Items → List Line → Standing
-foundIn r [] = New
-foundIn r (q ∷ qs) = cond (sameNumber r (q .items)) (cond (sameHeader r (q .items)) Back Differs) (foundIn r qs)
-
--- ---- the numbers that aren't kept: unkept is the place of the first row with one, 0 where every number is kept; the rows from there on are gone
--- through
-unfoldable pub fromOf : ℕ → ℕ → ℕ
-fromOf unkept at = cond (eqb unkept 0) at unkept
-
--- a row whose number isn't that of the row before, by what is kept of it
-unfoldable pub lookedFor : List ℕ → ℕ → ℕ → Items → Slot → Standing
-lookedFor f from at r (Held p) = cond (sameHeader r (itemsAt f p)) Back Differs
-lookedFor f from at r (Free i) = foundIn r (between (at - from) (linesFrom f from))
-lookedFor f from at r Crowded = foundIn r (between (at - from) (linesFrom f from))
+-- ---- a row whose number isn't that of the row before, by what is kept of it
+unfoldable pub lookedFor : List ℕ → Items → Slot → Standing
+lookedFor f r (Held p) = cond (sameHeader r (itemsAt f p)) Back Differs
+lookedFor f r (Free i) = New
+lookedFor f r Crowded = New
 
 -- a row begins at a place that is held
 unfoldable pub HeldThere : List ℕ → Slot → Type 0
@@ -53,13 +31,13 @@ HeldThere f (Held p) = RowThere f p
 HeldThere f (Free i) = Unit {0}
 HeldThere f Crowded = Unit {0}
 
--- its place is kept, where it can be
+-- unkept is the place of the first row whose number isn't kept, 0 where every number is. Up to there a row's place is kept; from there on none is.
 pub record Looked (f : List ℕ) (at : ℕ) (r : Items) (places : List ℕ) (unkept : ℕ) (s : Standing) (o : ℕ) (after : List ℕ) : Type 0 where
   pub slot : Slot
   pub slot-is : SlotIs f places r slot
-  pub is : s ≡ lookedFor f (fromOf unkept at) at r slot
-  pub table : after ≡ withPlace places slot at
-  pub opened : o ≡ cond (keeps slot at) unkept (fromOf unkept at)
+  pub is : s ≡ lookedFor f r slot
+  pub table : after ≡ cond (eqb unkept 0) (withPlace places slot at) places
+  pub opened : o ≡ cond (eqb unkept 0) (cond (keeps slot at) 0 at) unkept
 
 -- the row at a place
 pub record Stands (f : List ℕ) (first at : ℕ) (before spans places : List ℕ) (unkept : ℕ) (s : Standing) (o : ℕ) (after : List ℕ) : Type 0 where
@@ -87,10 +65,12 @@ begun New = 1
 begun Back = 1
 begun Differs = 0
 
--- 53 and 54 with the row at a place, which is the line-th line, where none before it differs
-pub record WithRow (f : List ℕ) (first at : ℕ) (before spans places : List ℕ) (unkept line returns count : ℕ) (o d r n : ℕ) (after : List ℕ) : Type 0 where
+-- 53 and 54 with the row at a place, which is the k-th line, where none before it is found to differ; line is that of the first row whose number isn't
+-- kept
+pub record WithRow (f : List ℕ) (first at : ℕ) (before spans places : List ℕ) (unkept line k returns count : ℕ) (o m d r n : ℕ) (after : List ℕ) : Type 0 where
   pub standing : Standing
   pub stands : Stands f first at before spans places unkept standing o after
-  pub differs : d ≡ cond (isDiffers standing) line 0
-  pub back : r ≡ cond (eqb returns 0 && isBack standing) line returns
+  pub differs : d ≡ cond (isDiffers standing) k 0
+  pub back : r ≡ cond (eqb returns 0 && isBack standing) k returns
   pub runs : n ≡ count + begun standing
+  pub opened : m ≡ cond (eqb o unkept) line k

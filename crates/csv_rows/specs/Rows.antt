@@ -6,9 +6,13 @@ use Prim.Native.Nat.{ℕ, zero, suc, _+_, _*_, _≤_, _<_}
 use lib.Dec.{eqb, ltb}
 use lib.ListN.{length, take, drop, getD, set}
 use Rattle.rules.specs.Lists.{nth, all}
-use Rattle.csv_rules.specs.Quote.{Comma, Quote, Items, Lines, end, broken, line, linesAt, cut}
+use Rattle.csv_rules.specs.Quote.{Comma, Quote, Items, Lines, end, broken, line, linesAt, cut, Line, linesIn}
 use Rattle.csv_rules.specs.Written.{halved}
 use Rattle.csv_rules.specs.Kanji.{convertible}
+
+-- the lines from a place on
+abbrev pub linesFrom : List ℕ → ℕ → List Line
+linesFrom f at = linesIn (cut (drop at f))
 
 -- how many bytes stand before the quote that closes an item: all where none does; true: a quote has just been read
 unfoldable pub closingAt : Bool → List ℕ → ℕ

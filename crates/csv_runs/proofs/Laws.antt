@@ -15,10 +15,10 @@ use Rattle.csv_rules.specs.Columns.{numberOf}
 use Rattle.csv_rules.specs.Sheets.{sameTexts, sameNumber, clash, runs, rowConverts, sizes, runsFrom}
 use Rattle.csv_rules.specs.Raw.{rawKeys, rawAgree}
 use Rattle.csv_rules.proofs.Order.{sizes-append}
-use Rattle.csv_rows.specs.Rows.{Spans, RowIs, rowAt}
+use Rattle.csv_rows.specs.Rows.{linesFrom, Spans, RowIs, rowAt}
 use Rattle.csv_rows.proofs.Laws.{row-lines, row-broken, rows-end}
 use Rattle.csv_rows.proofs.Tied.{tied-raw, tied-number}
-use Rattle.csv_runs.specs.Next.{goesOn, linesFrom, Joins, NextIs}
+use Rattle.csv_runs.specs.Next.{goesOn, Joins, NextIs}
 use Rattle.csv_runs.specs.Runs.{RunIs}
 use Rattle.csv_runs.proofs.Runs.{numbered, all-snoc, any-snoc, first-run, run-differs, clash-raw}
 

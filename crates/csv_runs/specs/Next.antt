@@ -3,20 +3,17 @@ use mathlib.Core.Path.{_≡_}
 use mathlib.Core.Bool.{Bool, true, false, cond, not, _&&_}
 use mathlib.Core.List.{List, [], _∷_}
 use Prim.Native.Nat.{ℕ, _+_, _≤_, _<_}
-use lib.ListN.{length, drop}
+use lib.ListN.{length}
 use Rattle.rules.specs.declared.Name.the-variants.{Pid, Pv1}
-use Rattle.csv_rules.specs.Quote.{Items, cut, Line, linesIn}
+use Rattle.csv_rules.specs.Quote.{Items, Line}
 use Rattle.csv_rules.specs.Sheets.{sameNumber, rowConverts}
 use Rattle.csv_rules.specs.Raw.{rawAgree}
-use Rattle.csv_rows.specs.Rows.{Spans}
+use Rattle.csv_rows.specs.Rows.{linesFrom, Spans}
 
 -- whether the first of some rows has the number of the row q
 unfoldable pub goesOn : Items → List Line → Bool
 goesOn q [] = false
 goesOn q (r ∷ rs) = sameNumber q (r .items)
-
-abbrev pub linesFrom : List ℕ → ℕ → List Line
-linesFrom f at = linesIn (cut (drop at f))
 
 -- a row with the number of the row q stands there: where its items lie, its bytes, whether it converts, whether its header keys differ from q's
 -- as they lie in the file

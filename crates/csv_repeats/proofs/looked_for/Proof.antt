@@ -19,13 +19,4 @@ returns-3 c = search (crowded-for, needs)
 pub looked-for-spec : {M : Type 1} → statement M
 looked-for-spec =
     tie.close
-    (tie.spec
-    (λ c. search needs)
-    found-at-requires
-    (λ c. search needs)
-    (λ c κs. search needs)
-    (λ c. search needs)
-    (λ c κs. search needs)
-    returns
-    returns-2
-    returns-3)
+    (tie.spec (λ c. search needs) found-at-requires (λ c. search needs) (λ c. search needs) returns returns-2 returns-3)
