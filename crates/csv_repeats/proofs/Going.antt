@@ -15,17 +15,19 @@ use Rattle.csv_rules.specs.Quote.{Line}
 use Rattle.csv_rules.specs.Sheets.{clash, differ, rowConverts, runs, sizes}
 use Rattle.csv_rules.specs.Spot.{firstAfter, clashes, comesBack}
 use Rattle.csv_rules.proofs.Behind.{among, new-agrees}
-use Rattle.csv_rules.proofs.Order.{sizes-append}
+use Rattle.csv_rules.proofs.Order.{all-parts}
 use Rattle.csv_rows.specs.Rows.{linesFrom, RowIs}
 use Rattle.csv_rows.proofs.Laws.{row-lines}
+use Rattle.csv_places.specs.Places.{Places}
 use Rattle.csv_places.specs.Slots.{Nothing}
 use Rattle.csv_repeats.specs.declared.Standing.{Standing}
+use Rattle.csv_repeats.specs.declared.Standing.the-variants.{Same, New, Back, Differs}
 use Rattle.csv_repeats.specs.Looks.{Stands, WithRow, isDiffers, isBack, begun}
 use Rattle.csv_repeats.specs.Rounds.{least, left, Partly}
 use Rattle.csv_repeats.proofs.Seen.{back, back-append, sized, few-sized, any-append, sameRun, begunAfter, begun-all}
 use Rattle.csv_repeats.proofs.Standings.{Says, away, none-back}
 use Rattle.csv_repeats.proofs.Laws.{row-alike}
-use Rattle.csv_repeats.proofs.Kept.{Kept, Near, kept-starts, stands-says, stands-left, stands-kept}
+use Rattle.csv_repeats.proofs.Kept.{Kept, Near, kept-starts, kept-places, stands-says, stands-left, stands-kept}
 use Rattle.csv_repeats.proofs.Firsts.{least-none, least-early, first-late, Alone, alone-ends, alone-met}
 
 -- ---- as long as every number is kept
@@ -149,6 +151,25 @@ module _ (f : List ℕ) (first k : ℕ) (places before : List ℕ) (at unkept st
         few = λ y. (omega (arith, G .start-is), omega (arith, G .start-is, G .unkept-is, few-sized (G .kept) (G .kept-sizes)));
       }
 
+-- ---- the table, and the rows to come
+module _ (f : List ℕ) (first k : ℕ) (places before : List ℕ) (at unkept start line returns count : ℕ) (G : Going f first k places before at unkept start line returns count) where
+  pub going-places : Places f places
+  going-places =
+      cases (eqb unkept 0)
+      (λ q. let K = G .keeping (eqb-true unkept 0 q) in kept-places f (K .seen) places (K .kept-are))
+      (λ q. let L = G .leaving (eqb-false unkept 0 q) in kept-places f (L .kept) places (L .kept-are))
+
+  pub going-converts : all rowConverts (linesFrom f first) ≡ true → all rowConverts (linesFrom f at) ≡ true
+  going-converts h =
+      cases (eqb unkept 0)
+      (λ q. let K = G .keeping (eqb-true unkept 0 q) in behind (K .seen) (linesFrom f first) (linesFrom f at) (K .lines) h)
+      (λ q.
+      let L = G .leaving (eqb-false unkept 0 q) in
+      behind (L .late) (linesFrom f unkept) (linesFrom f at) (L .late-are) (behind (L .kept) (linesFrom f first) (linesFrom f unkept) (L .lines) h))
+    where
+      behind : (seen ls rest : List Line) → ls ≡ back seen rest → all rowConverts ls ≡ true → all rowConverts rest ≡ true
+      behind seen ls rest e h = all-parts rowConverts (back seen []) rest (rw (e, back-append seen rest) at h) .1
+
 -- ---- the end
 module _ (f : List ℕ) (first k : ℕ) (places before : List ℕ) (at unkept start line returns count : ℕ) (G : Going f first k places before at unkept start line returns count)
     (e : linesFrom f at ≡ []) where
@@ -187,6 +208,12 @@ module _ (f : List ℕ) (first k : ℕ) (places before : List ℕ) (at unkept st
       cases (eqb unkept 0)
       (λ q. let K = G .keeping (eqb-true unkept 0 q) in omega (arith, K .runs-are, none (K .seen)))
       (λ q. let L = G .leaving (eqb-false unkept 0 q) in omega (arith, L .runs-are, none (L .late ++ L .kept)))
+
+few-begun : (s : Standing) → begun s ≤ 1
+few-begun Same = omega arith
+few-begun New = omega arith
+few-begun Back = omega arith
+few-begun Differs = omega arith
 
 -- ---- a row more, which converts
 module _ (f : List ℕ) (first k : ℕ) (places before : List ℕ) (at line returns count : ℕ) (known : Bool)
@@ -395,6 +422,10 @@ module _ (f : List ℕ) (first k : ℕ) (places before : List ℕ) (at line retu
               cases (eqb returns 0)
               (λ u. cases (isBack s) (λ v. absurd (let l : p ≡ line = q ∙ rw (u, v) in omega (arith, line-late, start-some))) (λ v. (eqb-true returns 0 u, v)))
               (λ u. absurd (eqb-false returns 0 u (let l : p ≡ returns = q ∙ rw u in sym l ∙ e)))
+
+  -- a row begins one run at most
+  pub with-few : (unkept start : ℕ) (o m d p r : ℕ) (after : List ℕ) → WithRow f first at before spans places unkept start line returns count o m d p r after → r ≤ count + 1
+  with-few unkept start o m d p r after W = omega (arith, W .runs, few-begun (W .standing))
 
   -- ---- either
   module _ (unkept start : ℕ) (G : Going f first k places before at unkept start line returns count) (c : rowConverts row ≡ true) (z : at ≡ 0 → ⊥)

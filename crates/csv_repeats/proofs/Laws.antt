@@ -2,18 +2,18 @@
 use mathlib.Core.Path.{_≡_, refl, sym, ap, _∙_}
 use mathlib.Core.Bool.{Bool, true, false, cond, _&&_}
 use mathlib.Core.List.{List, [], _∷_, _++_}
-use Prim.Native.Nat.{ℕ, _+_, _-_, _≤_, _<_}
+use Prim.Native.Nat.{ℕ, _+_, _*_, _≤_, _<_}
 use native.Mathlib.Omega.{arith}
 use borrow.Author.Tests.{eq-eqb, ne-eqb}
 use lib.Dec.{eqb, ltb}
-use lib.ListN.{length}
+use lib.ListN.{length, getD, replicate, getD-replicate}
 use Rattle.rules.specs.declared.Name.the-variants.{Pid, Pv1}
 use Rattle.rules.specs.Lists.{same}
 use Rattle.rules.proofs.Logic.{cases, never}
 use Rattle.csv_rules.specs.Quote.{Items, Line}
 use Rattle.csv_rules.specs.Columns.{numberOf}
 use Rattle.csv_rules.specs.Sheets.{sameNumber, sizes}
-use Rattle.csv_rows.specs.Rows.{linesFrom, rowAt, Spans, RowIs}
+use Rattle.csv_rows.specs.Rows.{linesFrom, rowAt, Inside, Spans, RowIs}
 use Rattle.csv_rows.proofs.Laws.{row-lines, row-broken}
 use Rattle.csv_rows.proofs.Tied.{tied-raw, tied-number}
 use Rattle.csv_repeats.specs.declared.Standing.{Standing}
@@ -39,6 +39,13 @@ row-alike f spans items P = record {
   pid = tied-raw f spans items P Pid;
   pv1 = tied-raw f spans items P Pv1;
 }
+
+-- no row yet
+nothing-there : (f : List ℕ) (n : ℕ) → n < 45 → getD (replicate 90 0) (2 * n) 0 + getD (replicate 90 0) (2 * n + 1) 0 ≤ length f
+nothing-there f n h = omega (arith, getD-replicate {A = ℕ} 90 (2 * n) 0 0 (omega arith), getD-replicate {A = ℕ} 90 (2 * n + 1) 0 0 (omega arith))
+
+pub nowhere : (f before : List ℕ) → before ≡ replicate 90 0 → Inside f before
+nowhere f before e = rw e (record { size = refl; inside = nothing-there f })
 
 -- ---- a row that is kept of a number
 module _ (f : List ℕ) (p : ℕ) (T : RowThere f p) where
