@@ -1,4 +1,4 @@
-//! The commercial centre's file that is timed: 45 columns, one to eight results a number.
+//! The commercial centre's file that is timed: 45 columns, one result a number or one to eight.
 
 use oul_tests::unpaired;
 
@@ -44,18 +44,18 @@ pub fn in_turn(n: usize) -> String {
     n.to_string()
 }
 
-/// Ten digits that tell nothing of those before.
+/// Ten digits that tell nothing of those before; no two are alike, for each step can be undone.
 pub fn in_no_order(n: usize) -> String {
-    let mut mixed = n as u64;
+    let mut mixed = n as u32;
     for _ in 0..3 {
-        mixed = mixed.wrapping_mul(9_201_743_158_302_551_713);
-        mixed ^= mixed >> 29;
+        mixed = mixed.wrapping_mul(2_654_435_769);
+        mixed ^= mixed >> 15;
     }
-    format!("{:010}", mixed % 10_000_000_000)
+    format!("{mixed:010}")
 }
 
-/// A file of so many bytes at most, with as many results as go into it.
-pub fn file(bytes: usize, number_text: Number) -> Vec<u8> {
+/// A file of so many bytes at most, with as many results as go into it: one to so many a number.
+pub fn file(bytes: usize, number_text: Number, results: usize) -> Vec<u8> {
     let mut file = Vec::new();
     write_line(&["Ver1.00", "45", "20140318"], &mut file);
     write_line(
@@ -63,7 +63,7 @@ pub fn file(bytes: usize, number_text: Number) -> Vec<u8> {
         &mut file,
     );
     for number in 1.. {
-        for result in 0..1 + number * 7 % 8 {
+        for result in 0..1 + number * 7 % results {
             let before = file.len();
             write_line(&row(number, &number_text(number), result), &mut file);
             if file.len() > bytes {

@@ -136,14 +136,15 @@ fn sheets_of_files() {
         "| Numbers | Bytes | Sheets | Rust, ms | Library, ms | Ratio | growth of Rust | of the library |"
     );
     println!("|---|---|---|---|---|---|---|---|");
-    let numbers: [(&str, files::Number); 2] = [
-        ("in turn", files::in_turn),
-        ("in no order", files::in_no_order),
+    let numbers: [(&str, files::Number, usize, [usize; 4]); 3] = [
+        ("in turn", files::in_turn, 8, [1, 2, 4, 8]),
+        ("in no order", files::in_no_order, 8, [1, 2, 4, 8]),
+        ("one a row", files::in_no_order, 1, [8, 16, 32, 64]),
     ];
-    for (name, text) in numbers {
+    for (name, text, results, sizes) in numbers {
         let mut before = None;
-        for megabytes in [1, 2, 4, 8] {
-            let file = files::file(megabytes * 1_000_000, text);
+        for megabytes in sizes {
+            let file = files::file(megabytes * 1_000_000, text, results);
             let times = sheets_of_file(name, &file, before);
             before = Some(times);
         }

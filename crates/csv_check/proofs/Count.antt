@@ -13,7 +13,7 @@ use Rattle.rules.proofs.Logic.{cases, never, both}
 use Rattle.rules.proofs.Lists.{here, over}
 use Rattle.csv_rules.specs.Count.{numeral, counts}
 use Rattle.csv_rules.specs.Written.{halved}
-use Rattle.csv_check.specs.Walk.{capped, goesOn, ColumnsAre}
+use Rattle.csv_check.specs.Walk.{capped, withDigit, ColumnsAre}
 
 -- ---- a number as far as the code counts
 abbrev top : ℕ
@@ -46,8 +46,8 @@ capped-on : (n m d : ℕ) → capped n ≡ capped m → capped (10 * n + d) ≡ 
 capped-on n m d e =
     sameCapped n m e (ap (λ (k : ℕ). capped (10 * k + d))) (λ p q. capped-high (10 * n + d) (omega arith) ∙ sym (capped-high (10 * m + d) (omega arith)))
 
-goes-capped : (n b : ℕ) → capped (10 * n + (b - 48)) ≡ capped (goesOn n b)
-unfolding goesOn
+goes-capped : (n b : ℕ) → capped (10 * n + (b - 48)) ≡ capped (withDigit n b)
+unfolding withDigit
 goes-capped n b =
     cases (ltb n 1000000000000000000)
     (λ e. rw e)
@@ -63,12 +63,12 @@ numeral-capped (b ∷ s) n m e = numeral-capped s (10 * n + (b - 48)) (10 * m + 
 pub digit-low : (b : ℕ) → digit b ≡ true → 48 ≤ b
 digit-low b h = leb-true 48 b (both (leb 48 b) (leb b 57) h .0)
 
-pub goes-low : (n b : ℕ) → n < 1000000000000000000 → 10 * n + (b - 48) ≡ goesOn n b
-unfolding goesOn
+pub goes-low : (n b : ℕ) → n < 1000000000000000000 → 10 * n + (b - 48) ≡ withDigit n b
+unfolding withDigit
 goes-low n b h = rw (lt-ltb n 1000000000000000000 h)
 
-pub goes-high : (n b : ℕ) → 1000000000000000000 ≤ n → 10000000000000000000 ≡ goesOn n b
-unfolding goesOn
+pub goes-high : (n b : ℕ) → 1000000000000000000 ≤ n → 10000000000000000000 ≡ withDigit n b
+unfolding withDigit
 goes-high n b h = rw (le-ltb n 1000000000000000000 h)
 
 -- ---- digits as they lie in the file: no quote is among them
@@ -134,7 +134,7 @@ module _ (s : List ℕ) (i n : ℕ) (p : Counting s i n) where
     pub count-digit : not d ≡ false → digit (getD s i 0) ≡ true
     count-digit g = sym e ∙ not-false d g
 
-    pub count-on : not d ≡ false → (r : ℕ) → r ≡ goesOn n (getD s i 0) → Counting s (i + 1) r
+    pub count-on : not d ≡ false → (r : ℕ) → r ≡ withDigit n (getD s i 0) → Counting s (i + 1) r
     unfolding all numeral
     count-on g r q = record {
       place = omega arith;

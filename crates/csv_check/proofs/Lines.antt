@@ -163,7 +163,6 @@ module _ (f : List ℕ) (number at lines miscounted unconverted first : ℕ) (p 
     counted = λ m h. sym (sym (off-first m (linesIn (cut f))) ∙ p .counted m h ∙ ap (λ (ls : List Line). orElse miscounted (firstOff m (suc lines) ls)) e ∙ found-all miscounted);
     converted = sym (p .converted ∙ ap (λ (ls : List Line). orElse unconverted (firstNot rowConverts (suc lines) ls)) e ∙ found-all unconverted);
     rows = let k : sizes (take (2 - lines) (from f at)) ≡ 0 = ap (λ (ls : List Line). sizes (take (2 - lines) ls)) e ∙ none (2 - lines) in omega (arith, p .rows);
-    inside = omega (arith, p .place, p .before);
   }
     where
       none : (n : ℕ) → sizes (take n []) ≡ 0
@@ -312,5 +311,4 @@ look-all f good number c b lines miscounted unconverted first w r e = record {
   counted = e ∙ spot-line (linesIn (cut f)) good number lines miscounted c (w .counts) (w .counted);
   converted = w .converted;
   rows = w .rows;
-  inside = w .inside;
 }

@@ -1,13 +1,13 @@
 -- 50 to 54 over the whole file, in order, each with the line where it is met. Assumes nothing.
 use mathlib.Core.Path.{_≡_, refl, sym, ap, _∙_}
 use mathlib.Core.Bool.{Bool, true, false, not}
-use mathlib.Core.List.{List, [], _∷_}
+use mathlib.Core.List.{List, [], _∷_, _++_}
 use Prim.Native.Nat.{ℕ, suc, _+_, _≤_}
 use native.Mathlib.Numerals.{add-one}
 use native.Mathlib.Omega.{arith}
 use borrow.Author.Tests.{ne-eqb}
 use lib.Dec.{eqb}
-use lib.ListN.{length, drop}
+use lib.ListN.{length, take, drop, take-append-drop}
 use Rattle.rules.specs.Told.{gives}
 use Rattle.rules.specs.Lists.{nth, all}
 use Rattle.rules.proofs.Logic.{cases}
@@ -18,9 +18,12 @@ use Rattle.csv_rules.specs.Quote.{cut, isBroken, Line, linesIn}
 use Rattle.csv_rules.specs.Count.{numeral, counts, counted}
 use Rattle.csv_rules.specs.Sheets.{rowConverts, differ, runs, returns, csvTold, firstRow, csvCount}
 use Rattle.csv_rules.specs.Spot.{firstNot, firstAfter, countLine, clashes, comesBack, csvSpot}
-use Rattle.csv_rules.proofs.Order.{skip}
+use Rattle.csv_rules.proofs.Order.{skip, all-parts}
+use Rattle.csv_repeats.specs.Rounds.{left}
+use Rattle.csv_repeats.proofs.Firsts.{least-zero}
+use Rattle.csv_rounds.specs.Settled.{Unsettled, Settled}
 use Rattle.csv_check.specs.Looked.{LookedIs}
-use Rattle.csv_check.specs.Repeats.{RepeatsIs, RepeatsAre}
+use Rattle.csv_check.specs.Repeats.{WalkedRows, RepeatsAre}
 use Rattle.csv_check.proofs.Tells.{clash-told, back-told}
 use Rattle.csv_check.specs.declared.Verdict.{Verdict}
 use Rattle.csv_check.specs.declared.Verdict.the-variants.{Right, Wrong}
@@ -91,9 +94,9 @@ module _ {f : List ℕ} {broken : Bool} {lines miscounted unconverted first : �
       unconverted-line v k e = rw (e, quoted, zero-count, ← L .converted, some-line unconverted k)
 
       -- 53 and 54, where none of these is met
-      module _ (u : unconverted ≡ 0) {differs returned count : ℕ} (A : RepeatsAre f broken lines unconverted first differs returned count) where
-        R : RepeatsIs f first differs returned count
-        R = A .rows h (rw (L .counts) (two-lines ls zero-count)) u
+      module _ (u : unconverted ≡ 0) {d₀ r₀ count unkept line : ℕ} (A : RepeatsAre f broken lines unconverted first d₀ r₀ count unkept line) where
+        W : WalkedRows f first d₀ r₀ count unkept line
+        W = A .rows h (rw (L .counts) (two-lines ls zero-count)) u
 
         zero-unconverted : firstNot rowConverts 1 ls ≡ 0
         zero-unconverted = sym (L .converted) ∙ u
@@ -108,48 +111,62 @@ module _ {f : List ℕ} {broken : Bool} {lines miscounted unconverted first : �
         unfolding firstRow
         rows-from = rw (L .rows) (skip 2 f (cut f) refl .rows)
 
-        first-clash : firstAfter clashes 3 [] (drop 2 ls) ≡ differs
-        first-clash = ap (firstAfter clashes 3 []) (sym rows-from) ∙ sym (R .clash)
+        pub unsettled : Unsettled f unkept line
+        unsettled = record {
+          converts =
+              let k : all rowConverts (drop 2 ls) ≡ true = all-parts rowConverts (take 2 ls) (drop 2 ls) (rw (take-append-drop 2 ls) good-lines) .1 in
+              let m : all rowConverts (W .partly .kept ++ left f unkept) ≡ true = ap (all rowConverts) (sym (W .partly .parts) ∙ rows-from) ∙ k in
+              all-parts rowConverts (W .partly .kept) (left f unkept) m .1;
+          place = λ z. W .partly .place z .1;
+          few = λ z. let q = W .partly .few z in (omega (arith, q .0), omega (arith, q .1, W .heads));
+        }
 
-        differs-told : differ (drop 2 ls) ≡ not (eqb differs 0)
-        differs-told = clash-told (drop 2 ls) ∙ ap (λ (n : ℕ). not (eqb n 0)) first-clash
+        module _ {differs returned : ℕ} (Z : Settled f d₀ r₀ unkept line differs returned) where
+          first-clash : firstAfter clashes 3 [] (drop 2 ls) ≡ differs
+          first-clash = ap (firstAfter clashes 3 []) (sym rows-from) ∙ W .partly .clash ∙ sym (Z .clash)
 
-        pub header-told : (v : Verdict) → (differs ≡ 0 → ⊥) → v ≡ wrong HeaderDiffers differs → toldVerdict v ≡ csvCount f
-        unfolding csvCount csvTold
-        header-told v k e = rw (e, quoted, good-count, good-lines, differs-told, some-line differs k)
+          differs-told : differ (drop 2 ls) ≡ not (eqb differs 0)
+          differs-told = clash-told (drop 2 ls) ∙ ap (λ (n : ℕ). not (eqb n 0)) first-clash
 
-        pub header-line : (v : Verdict) → (differs ≡ 0 → ⊥) → v ≡ wrong HeaderDiffers differs → lineOf v ≡ csvSpot f
-        unfolding csvSpot
-        header-line v k e = rw (e, quoted, zero-count, zero-unconverted, first-clash, some-line differs k)
-
-        module _ (d : differs ≡ 0) where
-          no-clash : differ (drop 2 ls) ≡ false
-          no-clash = differs-told ∙ ap (λ (n : ℕ). not (eqb n 0)) d
-
-          first-back : firstAfter comesBack 3 [] (drop 2 ls) ≡ returned
-          first-back = ap (firstAfter comesBack 3 []) (sym rows-from) ∙ sym (R .back d)
-
-          back-is : returns (runs (drop 2 ls)) ≡ not (eqb returned 0)
-          back-is = back-told (drop 2 ls) ∙ ap (λ (n : ℕ). not (eqb n 0)) first-back
-
-          pub returns-told : (v : Verdict) → (returned ≡ 0 → ⊥) → v ≡ wrong Returns returned → toldVerdict v ≡ csvCount f
+          pub header-told : (v : Verdict) → (differs ≡ 0 → ⊥) → v ≡ wrong HeaderDiffers differs → toldVerdict v ≡ csvCount f
           unfolding csvCount csvTold
-          returns-told v k e = rw (e, quoted, good-count, good-lines, no-clash, back-is, some-line returned k)
+          header-told v k e = rw (e, quoted, good-count, good-lines, differs-told, some-line differs k)
 
-          pub returns-line : (v : Verdict) → (returned ≡ 0 → ⊥) → v ≡ wrong Returns returned → lineOf v ≡ csvSpot f
+          pub header-line : (v : Verdict) → (differs ≡ 0 → ⊥) → v ≡ wrong HeaderDiffers differs → lineOf v ≡ csvSpot f
           unfolding csvSpot
-          returns-line v k e = rw (e, quoted, zero-count, zero-unconverted, first-clash, d, first-back)
+          header-line v k e = rw (e, quoted, zero-count, zero-unconverted, first-clash, some-line differs k)
 
-          module _ (b : returned ≡ 0) where
-            pub right-told : (c : CsvSheets) → c ≡ record { count = count; first = first } → toldVerdict (Right c) ≡ csvCount f
+          module _ (d : differs ≡ 0) where
+            none-walked : d₀ ≡ 0
+            none-walked = least-zero d₀ (firstAfter clashes line [] (left f unkept)) (sym (Z .clash) ∙ d) .0
+
+            no-clash : differ (drop 2 ls) ≡ false
+            no-clash = differs-told ∙ ap (λ (n : ℕ). not (eqb n 0)) d
+
+            first-back : firstAfter comesBack 3 [] (drop 2 ls) ≡ returned
+            first-back = ap (firstAfter comesBack 3 []) (sym rows-from) ∙ W .partly .back none-walked ∙ sym (Z .back d)
+
+            back-is : returns (runs (drop 2 ls)) ≡ not (eqb returned 0)
+            back-is = back-told (drop 2 ls) ∙ ap (λ (n : ℕ). not (eqb n 0)) first-back
+
+            pub returns-told : (v : Verdict) → (returned ≡ 0 → ⊥) → v ≡ wrong Returns returned → toldVerdict v ≡ csvCount f
             unfolding csvCount csvTold
-            right-told c e =
-                rw (e, quoted, good-count, good-lines, no-clash, back-is, b)
-                (ap (λ (k : CsvSheets). gives k) (ap (λ (n : ℕ). sheets n first) (R .runs d ∙ ap (λ (x : List Line). length (runs x)) rows-from) ∙ ap (sheets (length (runs (drop 2 ls)))) (L .rows)))
-              where
-                sheets : ℕ → ℕ → CsvSheets
-                sheets n k = record { count = n; first = k }
+            returns-told v k e = rw (e, quoted, good-count, good-lines, no-clash, back-is, some-line returned k)
 
-            pub right-line : 0 ≡ csvSpot f
+            pub returns-line : (v : Verdict) → (returned ≡ 0 → ⊥) → v ≡ wrong Returns returned → lineOf v ≡ csvSpot f
             unfolding csvSpot
-            right-line = rw (quoted, zero-count, zero-unconverted, first-clash, d, first-back, b)
+            returns-line v k e = rw (e, quoted, zero-count, zero-unconverted, first-clash, d, first-back)
+
+            module _ (b : returned ≡ 0) where
+              pub right-told : (c : CsvSheets) → c ≡ record { count = count; first = first } → toldVerdict (Right c) ≡ csvCount f
+              unfolding csvCount csvTold
+              right-told c e =
+                  rw (e, quoted, good-count, good-lines, no-clash, back-is, b)
+                  (ap (λ (k : CsvSheets). gives k) (ap (λ (n : ℕ). sheets n first) (W .runs none-walked ∙ ap (λ (x : List Line). length (runs x)) rows-from) ∙ ap (sheets (length (runs (drop 2 ls)))) (L .rows)))
+                where
+                  sheets : ℕ → ℕ → CsvSheets
+                  sheets n k = record { count = n; first = k }
+
+              pub right-line : 0 ≡ csvSpot f
+              unfolding csvSpot
+              right-line = rw (quoted, zero-count, zero-unconverted, first-clash, d, first-back, b)

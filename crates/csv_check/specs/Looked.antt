@@ -2,7 +2,7 @@
 use mathlib.Core.Path.{_≡_}
 use mathlib.Core.Bool.{Bool}
 use mathlib.Core.List.{List}
-use Prim.Native.Nat.{ℕ, _≤_}
+use Prim.Native.Nat.{ℕ}
 use lib.ListN.{length}
 use Rattle.csv_rules.specs.Quote.{cut, isBroken, linesIn}
 use Rattle.csv_rules.specs.Sheets.{rowConverts, firstRow}
@@ -14,4 +14,3 @@ pub record LookedIs (f : List ℕ) (broken : Bool) (lines miscounted unconverted
   pub counted : miscounted ≡ countLine (linesIn (cut f))
   pub converted : unconverted ≡ firstNot rowConverts 1 (linesIn (cut f))
   pub rows : first ≡ firstRow f
-  pub inside : first ≤ length f

@@ -2,7 +2,7 @@
 use mathlib.Core.Path.{_≡_}
 use mathlib.Core.Bool.{Bool, true, cond, not, _&&_}
 use mathlib.Core.List.{List, [], _∷_}
-use Prim.Native.Nat.{ℕ, _+_, _-_, _*_, _≤_}
+use Prim.Native.Nat.{ℕ, _+_, _-_, _*_}
 use lib.Dec.{eqb, ltb}
 use lib.ListN.{length, take, drop}
 use Rattle.rules.specs.Lists.{nth}
@@ -17,8 +17,8 @@ unfoldable pub capped : ℕ → ℕ
 capped n = cond (ltb n 10000000000000000000) n 10000000000000000000
 
 -- a number and a digit behind it
-unfoldable pub goesOn : ℕ → ℕ → ℕ
-goesOn n b = cond (ltb n 1000000000000000000) (10 * n + (b - 48)) 10000000000000000000
+unfoldable pub withDigit : ℕ → ℕ → ℕ
+withDigit n b = cond (ltb n 1000000000000000000) (10 * n + (b - 48)) 10000000000000000000
 
 -- of an item v
 pub record ColumnsAre (v : List ℕ) (good : Bool) (number : ℕ) : Type 0 where
@@ -44,4 +44,3 @@ pub record WalkIs (f : List ℕ) (number : ℕ) (broken : Bool) (lines miscounte
   pub counted : (m : ℕ) → capped number ≡ capped m → miscounted ≡ firstNot (λ (r : Line). eqb (length (r .items)) m) 3 (drop 2 (linesIn (cut f)))
   pub converted : unconverted ≡ firstNot rowConverts 1 (linesIn (cut f))
   pub rows : first ≡ sizes (take 2 (linesIn (cut f)))
-  pub inside : first ≤ length f

@@ -1,4 +1,5 @@
-// 50 to 54 over the commercial centre's file (Req 01), in one walk over its lines, once the column count is read.
+// 50 to 54 over the commercial centre's file (Req 01), in one walk over its lines, once the column count is read, and further rounds over the rows
+// whose numbers the table of that walk could not keep.
 use csv_repeats::Repeated;
 use csv_rules::CsvSheets;
 use csv_rules::Fault;
@@ -10,13 +11,13 @@ ghost use Rattle.csv_rules.specs.Quote.{cut, linesIn};
 ghost use Rattle.csv_rules.specs.Sheets.{csvCount};
 ghost use Rattle.csv_rules.specs.Spot.{csvSpot};
 ghost use Rattle.csv_rules.specs.Written.{halved};
-ghost use Rattle.csv_check.specs.Walk.{goesOn, firstFound, countSpot, ColumnsAre, columnItem, WalkIs};
+ghost use Rattle.csv_check.specs.Walk.{withDigit, firstFound, countSpot, ColumnsAre, columnItem, WalkIs};
 ghost use Rattle.csv_check.specs.Repeats.{Askable, WithRowIf, RepeatsAre};
 ghost use Rattle.csv_check.specs.Looked.{LookedIs};
 ghost use Rattle.csv_check.specs.Verdicts.{toldVerdict, lineOf};
 
 // Whether the quoting is broken; the lines before the end, or before the one that breaks it; where 51 and 52 are met, by line, 0 where they aren't;
-// 53 and 54, where none of these is met; where the first row begins.
+// 53 and 54, where none of these is met, as far as the table keeps the numbers; where the first row begins.
 struct Looked {
     broken: bool,
     lines: usize,
@@ -41,7 +42,7 @@ fn is_digit(b: u8) -> bool
 // A number with one more digit.
 fn one_more(n: usize, b: u8) -> usize
     requires { ⌜ digit b ≡ true ⌝ }
-    ensures { λ r. ⌜ r ≡ goesOn n b ⌝ }
+    ensures { λ r. ⌜ r ≡ withDigit n b ⌝ }
 {
     if n < 1000000000000000000 {
         return 10 * n + (b - 48) as usize;
@@ -132,7 +133,7 @@ fn columns_of(file: &[u8]) -> Columns
 fn with_row_if(
     asked: bool,
     met: Repeated,
-    line: usize,
+    k: usize,
     file: &[u8],
     first: usize,
     at: usize,
@@ -140,11 +141,11 @@ fn with_row_if(
     spans: &[usize; 90],
     places: &mut [u32; 65536],
 ) -> Repeated
-    requires { ⌜ Askable (now file) at (now before) (now spans) (now places) (met .unkept) (met .count) asked ⌝ }
-    ensures { λ r. ⌜ WithRowIf (now (file .entry)) first at (now (before .entry)) (now (spans .entry)) (now (places .entry)) (met .unkept) line (met .differs) (met .returns) (met .count) asked (r .unkept) (r .differs) (r .returns) (r .count) (now (places .exit)) ⌝ }
+    requires { ⌜ Askable (now file) at (now before) (now spans) (now places) (met .count) asked ⌝ }
+    ensures { λ r. ⌜ WithRowIf (now (file .entry)) first at (now (before .entry)) (now (spans .entry)) (now (places .entry)) (met .unkept) (met .line) k (met .differs) (met .returns) (met .count) asked (r .unkept) (r .line) (r .differs) (r .returns) (r .count) (now (places .exit)) ⌝ }
 {
     if asked {
-        return csv_repeats::with_row(met, line, file, first, at, before, spans, places);
+        return csv_repeats::with_row(met, k, file, first, at, before, spans, places);
     }
     met
 }
@@ -153,7 +154,7 @@ fn with_row_if(
 // as long as every line converts and no row differs.
 fn walked(file: &[u8], number: usize) -> Looked
     ensures { λ r. ⌜ WalkIs (now (file .entry)) number (r .broken) (r .lines) (r .miscounted) (r .unconverted) (r .first) ⌝ }
-    ensures rows { λ r. ⌜ RepeatsAre (now (file .entry)) (r .broken) (r .lines) (r .unconverted) (r .first) (r .repeats .differs) (r .repeats .returns) (r .repeats .count) ⌝ }
+    ensures rows { λ r. ⌜ RepeatsAre (now (file .entry)) (r .broken) (r .lines) (r .unconverted) (r .first) (r .repeats .differs) (r .repeats .returns) (r .repeats .count) (r .repeats .unkept) (r .repeats .line) ⌝ }
 {
     let mut places = csv_places::empty();
     let mut before = [0usize; 90];
@@ -166,6 +167,7 @@ fn walked(file: &[u8], number: usize) -> Looked
         returns: 0,
         count: 0,
         unkept: 0,
+        line: 0,
     };
     let mut first = 0;
     while at < file.len() {
@@ -215,7 +217,7 @@ fn walked(file: &[u8], number: usize) -> Looked
 // Looks over a file: 50 to 54.
 fn look(file: &[u8]) -> Looked
     ensures { λ r. ⌜ LookedIs (now (file .entry)) (r .broken) (r .lines) (r .miscounted) (r .unconverted) (r .first) ⌝ }
-    ensures rows { λ r. ⌜ RepeatsAre (now (file .entry)) (r .broken) (r .lines) (r .unconverted) (r .first) (r .repeats .differs) (r .repeats .returns) (r .repeats .count) ⌝ }
+    ensures rows { λ r. ⌜ RepeatsAre (now (file .entry)) (r .broken) (r .lines) (r .unconverted) (r .first) (r .repeats .differs) (r .repeats .returns) (r .repeats .count) (r .repeats .unkept) (r .repeats .line) ⌝ }
 {
     let columns = columns_of(file);
     let w = walked(file, columns.number);
@@ -263,7 +265,8 @@ pub fn verdict_on(file: &[u8]) -> Verdict
     if found.unconverted != 0 {
         return wrong(Fault::Unconverted, found.unconverted);
     }
-    let repeats = found.repeats;
+    let walked = found.repeats;
+    let repeats = csv_rounds::settled(file, walked);
     if repeats.differs != 0 {
         return wrong(Fault::HeaderDiffers, repeats.differs);
     }
@@ -271,7 +274,7 @@ pub fn verdict_on(file: &[u8]) -> Verdict
         return wrong(Fault::Returns, repeats.returns);
     }
     Verdict::Right(CsvSheets {
-        count: repeats.count,
+        count: walked.count,
         first: found.first,
     })
 }

@@ -5,7 +5,7 @@ use mathlib.Core.Bool.{Bool, true, false, cond}
 use mathlib.Core.List.{List, [], _∷_}
 use Prim.Native.Nat.{ℕ, zero, suc, _+_, _*_, _%_, _<_}
 use lib.Dec.{eqb, ltb}
-use lib.ListN.{length, drop, getD, set}
+use lib.ListN.{length, getD, set}
 use Rattle.rules.specs.Lists.{same, any}
 use Rattle.csv_rules.specs.Quote.{Items, Line}
 use Rattle.csv_rules.specs.Columns.{numberOf}

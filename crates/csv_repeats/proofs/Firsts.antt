@@ -1,7 +1,7 @@
 -- The first line that a test tells of some rows, where the test looks at the rows before: without some of these, and of two such lines the first. Assumes
 -- nothing.
 use mathlib.Core.Path.{_≡_, refl, sym, ap, _∙_}
-use mathlib.Core.Bool.{Bool, true, false, cond}
+use mathlib.Core.Bool.{Bool, true, false}
 use mathlib.Core.List.{List, [], _∷_, _++_}
 use Prim.Native.Nat.{ℕ, suc, _+_, _≤_, _<_}
 use native.Mathlib.Omega.{arith}
@@ -18,6 +18,16 @@ use Rattle.csv_repeats.proofs.Seen.{back}
 pub least-none : (a : ℕ) → least a 0 ≡ a
 unfolding least
 least-none a = cases (eqb a 0) (λ e. rw e (sym (eqb-true a 0 e))) (λ e. rw e)
+
+pub least-zero : (a b : ℕ) → least a b ≡ 0 → (a ≡ 0) × (b ≡ 0)
+unfolding least
+least-zero a b h =
+    cases (eqb a 0) (λ q. (eqb-true a 0 q, rw q at h))
+    (λ q.
+    absurd
+    (cases (eqb b 0)
+    (λ y. eqb-false a 0 q (rw (q, y) at h))
+    (λ y. cases (ltb b a) (λ w. eqb-false b 0 y (rw (q, y, w) at h)) (λ w. eqb-false a 0 q (rw (q, y, w) at h)))))
 
 pub least-early : (a b : ℕ) → 0 < a → ((b ≡ 0 → ⊥) → a ≤ b) → least a b ≡ a
 unfolding least

@@ -1,7 +1,7 @@
 -- The laws of the look back. Assumes nothing.
 use mathlib.Core.Path.{_≡_, refl, sym, ap, _∙_}
 use mathlib.Core.Bool.{Bool, true, false, cond, _&&_}
-use mathlib.Core.List.{List, [], _∷_, _++_}
+use mathlib.Core.List.{List, _∷_}
 use Prim.Native.Nat.{ℕ, _+_, _*_, _≤_, _<_}
 use native.Mathlib.Omega.{arith}
 use borrow.Author.Tests.{eq-eqb, ne-eqb}
@@ -11,8 +11,7 @@ use Rattle.rules.specs.declared.Name.the-variants.{Pid, Pv1}
 use Rattle.rules.specs.Lists.{same}
 use Rattle.rules.proofs.Logic.{cases, never}
 use Rattle.csv_rules.specs.Quote.{Items, Line}
-use Rattle.csv_rules.specs.Columns.{numberOf}
-use Rattle.csv_rules.specs.Sheets.{sameNumber, sizes}
+use Rattle.csv_rules.specs.Sheets.{sameNumber}
 use Rattle.csv_rows.specs.Rows.{linesFrom, rowAt, Inside, Spans, RowIs}
 use Rattle.csv_rows.proofs.Laws.{row-lines, row-broken}
 use Rattle.csv_rows.proofs.Tied.{tied-raw, tied-number}

@@ -1,18 +1,18 @@
 -- How a row stands to the rows before it says 53, 54 and whether a run begins. The rows before are those that are kept, and behind them the late ones,
 -- which aren't; the nearest first. Assumes nothing.
 use mathlib.Core.Path.{_≡_, refl, sym, ap, _∙_}
-use mathlib.Core.Bool.{Bool, true, false, cond, not, _||_}
+use mathlib.Core.Bool.{Bool, true, false, cond, not}
 use mathlib.Core.List.{List, [], _∷_, _++_}
 use Rattle.rules.specs.declared.Name.the-variants.{Pid, Pv1}
 use Rattle.rules.specs.Lists.{any, all}
-use Rattle.rules.proofs.Logic.{cases, never, both, or-false, or-true, or-assoc}
+use Rattle.rules.proofs.Logic.{cases, never, or-false, or-true}
 use Rattle.rules.proofs.Lists.{any-cons, any-nil, any-first, all-first}
 use Rattle.csv_rules.specs.Quote.{Items, Line}
 use Rattle.csv_rules.specs.Columns.{numberOf}
 use Rattle.csv_rules.specs.Raw.{rawKeys}
 use Rattle.csv_rules.specs.Sheets.{sameNumber, clash, differ, rowConverts}
 use Rattle.csv_rules.specs.Spot.{comesBack}
-use Rattle.csv_rules.proofs.Behind.{number-sym, among, one-for-all, new-agrees, none-over, clash-self}
+use Rattle.csv_rules.proofs.Behind.{number-sym, among, one-for-all, new-agrees, none-over}
 use Rattle.csv_rules.proofs.Raw.{agree-raw}
 use Rattle.csv_rules.proofs.Order.{all-parts}
 use Rattle.csv_repeats.specs.declared.Standing.{Standing}
@@ -115,14 +115,14 @@ module _ (kept : List Line) (l : Line) (lc : rowConverts l ≡ true) (sc : all r
       rw h (on-differs kept late l t))
 
 -- ---- the row before has its number
-on-same : (kept : List Line) (q : Line) (seen : List Line) (l : Line) → sameNumber (q .items) (l .items) ≡ true → comesBack (q ∷ seen) l ≡ false
+on-same : (q : Line) (seen : List Line) (l : Line) → sameNumber (q .items) (l .items) ≡ true → comesBack (q ∷ seen) l ≡ false
 unfolding comesBack
-on-same kept q seen l n = rw n
+on-same q seen l n = rw n
 
 same-back : (kept late : List Line) (l q : Line) (seen : List Line) → late ++ kept ≡ q ∷ seen → sameNumber (q .items) (l .items) ≡ true
     → comesBack (late ++ kept) l ≡ comesBack late l
 unfolding comesBack
-same-back kept [] l q seen e n = ap (λ (s : List Line). comesBack s l) e ∙ on-same kept q seen l n
+same-back kept [] l q seen e n = ap (λ (s : List Line). comesBack s l) e ∙ on-same q seen l n
 same-back kept (x ∷ late) l q seen e n =
     let o : x ≡ q = cc in
     let m : sameNumber (x .items) (l .items) ≡ true = rw o n in

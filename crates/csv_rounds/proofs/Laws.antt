@@ -1,16 +1,16 @@
 -- The laws of a round, and of round after round. Assumes nothing.
 use mathlib.Core.Path.{_≡_, refl, sym, ap, _∙_}
 use mathlib.Core.Bool.{Bool, true, false, cond, not, _&&_}
-use mathlib.Core.List.{List, [], _∷_, _++_}
-use Prim.Native.Nat.{ℕ, _+_, _-_, _*_, _≤_, _<_}
+use mathlib.Core.List.{List, [], _++_}
+use Prim.Native.Nat.{ℕ, _+_, _-_, _≤_, _<_}
 use native.Mathlib.Omega.{arith}
-use borrow.Author.Tests.{eqb-true, eqb-false, eq-eqb, ne-eqb, ltb-true, ltb-false, lt-ltb, le-ltb}
+use borrow.Author.Tests.{eqb-true, eqb-false, eq-eqb, ne-eqb, ltb-true, ltb-false}
 use lib.Dec.{eqb, ltb}
 use lib.ListN.{length, drop, length-drop, replicate}
 use lib.Seq.{drop-drop}
 use Rattle.rules.specs.Lists.{all}
 use Rattle.rules.proofs.Logic.{cases, both, never}
-use Rattle.rules.proofs.Lists.{all-first, rest-is}
+use Rattle.rules.proofs.Lists.{all-first}
 use Rattle.csv_rules.specs.Quote.{cut, Line, linesIn}
 use Rattle.csv_rules.specs.Sheets.{rowConverts}
 use Rattle.csv_rules.specs.Spot.{firstAfter, clashes, comesBack}
@@ -22,7 +22,7 @@ use Rattle.csv_places.specs.Slots.{Nothing}
 use Rattle.csv_repeats.specs.Looks.{WithRow}
 use Rattle.csv_repeats.specs.Rounds.{least, left, Partly}
 use Rattle.csv_repeats.proofs.Laws.{nowhere}
-use Rattle.csv_repeats.proofs.Firsts.{least-none, least-over}
+use Rattle.csv_repeats.proofs.Firsts.{least-none, least-zero, least-over}
 use Rattle.csv_repeats.proofs.Going.{Going, going-starts, going-places, going-converts, going-ends, going-met, going-on, with-few}
 use Rattle.csv_rounds.specs.Settled.{Unsettled, Settled}
 
@@ -153,16 +153,6 @@ rest-left f s start at e =
 
 rest-size : (f s : List ℕ) (start : ℕ) → s ≡ drop start f → length s ≡ length f - start
 rest-size f s start e = ap length e ∙ length-drop start f
-
-least-zero : (a b : ℕ) → least a b ≡ 0 → (a ≡ 0) × (b ≡ 0)
-unfolding least
-least-zero a b h =
-    cases (eqb a 0) (λ q. (eqb-true a 0 q, rw q at h))
-    (λ q.
-    absurd
-    (cases (eqb b 0)
-    (λ y. eqb-false a 0 q (rw (q, y) at h))
-    (λ y. cases (ltb b a) (λ w. eqb-false b 0 y (rw (q, y, w) at h)) (λ w. eqb-false a 0 q (rw (q, y, w) at h)))))
 
 -- those found by the first walk and the rows that it left, and what is found since
 pub record Settling (f : List ℕ) (differs₀ returns₀ unkept₀ line₀ differs returns unkept line : ℕ) : Type 0 where

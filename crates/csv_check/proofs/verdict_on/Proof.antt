@@ -1,7 +1,7 @@
 -- `csv_check::verdict_on` meets its contract. Assumes nothing.
 use native.Mathlib.Omega.{arith}
 use Rattle.csv_rules.proofs.Order.{few-lines}
-use Rattle.csv_check.proofs.Whole.{quoting-told, quoting-line, columns-told, columns-line, unconverted-told, unconverted-line, header-told, header-line, returns-told, returns-line, right-told, right-line}
+use Rattle.csv_check.proofs.Whole.{quoting-told, quoting-line, columns-told, columns-line, unconverted-told, unconverted-line, header-told, header-line, returns-told, returns-line, unsettled, right-told, right-line}
 use borrow.Author.Needs.{needs}
 use Rattle.csv_check.proofs.verdict_on.Statement.{statement}
 use Rattle.csv_check.proofs.verdict_on.Tie as tie
@@ -17,6 +17,9 @@ returns-2 c = (search (columns-told, needs), search (columns-line, needs))
 
 returns-3 : tie.Need-returns-3
 returns-3 c = (search (unconverted-told, needs), search (unconverted-line, needs))
+
+settled-requires : tie.Need-settled-requires
+settled-requires c κs = search (unsettled, needs)
 
 returns-4 : tie.Need-returns-4
 returns-4 c = (search (header-told, needs), search (header-line, needs))
@@ -39,6 +42,7 @@ verdict-on-spec =
     returns-2
     (λ c κs. search needs)
     returns-3
+    settled-requires
     (λ c κs. search needs)
     returns-4
     (λ c κs. search needs)

@@ -9,7 +9,7 @@ use Rattle.csv_check.proofs.walked.Tie as tie
 
 abbrev Inv-loop : tie.InvT-loop
 Inv-loop file number places₀ before₀ at₀ lines₀ miscounted₀ unconverted₀ repeats₀ first₀ places before at lines miscounted unconverted repeats first =
-    Walking file number at lines miscounted unconverted first × Repeating file places before at lines unconverted first (repeats .unkept) (repeats .differs) (repeats .returns) (repeats .count)
+    Walking file number at lines miscounted unconverted first × Repeating file places before at lines unconverted first (repeats .unkept) (repeats .line) (repeats .differs) (repeats .returns) (repeats .count)
 
 abbrev μ-loop : tie.MeasureT-loop
 μ-loop file number places₀ before₀ at₀ lines₀ miscounted₀ unconverted₀ repeats₀ first₀ places before at lines miscounted unconverted repeats first = length file - at
@@ -33,7 +33,10 @@ add-behind : tie.Need-add-behind Inv-loop μ-loop
 add-behind c = search (walk-place, needs)
 
 loop-less : tie.Need-loop-less Inv-loop μ-loop
-loop-less c = search (walk-less, needs)
+loop-less c =
+    let begun = c .before .before .before .before .before .before .before .before .before .before .before in
+    walk-less _ _ _ _ _ _ _ (begun .before .before .before .loop .inv .0) _ _ _ _ _ (begun .before .row .ensures) (begun .if1 .left)
+    (search (begun .before .before .loop-test, needs))
 
 loop-again : tie.Need-loop-again Inv-loop μ-loop
 loop-again c =

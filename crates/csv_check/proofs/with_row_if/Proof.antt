@@ -1,11 +1,11 @@
 -- `csv_check::with_row_if` meets its contract. Assumes nothing.
 use borrow.Author.Needs.{needs}
-use Rattle.csv_check.proofs.Repeating.{ask-few, ask-place, ask-before, ask-row, ask-table, ask-through, if-asked, if-not}
+use Rattle.csv_check.proofs.Repeating.{ask-few, ask-place, ask-before, ask-row, ask-table, if-asked, if-not}
 use Rattle.csv_check.proofs.with_row_if.Statement.{statement}
 use Rattle.csv_check.proofs.with_row_if.Tie as tie
 
 with-row-requires : tie.Need-with-row-requires
-with-row-requires c κs = (search (ask-few, needs), search (ask-place, needs), search (ask-table, needs), search (ask-through, needs), search (ask-before, needs), search (ask-row, needs))
+with-row-requires c κs = (search (ask-few, needs), search (ask-place, needs), search (ask-table, needs), search (ask-before, needs), search (ask-row, needs))
 
 returns : tie.Need-returns
 returns c = search (if-asked, needs)

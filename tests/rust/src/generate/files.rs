@@ -221,7 +221,8 @@ fn fragment(random: &mut Random) -> Vec<u8> {
     file
 }
 
-/// Rows of seven columns, with hundreds of numbers that are much alike; one may return, or all.
+/// Rows of few columns, with hundreds of numbers that are much alike. All may return, and some at any
+/// place, with the patient of the others or with another.
 fn many_numbers(random: &mut Random) -> Vec<u8> {
     let (first, step) = (
         random.below(100_000),
@@ -241,22 +242,22 @@ fn many_numbers(random: &mut Random) -> Vec<u8> {
         false => random.within(100..=300),
     };
     let mut rows: Vec<Items> = (0..count).map(row).collect();
-    match random.below(4) {
-        0 => rows.push(row(random.below(count))),
-        1 => rows.extend(rows.clone()),
-        2 => {
-            let mut returning = row(random.below(count));
-            returning.resize(COLUMNS, Vec::new());
-            returning[8 - 1] = b"another".to_vec();
-            rows.push(returning);
-            for row in &mut rows {
-                row.resize(COLUMNS, Vec::new());
-            }
+    if random.one_in(4) {
+        rows.extend(rows.clone());
+    }
+    for _ in 0..random.below(4) {
+        let mut returning = row(random.below(count));
+        if random.one_in(2) {
+            returning.push(b"another".to_vec());
         }
-        _ => (),
+        rows.insert(random.within(0..=rows.len()), returning);
+    }
+    let columns = rows.iter().map(Vec::len).max().unwrap_or(NUMBER);
+    for row in &mut rows {
+        row.resize(columns, Vec::new());
     }
     let draft = Draft {
-        version: version(rows[0].len()).into(),
+        version: version(columns).into(),
         heading: vec![Vec::new()],
         rows,
     };
