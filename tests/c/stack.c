@@ -7,7 +7,7 @@
 #include <string.h>
 #include <ucontext.h>
 
-enum { STACK = 1 << 19, INPUT = 1 << 18, PATTERN = 0xA5 };
+enum { STACK = 1 << 19, INPUT = 1 << 20, PATTERN = 0xA5 };
 
 /* mode, sent and control, each with its length */
 #define GIVEN (const unsigned char *)"T", 1, (const unsigned char *)"20240401093000", 14, (const unsigned char *)"K", 1

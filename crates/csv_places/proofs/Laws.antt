@@ -7,11 +7,11 @@ use native.Mathlib.Omega.{arith}
 use native.Mathlib.Nat.{mod-lt}
 use borrow.Author.Tests.{ltb-true, ltb-false, eqb-true, eqb-false, eq-eqb, ne-eqb, lt-ltb, le-ltb}
 use lib.Dec.{eqb, ltb}
-use lib.ListN.{length, getD, drop, set, replicate}
+use lib.ListN.{length, getD, drop, set, replicate, length-set}
 use lib.Seq.{getD-set-same, getD-set-other}
 use Rattle.rules.specs.Lists.{same, any}
 use Rattle.rules.proofs.Logic.{cases, never}
-use Rattle.rules.proofs.Lists.{here, over, any-nil}
+use Rattle.rules.proofs.Lists.{here, over, any-nil, same-eq}
 use Rattle.csv_rules.specs.Quote.{Items}
 use Rattle.csv_rules.specs.Written.{halved}
 use Rattle.csv_rules.specs.Columns.{numberOf}
@@ -20,7 +20,7 @@ use Rattle.csv_rows.proofs.Laws.{row-lines, row-broken, rows-end}
 use Rattle.csv_rows.proofs.Tied.{tied-number}
 use Rattle.csv_places.specs.declared.Slot.{Slot}
 use Rattle.csv_places.specs.declared.Slot.the-variants.{Held, Free, Crowded}
-use Rattle.csv_places.specs.Places.{itemsAt, stirred, hashFrom, hashOf, slotAfter, kept, numberAt, known, RowThere, Places, SlotIs, keeps, withPlace}
+use Rattle.csv_places.specs.Places.{itemsAt, stirred, hashFrom, hashOf, placeIn, markIn, filled, slotOf, slotAfter, kept, numberAt, known, RowThere, Places, SlotIs, keeps, withPlace}
 use Rattle.csv_places.specs.Slots.{Nothing, freeSlot}
 
 -- ---- the hash of an item as it lies in the file
@@ -45,35 +45,56 @@ module _ (s : List ℕ) (h i : ℕ) (second : Bool) (inv : hashOf (halved false 
   unfolding hashFrom halved
   hash-ends l = sym (inv ∙ ap (λ (x : List ℕ). hashFrom h (halved second x)) (over s i l) ∙ cases second (λ e. rw e) (λ e. rw e))
 
-pub byte-first : (h b w : ℕ) (second : Bool) → second ≡ false → w ≡ b → ((h + w) * 40503) % 65536 ≡ cond second h (stirred h b)
+pub byte-first : (h b w : ℕ) (second : Bool) → second ≡ false → w ≡ b → ((h + w) * 2654435769) % 4294967296 ≡ cond second h (stirred h b)
 unfolding stirred
 byte-first h b w second e q = rw (e, q)
 
-pub byte-small : (n : ℕ) → n % 65536 < 65536
+pub byte-small : (n : ℕ) → n % 4294967296 < 4294967296
 byte-small n = mod-lt n (omega arith)
 
 -- ---- the slot behind one
-pub slot-first : (i : ℕ) → i ≡ 65535 → 0 ≡ slotAfter i
+pub slot-first : (i : ℕ) → i ≡ 32767 → 0 ≡ slotAfter i
 unfolding slotAfter
-slot-first i h = rw (eq-eqb i 65535 h)
+slot-first i h = rw (eq-eqb i 32767 h)
 
-pub slot-next : (i : ℕ) → (i ≡ 65535 → ⊥) → i + 1 ≡ slotAfter i
+pub slot-next : (i : ℕ) → (i ≡ 32767 → ⊥) → i + 1 ≡ slotAfter i
 unfolding slotAfter
-slot-next i h = rw (ne-eqb i 65535 h)
+slot-next i h = rw (ne-eqb i 32767 h)
 
-pub slot-below : (i : ℕ) → i < 65536 → (i ≡ 65535 → ⊥) → i + 1 < 65536
+pub slot-below : (i : ℕ) → i < 32768 → (i ≡ 32767 → ⊥) → i + 1 < 32768
 slot-below i h n = omega arith
+
+-- ---- a slot filled
+module _ (T : List ℕ) (s p m : ℕ) where
+  pub filled-many : length (filled T s p m) ≡ length T
+  unfolding filled
+  filled-many = simp length-set
+
+  pub filled-other : (i : ℕ) → (i ≡ s → ⊥) → (placeIn (filled T s p m) i ≡ placeIn T i) × (markIn (filled T s p m) i ≡ markIn T i)
+  unfolding filled
+  filled-other i h = (
+    getD-set-other (set T (2 * s) p) (2 * s + 1) (2 * i) m 0 (λ e. omega arith) ∙ getD-set-other T (2 * s) (2 * i) p 0 (λ e. h (omega arith)),
+    getD-set-other (set T (2 * s) p) (2 * s + 1) (2 * i + 1) m 0 (λ e. h (omega arith)) ∙ getD-set-other T (2 * s) (2 * i + 1) p 0 (λ e. omega arith),
+  )
+
+  pub filled-place : 2 * s < length T → placeIn (filled T s p m) s ≡ p
+  unfolding filled
+  filled-place h = getD-set-other (set T (2 * s) p) (2 * s + 1) (2 * s) m 0 (λ e. omega arith) ∙ getD-set-same T (2 * s) p 0 h
+
+  pub filled-mark : 2 * s + 1 < length T → markIn (filled T s p m) s ≡ m
+  unfolding filled
+  filled-mark h = getD-set-same (set T (2 * s) p) (2 * s + 1) m 0 (simp length-set h)
 
 -- ---- the places kept from a slot on
 -- a free slot ends them, a place is the first of them
-kept-free : (T : List ℕ) (i n : ℕ) → getD T i 0 ≡ 0 → kept T i n ≡ []
+kept-free : (T : List ℕ) (i n : ℕ) → placeIn T i ≡ 0 → kept T i n ≡ []
 unfolding kept
 kept-free T i zero h = refl
-kept-free T i (suc n) h = rw (eq-eqb (getD T i 0) 0 h, kept)
+kept-free T i (suc n) h = rw (eq-eqb (placeIn T i) 0 h, kept)
 
-kept-more : (T : List ℕ) (i n : ℕ) → (getD T i 0 ≡ 0 → ⊥) → kept T i (suc n) ≡ getD T i 0 ∷ kept T (slotAfter i) n
+kept-more : (T : List ℕ) (i n : ℕ) → (placeIn T i ≡ 0 → ⊥) → kept T i (suc n) ≡ placeIn T i ∷ kept T (slotAfter i) n
 unfolding kept
-kept-more T i n h = rw (ne-eqb (getD T i 0) 0 h, kept)
+kept-more T i n h = rw (ne-eqb (placeIn T i) 0 h, kept)
 
 any-here : {A : Type 0} (t : A → Bool) (x : A) (s : List A) → t x ≡ true → any t (x ∷ s) ≡ true
 unfolding any
@@ -88,38 +109,38 @@ unfolding any
 any-past t x s h = rw (h, any)
 
 -- what is met among them is met when a free slot is filled
-module _ (t : ℕ → Bool) (T : List ℕ) (s p : ℕ) (free : getD T s 0 ≡ 0) where
-  entry-stays : (i : ℕ) → (getD T i 0 ≡ 0 → ⊥) → getD (set T s p) i 0 ≡ getD T i 0
-  entry-stays i h = getD-set-other T s i p 0 (λ e. h (ap (λ (k : ℕ). getD T k 0) e ∙ free))
+module _ (t : ℕ → Bool) (T : List ℕ) (s p m : ℕ) (free : placeIn T s ≡ 0) where
+  entry-stays : (i : ℕ) → (placeIn T i ≡ 0 → ⊥) → placeIn (filled T s p m) i ≡ placeIn T i
+  entry-stays i h = filled-other T s p m i (λ e. h (ap (placeIn T) e ∙ free)) .0
 
-  more-stays : (i n : ℕ) → (getD T i 0 ≡ 0 → ⊥) → kept (set T s p) i (suc n) ≡ getD T i 0 ∷ kept (set T s p) (slotAfter i) n
+  more-stays : (i n : ℕ) → (placeIn T i ≡ 0 → ⊥) → kept (filled T s p m) i (suc n) ≡ placeIn T i ∷ kept (filled T s p m) (slotAfter i) n
   more-stays i n h =
       let e = entry-stays i h in
-      kept-more (set T s p) i n (λ z. h (sym e ∙ z)) ∙ ap (λ (x : ℕ). x ∷ kept (set T s p) (slotAfter i) n) e
+      kept-more (filled T s p m) i n (λ z. h (sym e ∙ z)) ∙ ap (λ (x : ℕ). x ∷ kept (filled T s p m) (slotAfter i) n) e
 
-  kept-stays : (i n : ℕ) → any t (kept T i n) ≡ true → any t (kept (set T s p) i n) ≡ true
+  kept-stays : (i n : ℕ) → any t (kept T i n) ≡ true → any t (kept (filled T s p m) i n) ≡ true
   unfolding kept
   kept-stays i zero h = h
   kept-stays i (suc n) h =
-      cases (eqb (getD T i 0) 0)
-      (λ e. never (sym h ∙ ap (any t) (kept-free T i (suc n) (eqb-true (getD T i 0) 0 e)) ∙ any-nil t))
+      cases (eqb (placeIn T i) 0)
+      (λ e. never (sym h ∙ ap (any t) (kept-free T i (suc n) (eqb-true (placeIn T i) 0 e)) ∙ any-nil t))
       (λ e.
-      let k = eqb-false (getD T i 0) 0 e in
+      let k = eqb-false (placeIn T i) 0 e in
       ap (any t) (more-stays i n k)
-      ∙ cases (t (getD T i 0))
-      (λ w. any-here t (getD T i 0) (kept (set T s p) (slotAfter i) n) w)
+      ∙ cases (t (placeIn T i))
+      (λ w. any-here t (placeIn T i) (kept (filled T s p m) (slotAfter i) n) w)
       (λ w.
-      any-there t (getD T i 0) (kept (set T s p) (slotAfter i) n)
-      (kept-stays (slotAfter i) n (sym (any-past t (getD T i 0) (kept T (slotAfter i) n) w) ∙ sym (ap (any t) (kept-more T i n k)) ∙ h))))
+      any-there t (placeIn T i) (kept (filled T s p m) (slotAfter i) n)
+      (kept-stays (slotAfter i) n (sym (any-past t (placeIn T i) (kept T (slotAfter i) n) w) ∙ sym (ap (any t) (kept-more T i n k)) ∙ h))))
 
 -- ---- what is known
-pub known-stays : (f places : List ℕ) (r : Items) (i p : ℕ) → getD places i 0 ≡ 0 → known f places r ≡ true → known f (set places i p) r ≡ true
+pub known-stays : (f places : List ℕ) (r : Items) (i p mark : ℕ) → placeIn places i ≡ 0 → known f places r ≡ true → known f (filled places i p mark) r ≡ true
 unfolding known
-known-stays f places r i p free h = kept-stays (numberAt f r) places i p free (hashOf (numberOf r)) 64 h
+known-stays f places r i p mark free h = kept-stays (numberAt f r) places i p mark free (slotOf (numberOf r)) 256 h
 
 pub known-same : (f places : List ℕ) (r q : Items) → numberOf r ≡ numberOf q → known f places r ≡ known f places q
 unfolding known
-known-same f places r q e = ap (λ (n : List ℕ). any (λ (p : ℕ). same n (numberOf (itemsAt f p))) (kept places (hashOf n) 64)) e
+known-same f places r q e = ap (λ (n : List ℕ). any (λ (p : ℕ). same n (numberOf (itemsAt f p))) (kept places (slotOf n) 256)) e
 
 -- ---- rows at places
 pub items-there : (f : List ℕ) (p : ℕ) (T : RowThere f p) → itemsAt f p ≡ T .row .items
@@ -152,62 +173,75 @@ nothing-in (suc n) (suc i) = nothing-in n i
 pub nothing-kept : (n : ℕ) → Nothing (replicate n 0)
 nothing-kept n = record { none = nothing-in n }
 
+-- a number whose hash differs is another
+pub mark-other : (f : List ℕ) (r : Items) (p mark hash : ℕ) → mark ≡ hashOf (numberOf (itemsAt f p)) → hash ≡ hashOf (numberOf r) → (mark ≡ hash → ⊥) → false ≡ numberAt f r p
+mark-other f r p mark hash e k h =
+    cases (numberAt f r p)
+    (λ w. absurd (h (e ∙ sym (k ∙ ap hashOf (same-eq (numberOf r) (numberOf (itemsAt f p)) w)))))
+    (λ w. sym w)
+
 -- ---- the look from slot to slot
 -- left slots are to be looked at; in those before stands no place with the number, and a place put in a free slot from here on is found
 pub record Looking (f T : List ℕ) (r : Items) (slot left : ℕ) : Type 0 where
   pub same : known f T r ≡ any (numberAt f r) (kept T slot left)
-  pub then : (i p : ℕ) → getD T i 0 ≡ 0 → any (numberAt f r) (kept (set T i p) slot left) ≡ true → known f (set T i p) r ≡ true
-  pub few : left ≤ 64
-  pub first : left ≡ 64 → slot ≡ hashOf (numberOf r)
-  pub taken : left < 64 → getD T (hashOf (numberOf r)) 0 ≡ 0 → ⊥
+  pub then : (i p mark : ℕ) → placeIn T i ≡ 0 → any (numberAt f r) (kept (filled T i p mark) slot left) ≡ true → known f (filled T i p mark) r ≡ true
+  pub few : left ≤ 256
+  pub first : left ≡ 256 → slot ≡ slotOf (numberOf r)
+  pub taken : left < 256 → placeIn T (slotOf (numberOf r)) ≡ 0 → ⊥
 
-hash-here : (f spans raw : List ℕ) (h : ℕ) → raw ≡ stretch f spans 6 → h ≡ hashOf (halved false raw) → h ≡ hashOf (numberOf (rowAt f spans))
+pub hash-here : (f spans raw : List ℕ) (h : ℕ) → raw ≡ stretch f spans 6 → h ≡ hashOf (halved false raw) → h ≡ hashOf (numberOf (rowAt f spans))
 unfolding numberOf rowAt itemsFrom itemAt
 hash-here f spans raw h e k = k ∙ ap (λ (x : List ℕ). hashOf (halved false x)) e
 
-pub look-starts : (f T spans raw : List ℕ) (h : ℕ) → raw ≡ stretch f spans 6 → h ≡ hashOf (halved false raw) → Looking f T (rowAt f spans) h 64
-unfolding known
-look-starts f T spans raw h e k =
-    let q = hash-here f spans raw h e k in
-    record { same = rw q; then = λ i p z a. rw q at a; few = omega arith; first = λ z. q; taken = λ z. absurd (omega arith) }
+pub slot-small : (h : ℕ) → h % 32768 < 32768
+slot-small h = mod-lt h (omega arith)
+
+pub look-starts : (f T : List ℕ) (r : Items) (h : ℕ) → h ≡ hashOf (numberOf r) → Looking f T r (h % 32768) 256
+unfolding known slotOf
+look-starts f T r h e =
+    let q : h % 32768 ≡ slotOf (numberOf r) = ap (λ (n : ℕ). n % 32768) e in
+    record { same = rw q; then = λ i p m z a. rw q at a; few = omega arith; first = λ z. q; taken = λ z. absurd (omega arith) }
 
 left-more : (left : ℕ) → 0 < left → left ≡ suc (left - 1)
 left-more left h = omega arith
 
-module _ (f T : List ℕ) (slot p : ℕ) (is : p ≡ getD T slot 0) where
-  pub place-row : Places f T → (p ≡ 0 → ⊥) → RowThere f p
-  place-row P h = rw is (P .rows slot (λ z. h (is ∙ z)))
+module _ (f T : List ℕ) (slot p : ℕ) (is : p ≡ placeIn T slot) (P : Places f T) (some : p ≡ 0 → ⊥) where
+  pub place-row : RowThere f p
+  place-row = rw is (P .rows slot (λ z. some (is ∙ z)))
+
+  pub place-mark : (m : ℕ) → m ≡ markIn T slot → m ≡ hashOf (numberOf (itemsAt f p))
+  place-mark m e = e ∙ P .marks slot (λ z. some (is ∙ z)) ∙ ap (λ (n : ℕ). hashOf (numberOf (itemsAt f n))) (sym is)
 
 module _ (f T : List ℕ) (r : Items) (slot left : ℕ) (L : Looking f T r slot left) where
   pub look-ends : left ≤ 0 → SlotIs f T r Crowded
   unfolding SlotIs kept any
   look-ends h = let e : left ≡ 0 = omega arith in record { unknown = L .same ∙ rw e; taken = L .taken (omega arith) }
 
-  module _ (h : 0 < left) (p : ℕ) (is : p ≡ getD T slot 0) where
-    pub look-free : Places f T → slot < 65536 → p ≡ 0 → SlotIs f T r (Free slot)
+  module _ (h : 0 < left) (p : ℕ) (is : p ≡ placeIn T slot) where
+    pub look-free : Places f T → slot < 32768 → p ≡ 0 → SlotIs f T r (Free slot)
     unfolding SlotIs
     look-free P l o =
-        let e : getD T slot 0 ≡ 0 = sym is ∙ o in
+        let e : placeIn T slot ≡ 0 = sym is ∙ o in
         record {
           place = l;
           is = e;
           unknown = L .same ∙ ap (any (numberAt f r)) (kept-free T slot left e) ∙ any-nil (numberAt f r);
-          then = λ q n w.
-              let g : getD (set T slot q) slot 0 ≡ q = getD-set-same T slot q 0 (omega (arith, P .many)) in
-              L .then slot q e
-              (ap (λ (m : ℕ). any (numberAt f r) (kept (set T slot q) slot m)) (left-more left h)
-              ∙ ap (any (numberAt f r)) (kept-more (set T slot q) slot (left - 1) (λ z. n (sym g ∙ z)))
-              ∙ any-here (numberAt f r) (getD (set T slot q) slot 0) (kept (set T slot q) (slotAfter slot) (left - 1)) (ap (numberAt f r) g ∙ w));
+          then = λ q m n w.
+              let g : placeIn (filled T slot q m) slot ≡ q = filled-place T slot q m (omega (arith, P .many)) in
+              L .then slot q m e
+              (ap (λ (k : ℕ). any (numberAt f r) (kept (filled T slot q m) slot k)) (left-more left h)
+              ∙ ap (any (numberAt f r)) (kept-more (filled T slot q m) slot (left - 1) (λ z. n (sym g ∙ z)))
+              ∙ any-here (numberAt f r) (placeIn (filled T slot q m) slot) (kept (filled T slot q m) (slotAfter slot) (left - 1)) (ap (numberAt f r) g ∙ w));
         }
 
     module _ (some : p ≡ 0 → ⊥) where
-      filled : getD T slot 0 ≡ 0 → ⊥
-      filled z = some (is ∙ z)
+      taken-here : placeIn T slot ≡ 0 → ⊥
+      taken-here z = some (is ∙ z)
 
       look-one : known f T r ≡ any (numberAt f r) (p ∷ kept T (slotAfter slot) (left - 1))
       look-one =
           L .same ∙ ap (λ (m : ℕ). any (numberAt f r) (kept T slot m)) (left-more left h)
-          ∙ ap (any (numberAt f r)) (kept-more T slot (left - 1) filled ∙ ap (λ (x : ℕ). x ∷ kept T (slotAfter slot) (left - 1)) (sym is))
+          ∙ ap (any (numberAt f r)) (kept-more T slot (left - 1) taken-here ∙ ap (λ (x : ℕ). x ∷ kept T (slotAfter slot) (left - 1)) (sym is))
 
       module _ (t : Bool) (e : t ≡ numberAt f r p) where
         pub look-held : t ≡ true → SlotIs f T r (Held p)
@@ -223,25 +257,25 @@ module _ (f T : List ℕ) (r : Items) (slot left : ℕ) (L : Looking f T r slot 
         pub look-on : t ≡ false → (k : ℕ) → k ≡ slotAfter slot → Looking f T r k (left - 1)
         look-on w k q = record {
           same = look-one ∙ any-past (numberAt f r) p (kept T (slotAfter slot) (left - 1)) (sym e ∙ w) ∙ rw q;
-          then = λ i x z a.
-              L .then i x z
-              (ap (λ (m : ℕ). any (numberAt f r) (kept (set T i x) slot m)) (left-more left h)
-              ∙ ap (any (numberAt f r)) (more-stays (numberAt f r) T i x z slot (left - 1) filled)
-              ∙ any-there (numberAt f r) (getD T slot 0) (kept (set T i x) (slotAfter slot) (left - 1)) (rw q at a));
+          then = λ i x m z a.
+              L .then i x m z
+              (ap (λ (n : ℕ). any (numberAt f r) (kept (filled T i x m) slot n)) (left-more left h)
+              ∙ ap (any (numberAt f r)) (more-stays (numberAt f r) T i x m z slot (left - 1) taken-here)
+              ∙ any-there (numberAt f r) (placeIn T slot) (kept (filled T i x m) (slotAfter slot) (left - 1)) (rw q at a));
           few = omega (arith, L .few);
           first = λ z. absurd (omega (arith, L .few));
-          taken = λ z. cases (eqb left 64) (λ y. rw (← L .first (eqb-true left 64 y)) filled) (λ y. L .taken (omega (arith, L .few, eqb-false left 64 y)));
+          taken = λ z. cases (eqb left 256) (λ y. rw (← L .first (eqb-true left 256 y)) taken-here) (λ y. L .taken (omega (arith, L .few, eqb-false left 256 y)));
         }
 
 -- ---- a place kept
-pub slot-inside : (f places : List ℕ) (r : Items) (s : Slot) → SlotIs f places r s → freeSlot s < 65536
+pub slot-inside : (f places : List ℕ) (r : Items) (s : Slot) → SlotIs f places r s → freeSlot s < 32768
 unfolding SlotIs freeSlot
 slot-inside f places r (Held p) S = omega arith
 slot-inside f places r (Free i) S = S .place
 slot-inside f places r Crowded S = omega arith
 
 module _ (s : Slot) (i : ℕ) (e : s ≡ Free i) where
-  pub free-inside : freeSlot s < 65536 → i < 65536
+  pub free-inside : freeSlot s < 32768 → i < 32768
   unfolding freeSlot
   free-inside h = rw e at h
 
@@ -254,10 +288,10 @@ module _ (s : Slot) (i : ℕ) (e : s ≡ Free i) where
     unfolding keeps
     kept-high h = rw (e, le-ltb at 4294967296 h)
 
-    pub with-low : (places : List ℕ) → at < 4294967296 → set places i at ≡ withPlace places s at
+    pub with-low : (places after : List ℕ) (hash : ℕ) → at < 4294967296 → after ≡ filled places i at hash → after ≡ withPlace places s at hash
     unfolding withPlace
-    with-low places h = rw (e, lt-ltb at 4294967296 h)
+    with-low places after hash h q = q ∙ rw (e, lt-ltb at 4294967296 h)
 
-    pub with-high : (places : List ℕ) → 4294967296 ≤ at → places ≡ withPlace places s at
+    pub with-high : (places : List ℕ) (hash : ℕ) → 4294967296 ≤ at → places ≡ withPlace places s at hash
     unfolding withPlace
-    with-high places h = rw (e, le-ltb at 4294967296 h)
+    with-high places hash h = rw (e, le-ltb at 4294967296 h)

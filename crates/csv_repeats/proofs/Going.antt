@@ -448,7 +448,7 @@ module _ (f : List ℕ) (first k : ℕ) (places before : List ℕ) (at line retu
         (λ q.
         let u = eqb-false unkept 0 q in
         let v = leave-stays unkept start (G .leaving u) (G .counted) u c (W .standing) o after (W .stands) in
-        let n : m ≡ start = W .opened ∙ rw (eq-eqb o unkept (v .0)) in
+        let n : m ≡ start = W .line-is ∙ rw (eq-eqb o unkept (v .0)) in
         rw (e, n) (leave-differs unkept start (G .leaving u) (G .counted) u c (W .standing) o after (W .stands) p w))
 
     module _ (h : d ≡ 0) where
@@ -466,7 +466,7 @@ module _ (f : List ℕ) (first k : ℕ) (places before : List ℕ) (at line retu
             counted = G .counted;
           })
           (λ q w n v.
-          let l : m ≡ line = W .opened ∙ rw (u, ne-eqb o 0 (λ x. z (sym q ∙ x))) in
+          let l : m ≡ line = W .line-is ∙ rw (u, ne-eqb o 0 (λ x. z (sym q ∙ x))) in
           record {
             keeping = λ x. absurd (z (sym q ∙ x));
             leaving = λ x. rw (q, l) (keep-leaves K c z (W .standing) o after R alike p (W .back) w n v);
@@ -477,7 +477,7 @@ module _ (f : List ℕ) (first k : ℕ) (places before : List ℕ) (at line retu
       from-leaving u =
           let L = G .leaving u in
           let v = leave-stays unkept start L (G .counted) u c (W .standing) o after (W .stands) in
-          let n : m ≡ start = W .opened ∙ rw (eq-eqb o unkept (v .0)) in
+          let n : m ≡ start = W .line-is ∙ rw (eq-eqb o unkept (v .0)) in
           record {
             keeping = λ x. absurd (u (sym (v .0) ∙ x));
             leaving = λ x. rw (v .0, n) (leave-on unkept start L (G .counted) u c (W .standing) o after (W .stands) alike p (W .back));

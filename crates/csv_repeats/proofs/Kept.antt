@@ -2,12 +2,11 @@
 use mathlib.Core.Path.{_≡_, refl, sym, ap, _∙_}
 use mathlib.Core.Bool.{true, false, cond, _&&_}
 use mathlib.Core.List.{List, [], _∷_, _++_}
-use Prim.Native.Nat.{ℕ, _+_, _<_}
+use Prim.Native.Nat.{ℕ, _+_, _*_, _<_}
 use native.Mathlib.Omega.{arith}
 use borrow.Author.Tests.{eqb-true, eqb-false, ne-eqb, ltb-true, lt-ltb, le-ltb}
 use lib.Dec.{eqb, ltb}
-use lib.ListN.{length, getD, set, length-set}
-use lib.Seq.{getD-set-same, getD-set-other}
+use lib.ListN.{length}
 use Rattle.rules.specs.Lists.{any, all}
 use Rattle.rules.proofs.Logic.{cases, listCases, never, neither, not-true}
 use Rattle.rules.proofs.Lists.{all-first, any-cons, same-eq, same-self}
@@ -19,9 +18,9 @@ use Rattle.csv_rules.proofs.Order.{all-parts}
 use Rattle.csv_rows.specs.Rows.{linesFrom, rowAt, Spans}
 use Rattle.csv_places.specs.declared.Slot.{Slot}
 use Rattle.csv_places.specs.declared.Slot.the-variants.{Held, Free, Crowded}
-use Rattle.csv_places.specs.Places.{itemsAt, numberAt, hashOf, known, RowThere, Places, HeldAt, FreeAt, CrowdedAt, SlotIs, keeps, withPlace}
+use Rattle.csv_places.specs.Places.{itemsAt, numberAt, hashOf, placeIn, markIn, filled, slotOf, known, RowThere, Places, HeldAt, FreeAt, CrowdedAt, SlotIs, keeps, withPlace}
 use Rattle.csv_places.specs.Slots.{Nothing}
-use Rattle.csv_places.proofs.Laws.{items-there, known-same, known-stays}
+use Rattle.csv_places.proofs.Laws.{items-there, known-same, known-stays, filled-many, filled-other, filled-place, filled-mark}
 use Rattle.csv_repeats.specs.Looks.{sameHeader, lookedFor, Looked, Stands}
 use Rattle.csv_repeats.specs.declared.Standing.{Standing}
 use Rattle.csv_repeats.specs.declared.Standing.the-variants.{Same, New, Back, Differs}
@@ -43,22 +42,24 @@ pub record KeptAt (f : List ℕ) (kept : List Line) (p : ℕ) : Type 0 where
 
 pub record Kept (f : List ℕ) (kept : List Line) (places : List ℕ) : Type 0 where
   pub many : length places ≡ 65536
-  pub rows : (i : ℕ) → (getD places i 0 ≡ 0 → ⊥) → KeptAt f kept (getD places i 0)
+  pub rows : (i : ℕ) → (placeIn places i ≡ 0 → ⊥) → KeptAt f kept (placeIn places i)
+  pub marks : (i : ℕ) → (placeIn places i ≡ 0 → ⊥) → markIn places i ≡ hashOf (numberOf (itemsAt f (placeIn places i)))
   pub knows : (w : Line) → In w kept → known f places (w .items) ≡ true
 
 pub kept-starts : (f places : List ℕ) → length places ≡ 65536 → Nothing places → Kept f [] places
 kept-starts f places m n = record {
   many = m;
-  rows = λ i h. absurd (h (n .none i));
+  rows = λ i h. absurd (h (n .none (2 * i)));
+  marks = λ i h. absurd (h (n .none (2 * i)));
   knows = λ w i. not-in w (i .left) (i .right) (i .is);
 }
 
 module _ (f : List ℕ) (kept : List Line) (places : List ℕ) (K : Kept f kept places) where
   pub kept-places : Places f places
-  kept-places = record { many = K .many; rows = λ i h. K .rows i h .there }
+  kept-places = record { many = K .many; rows = λ i h. K .rows i h .there; marks = K .marks }
 
   -- where no row is, no slot is taken
-  none-taken : kept ≡ [] → (i : ℕ) → (getD places i 0 ≡ 0 → ⊥) → ⊥
+  none-taken : kept ≡ [] → (i : ℕ) → (placeIn places i ≡ 0 → ⊥) → ⊥
   none-taken e i h = let S = K .rows i h in not-in (S .there .row) (S .one .left) (S .one .right) (sym e ∙ S .one .is)
 
   -- a number that the table doesn't know
@@ -71,11 +72,13 @@ module _ (f : List ℕ) (kept : List Line) (places : List ℕ) (K : Kept f kept 
 
   -- ---- a row more
   module _ (row : Line) where
-    kept-more : (after : List ℕ) → length after ≡ 65536 → ((i : ℕ) → (getD after i 0 ≡ 0 → ⊥) → KeptAt f (row ∷ kept) (getD after i 0))
+    kept-more : (after : List ℕ) → length after ≡ 65536 → ((i : ℕ) → (placeIn after i ≡ 0 → ⊥) → KeptAt f (row ∷ kept) (placeIn after i))
+        → ((i : ℕ) → (placeIn after i ≡ 0 → ⊥) → markIn after i ≡ hashOf (numberOf (itemsAt f (placeIn after i))))
         → ((r : Items) → known f places r ≡ true → known f after r ≡ true) → known f after (row .items) ≡ true → Kept f (row ∷ kept) after
-    kept-more after m b s k = record {
+    kept-more after m b v s k = record {
       many = m;
       rows = b;
+      marks = v;
       knows = λ w i.
           in-cases w row kept (i .left) (i .right) (i .is)
           (λ q. ap (λ (x : Line). known f after (x .items)) (sym q) ∙ k)
@@ -87,7 +90,7 @@ module _ (f : List ℕ) (kept : List Line) (places : List ℕ) (K : Kept f kept 
 
     -- the table as it was
     same-table : known f places (row .items) ≡ true → Kept f (row ∷ kept) places
-    same-table = kept-more places (K .many) (λ i h. one-more (K .rows i h)) (λ r k. k)
+    same-table = kept-more places (K .many) (λ i h. one-more (K .rows i h)) (K .marks) (λ r k. k)
 
     -- a row with the number of one that is kept
     kept-same : (q : Line) → In q kept → sameNumber (q .items) (row .items) ≡ true → Kept f (row ∷ kept) places
@@ -102,20 +105,42 @@ module _ (f : List ℕ) (kept : List Line) (places : List ℕ) (K : Kept f kept 
 
       -- the place of the row in a free slot
       module _ (i : ℕ) (F : FreeAt f places r i) where
-        set-begins : (j : ℕ) → (getD (set places i at) j 0 ≡ 0 → ⊥) → KeptAt f (row ∷ kept) (getD (set places i at) j 0)
-        set-begins j h =
+        abbrev with-row : List ℕ
+        with-row = filled places i at (hashOf (numberOf r))
+
+        place-here : placeIn with-row i ≡ at
+        place-here = filled-place places i at (hashOf (numberOf r)) (omega (arith, F .place, K .many))
+
+        mark-here : markIn with-row i ≡ hashOf (numberOf (itemsAt f at))
+        mark-here =
+            filled-mark places i at (hashOf (numberOf r)) (omega (arith, F .place, K .many))
+            ∙ ap hashOf (e ∙ sym (ap numberOf (items-there f at here)))
+
+        with-rows : (j : ℕ) → (placeIn with-row j ≡ 0 → ⊥) → KeptAt f (row ∷ kept) (placeIn with-row j)
+        with-rows j h =
             cases (eqb j i)
             (λ y.
-            let g : getD (set places i at) j 0 ≡ at = ap (λ (k : ℕ). getD (set places i at) k 0) (eqb-true j i y) ∙ getD-set-same places i at 0 (omega (arith, F .place, K .many)) in
+            let g : placeIn with-row j ≡ at = ap (placeIn with-row) (eqb-true j i y) ∙ place-here in
             rw g (record { there = here; one = in-here row kept }))
             (λ y.
-            let g : getD (set places i at) j 0 ≡ getD places j 0 = getD-set-other places i j at 0 (eqb-false j i y) in
+            let g = filled-other places i at (hashOf (numberOf r)) j (eqb-false j i y) .0 in
             rw g (one-more (K .rows j (λ k. h (g ∙ k)))))
 
-        put-in : Kept f (row ∷ kept) (set places i at)
+        with-marks : (j : ℕ) → (placeIn with-row j ≡ 0 → ⊥) → markIn with-row j ≡ hashOf (numberOf (itemsAt f (placeIn with-row j)))
+        with-marks j h =
+            cases (eqb j i)
+            (λ y.
+            let q = eqb-true j i y in
+            ap (markIn with-row) q ∙ mark-here ∙ ap (λ (p : ℕ). hashOf (numberOf (itemsAt f p))) (sym (ap (placeIn with-row) q ∙ place-here)))
+            (λ y.
+            let g = filled-other places i at (hashOf (numberOf r)) j (eqb-false j i y) in
+            g .1 ∙ K .marks j (λ k. h (g .0 ∙ k)) ∙ ap (λ (p : ℕ). hashOf (numberOf (itemsAt f p))) (sym (g .0)))
+
+        put-in : Kept f (row ∷ kept) with-row
         put-in =
-            kept-more (set places i at) (simp length-set (K .many)) set-begins (λ q k. known-stays f places q i at (F .is) k)
-            (sym (known-same f (set places i at) r (row .items) e) ∙ F .then at z number-here)
+            kept-more with-row (filled-many places i at (hashOf (numberOf r)) ∙ K .many) with-rows with-marks
+            (λ q k. known-stays f places q i at (hashOf (numberOf r)) (F .is) k)
+            (sym (known-same f with-row r (row .items) e) ∙ F .then at (hashOf (numberOf r)) z number-here)
 
       -- it is kept with the others, or the first that isn't
       pub kept-looked : {P : Type 0} (s : Standing) (o : ℕ) (after : List ℕ) → Looked f at r places 0 s o after
@@ -127,24 +152,24 @@ module _ (f : List ℕ) (kept : List Line) (places : List ℕ) (K : Kept f kept 
           (λ p h.
           let H : HeldAt f places r p = rw h at (L .slot-is) in
           let a : after ≡ places = L .table ∙ rw h in
-          let b : o ≡ 0 = L .opened ∙ rw h in
+          let b : o ≡ 0 = L .unkept-is ∙ rw h in
           with-it b (rw a (same-table (sym (known-same f places r (row .items) e) ∙ H .knows))))
           (λ i h.
           let F : FreeAt f places r i = rw h at (L .slot-is) in
           cases (ltb at 4294967296)
           (λ y.
-          let a : after ≡ set places i at = L .table ∙ rw (h, y) in
-          let b : o ≡ 0 = L .opened ∙ rw (h, y) in
+          let a : after ≡ filled places i at (hashOf (numberOf r)) = L .table ∙ rw (h, y) in
+          let b : o ≡ 0 = L .unkept-is ∙ rw (h, y) in
           with-it b (rw a (put-in i F)))
           (λ y.
           let a : after ≡ places = L .table ∙ rw (h, y) in
-          let b : o ≡ at = L .opened ∙ rw (h, y) in
+          let b : o ≡ at = L .unkept-is ∙ rw (h, y) in
           left-out b a (unknown-new row r e (F .unknown)) (λ k m. never (sym (lt-ltb at 4294967296 k) ∙ y))))
           (λ h.
           let C : CrowdedAt f places r = rw h at (L .slot-is) in
           let a : after ≡ places = L .table ∙ rw h in
-          let b : o ≡ at = L .opened ∙ rw h in
-          left-out b a (unknown-new row r e (C .unknown)) (λ k m. none-taken m (hashOf (numberOf r)) (C .taken)))
+          let b : o ≡ at = L .unkept-is ∙ rw h in
+          left-out b a (unknown-new row r e (C .unknown)) (λ k m. none-taken m (slotOf (numberOf r)) (C .taken)))
 
 -- ---- how a row stands to those before it
 -- the row before lies where the code remembers it
@@ -226,7 +251,7 @@ module _ (f : List ℕ) (first at : ℕ) (before spans places : List ℕ) (unkep
       (λ g.
       let L = S .other (run ∙ g) in
       let y = ne-eqb unkept 0 z in
-      (L .opened ∙ rw y, L .table ∙ rw y))
+      (L .unkept-is ∙ rw y, L .table ∙ rw y))
 
 same-kept : (f places : List ℕ) (kept : List Line) → Kept f kept places → (row : Line) → sameRun kept row ≡ true → Kept f (row ∷ kept) places
 unfolding sameRun

@@ -11,6 +11,7 @@ use Rattle.rules.specs.declared.Name.the-variants.{Pid, Pv1}
 use Rattle.rules.specs.Lists.{same}
 use Rattle.rules.proofs.Logic.{cases, never}
 use Rattle.csv_rules.specs.Quote.{Items, Line}
+use Rattle.csv_rules.specs.Columns.{numberOf}
 use Rattle.csv_rules.specs.Sheets.{sameNumber}
 use Rattle.csv_rows.specs.Rows.{linesFrom, rowAt, Inside, Spans, RowIs}
 use Rattle.csv_rows.proofs.Laws.{row-lines, row-broken}
@@ -19,7 +20,7 @@ use Rattle.csv_repeats.specs.declared.Standing.{Standing}
 use Rattle.csv_repeats.specs.declared.Standing.the-variants.{Same, New, Back, Differs}
 use Rattle.csv_places.specs.declared.Slot.{Slot}
 use Rattle.csv_places.specs.declared.Slot.the-variants.{Held, Free, Crowded}
-use Rattle.csv_places.specs.Places.{itemsAt, RowThere, Places, SlotIs, keeps, withPlace}
+use Rattle.csv_places.specs.Places.{itemsAt, hashOf, RowThere, Places, SlotIs, keeps, withPlace}
 use Rattle.csv_places.proofs.Laws.{items-there, row-inside}
 use Rattle.csv_repeats.specs.Looks.{sameHeader, lookedFor, HeldThere, Looked, Stands, WithRow, isDiffers, isBack, begun}
 use Rattle.csv_repeats.proofs.Standings.{Alike}
@@ -86,12 +87,12 @@ unfolding HeldThere
 held-at f slot p h e = rw e at h
 
 module _ (f : List ℕ) (at : ℕ) (r : Items) (places : List ℕ) (unkept : ℕ) (slot : Slot) (S : SlotIs f places r slot) (s : Standing) (e : s ≡ lookedFor f r slot) where
-  pub looked-kept : unkept ≡ 0 → (after : List ℕ) → after ≡ withPlace places slot at → (k : Bool) → k ≡ keeps slot at → (o : ℕ) → o ≡ cond k 0 at
+  pub looked-kept : unkept ≡ 0 → (after : List ℕ) (hash : ℕ) → hash ≡ hashOf (numberOf r) → after ≡ withPlace places slot at hash → (k : Bool) → k ≡ keeps slot at → (o : ℕ) → o ≡ cond k 0 at
       → Looked f at r places unkept s o after
-  looked-kept z after t k h o u = record { slot = slot; slot-is = S; is = e; table = rw z t; opened = u ∙ rw (z, h) }
+  looked-kept z after hash w t k h o u = record { slot = slot; slot-is = S; is = e; table = rw (z, ← w) t; unkept-is = u ∙ rw (z, h) }
 
   pub looked-left : (unkept ≡ 0 → ⊥) → Looked f at r places unkept s unkept places
-  looked-left z = let y = ne-eqb unkept 0 z in record { slot = slot; slot-is = S; is = e; table = rw y; opened = rw y }
+  looked-left z = let y = ne-eqb unkept 0 z in record { slot = slot; slot-is = S; is = e; table = rw y; unkept-is = rw y }
 
 module _ (f : List ℕ) (first at : ℕ) (before spans places : List ℕ) (unkept : ℕ) (t : Bool) (e : t ≡ sameNumber (rowAt f before) (rowAt f spans)) where
   pub stands-same : (ltb first at && t) ≡ true → (g : Bool) → g ≡ sameHeader (rowAt f spans) (rowAt f before) → (s : Standing) → s ≡ cond g Same Differs
@@ -117,4 +118,4 @@ pub with-is : (f : List ℕ) (first at : ℕ) (before spans places : List ℕ) (
     → (d r n m : ℕ) → d ≡ cond (isDiffers s) k 0 → r ≡ cond (eqb returns 0 && isBack s) k returns → n ≡ begun s → m ≡ cond (eqb o unkept) line k
     → WithRow f first at before spans places unkept line k returns count o m d r (count + n) after
 with-is f first at before spans places unkept line k returns count s o after S d r n m e b u w =
-    record { standing = s; stands = S; differs = e; back = b; runs = ap (λ (x : ℕ). count + x) u; opened = w }
+    record { standing = s; stands = S; differs = e; back = b; runs = ap (λ (x : ℕ). count + x) u; line-is = w }

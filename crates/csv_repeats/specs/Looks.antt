@@ -6,12 +6,13 @@ use Prim.Native.Nat.{ℕ, _+_}
 use lib.Dec.{eqb, ltb}
 use Rattle.rules.specs.declared.Name.the-variants.{Pid, Pv1}
 use Rattle.csv_rules.specs.Quote.{Items}
+use Rattle.csv_rules.specs.Columns.{numberOf}
 use Rattle.csv_rules.specs.Sheets.{sameNumber}
 use Rattle.csv_rules.specs.Raw.{rawAgree}
 use Rattle.csv_rows.specs.Rows.{rowAt}
 use Rattle.csv_places.specs.declared.Slot.{Slot}
 use Rattle.csv_places.specs.declared.Slot.the-variants.{Held, Free, Crowded}
-use Rattle.csv_places.specs.Places.{itemsAt, RowThere, SlotIs, keeps, withPlace}
+use Rattle.csv_places.specs.Places.{itemsAt, hashOf, RowThere, SlotIs, keeps, withPlace}
 use Rattle.csv_repeats.specs.declared.Standing.{Standing}
 use Rattle.csv_repeats.specs.declared.Standing.the-variants.{Same, New, Back, Differs}
 
@@ -36,8 +37,8 @@ pub record Looked (f : List ℕ) (at : ℕ) (r : Items) (places : List ℕ) (unk
   pub slot : Slot
   pub slot-is : SlotIs f places r slot
   pub is : s ≡ lookedFor f r slot
-  pub table : after ≡ cond (eqb unkept 0) (withPlace places slot at) places
-  pub opened : o ≡ cond (eqb unkept 0) (cond (keeps slot at) 0 at) unkept
+  pub table : after ≡ cond (eqb unkept 0) (withPlace places slot at (hashOf (numberOf r))) places
+  pub unkept-is : o ≡ cond (eqb unkept 0) (cond (keeps slot at) 0 at) unkept
 
 -- the row at a place
 pub record Stands (f : List ℕ) (first at : ℕ) (before spans places : List ℕ) (unkept : ℕ) (s : Standing) (o : ℕ) (after : List ℕ) : Type 0 where
@@ -73,4 +74,4 @@ pub record WithRow (f : List ℕ) (first at : ℕ) (before spans places : List �
   pub differs : d ≡ cond (isDiffers standing) k 0
   pub back : r ≡ cond (eqb returns 0 && isBack standing) k returns
   pub runs : n ≡ count + begun standing
-  pub opened : m ≡ cond (eqb o unkept) line k
+  pub line-is : m ≡ cond (eqb o unkept) line k

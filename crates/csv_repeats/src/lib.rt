@@ -143,10 +143,11 @@ fn looked(
     requires { ⌜ Places (now file) (now places) × Inside (now file) (now spans) ⌝ }
     ensures { λ r. ⌜ Looked (now (file .entry)) at (rowAt (now (file .entry)) (now (spans .entry))) (now (places .entry)) unkept (r .standing) (r .unkept) (now (places .exit)) ⌝ }
 {
-    let slot = csv_places::look_up(file, places, spans);
+    let hash = csv_places::hash_of(file, spans);
+    let slot = csv_places::look_up(file, places, spans, hash);
     let standing = looked_for(file, spans, slot);
     if unkept == 0 {
-        let kept = csv_places::keep(places, slot, at);
+        let kept = csv_places::keep(places, slot, at, hash);
         return Stood {
             standing,
             unkept: unkept_with(at, kept),

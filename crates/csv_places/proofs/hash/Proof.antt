@@ -11,7 +11,7 @@ use Rattle.csv_places.proofs.hash.Statement.{statement}
 use Rattle.csv_places.proofs.hash.Tie as tie
 
 abbrev Inv-loop : tie.InvT-loop
-Inv-loop raw h₀ second₀ i₀ h second i = (i ≤ length raw) × (h < 65536) × (hashOf (halved false raw) ≡ hashFrom h (halved second (drop i raw)))
+Inv-loop raw h₀ second₀ i₀ h second i = (i ≤ length raw) × (h < 4294967296) × (hashOf (halved false raw) ≡ hashFrom h (halved second (drop i raw)))
 
 abbrev μ-loop : tie.MeasureT-loop
 μ-loop raw h₀ second₀ i₀ h second i = length raw - i

@@ -1,15 +1,12 @@
--- `keep` meets its contract. Assumes nothing.
-use borrow.Author.Needs.{needs, scaled-fits}
+-- `csv_places::keep` meets its contract. Assumes nothing.
+use borrow.Author.Needs.{needs}
 use Rattle.csv_places.specs.Places.{keeps, withPlace}
 use Rattle.csv_places.proofs.Laws.{free-inside, kept-low, kept-high, with-low, with-high}
 use Rattle.csv_places.proofs.keep.Statement.{statement}
 use Rattle.csv_places.proofs.keep.Tie as tie
 
-mul-places : tie.Need-mul-places
-mul-places c = scaled-fits _ 65536 4 (search (free-inside, needs)) (search needs)
-
-element-write-places : tie.Need-element-write-places
-element-write-places c = search (free-inside, needs)
+put-requires : tie.Need-put-requires
+put-requires c κs = search (free-inside, needs)
 
 returns : tie.Need-returns
 returns c = (search (kept-low, needs), search (with-low, needs))
@@ -26,16 +23,4 @@ unfolding keeps withPlace
 returns-4 c = search needs
 
 pub keep-spec : {M : Type 1} → statement M
-keep-spec =
-    tie.close
-    (tie.spec
-    (λ c. search needs)
-    (λ c. search needs)
-    (λ c. search needs)
-    mul-places
-    element-write-places
-    returns
-    (λ c. search needs)
-    returns-2
-    returns-3
-    returns-4)
+keep-spec = tie.close (tie.spec (λ c. search needs) (λ c. search needs) put-requires returns (λ c. search needs) returns-2 returns-3 returns-4)

@@ -18,4 +18,4 @@ returns-2 : tie.Need-returns-2
 returns-2 c = search (looked-left, needs)
 
 pub looked-spec : {M : Type 1} → statement M
-looked-spec = tie.close (tie.spec (λ c κs. search needs) looked-for-requires keep-requires (λ c κs. search needs) returns returns-2)
+looked-spec = tie.close (tie.spec (λ c κs. search needs) (λ c κs. search needs) looked-for-requires keep-requires (λ c κs. search needs) returns returns-2)

@@ -238,7 +238,7 @@ fn many_numbers(random: &mut Random) -> Vec<u8> {
         row
     };
     let count = match of_one_weight {
-        true => random.within(100..=700),
+        true => random.within(100..=1_000),
         false => random.within(100..=300),
     };
     let mut rows: Vec<Items> = (0..count).map(row).collect();
@@ -264,12 +264,13 @@ fn many_numbers(random: &mut Random) -> Vec<u8> {
     draft.to_bytes(random)
 }
 
-/// One of 1,024 texts that a table by a hash may take for the same: its threes of bytes weigh alike
-/// where all before a byte, and the byte, count 40,503 times more with each byte.
+/// One of 1,024 texts that a table by a hash may take for the same: its parts weigh alike in their last
+/// 15 bits, and each with one of the others in 32, where all before a byte, and the byte, count
+/// 2,654,435,769 times more with each byte.
 fn number_of_one_weight(number: usize) -> Vec<u8> {
-    const THREES: [&[u8]; 4] = [b"06b", b"8G3", b"hT8", b"s8A"];
-    let threes = (0..5).map(|place| THREES[number >> (2 * place) & 3]);
-    threes.flatten().copied().collect()
+    const PARTS: [&[u8]; 4] = [b"al0YIz", b"gh8XDn", b"aQGeIz", b"gMOdDn"];
+    let parts = (0..5).map(|place| PARTS[number >> (2 * place) & 3]);
+    parts.flatten().copied().collect()
 }
 
 /// Meets the limit of the sheet from both sides, with files that make still longer ones and such as

@@ -1,0 +1,24 @@
+-- `csv_places::put` meets its contract. Assumes nothing.
+use borrow.Author.Needs.{needs}
+use Rattle.csv_places.specs.Places.{filled}
+use Rattle.csv_places.proofs.put.Statement.{statement}
+use Rattle.csv_places.proofs.put.Tie as tie
+
+returns : tie.Need-returns
+unfolding filled
+returns c = search needs
+
+pub put-spec : {M : Type 1} → statement M
+put-spec =
+    tie.close
+    (tie.spec
+    (λ c. search needs)
+    (λ c. search needs)
+    (λ c. search needs)
+    (λ c. search needs)
+    (λ c. search needs)
+    (λ c. search needs)
+    (λ c. search needs)
+    (λ c. search needs)
+    (λ c. search needs)
+    returns)
