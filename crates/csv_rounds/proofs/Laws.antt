@@ -201,7 +201,7 @@ module _ (f : List ℕ) (differs₀ returns₀ unkept₀ line₀ differs returns
         pub settle-inside : length f < 18446744073709551616 → (unkept - 1) + o < 18446744073709551616
         settle-inside h = cases (eqb o 0) (λ q. omega (arith, eqb-true o 0 q, S .to-come .place z)) (λ q. omega (arith, P .place (eqb-false o 0 q) .1, rest-size f s (unkept - 1) e))
 
-        module _ (a b u : ℕ) (x : a ≡ least differs d) (y : b ≡ least returns r) (v : u ≡ cond (eqb o 0) 0 ((unkept - 1) + o)) where
+        module _ (u : ℕ) (v : u ≡ cond (eqb o 0) 0 ((unkept - 1) + o)) where
           next-left : left s o ≡ left f u
           next-left = rest-left f s (unkept - 1) o e ∙ ap (left f) (sym v)
 
@@ -217,8 +217,8 @@ module _ (f : List ℕ) (differs₀ returns₀ unkept₀ line₀ differs returns
           next-back : d ≡ 0 → firstAfter comesBack line [] (left f unkept) ≡ least r (firstAfter comesBack m [] (left f u))
           next-back h = ap (firstAfter comesBack line []) (here-left ∙ sym here-lines) ∙ P .back h ∙ ap (λ (x : List Line). least r (firstAfter comesBack m [] x)) next-left
 
-          pub settle-on : Settling f differs₀ returns₀ unkept₀ line₀ a b u m
-          settle-on = record {
+          pub settle-on : (a b : ℕ) → a ≡ least differs d → b ≡ least returns r → Settling f differs₀ returns₀ unkept₀ line₀ a b u m
+          settle-on a b x y = record {
             clash = S .clash ∙ ap (least differs) next-clash ∙ least-over differs d (firstAfter clashes m [] (left f u)) ∙ ap (λ (n : ℕ). least n (firstAfter clashes m [] (left f u))) (sym x);
             back = λ h.
                 let w = least-zero differs d (sym x ∙ h) in

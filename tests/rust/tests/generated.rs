@@ -339,8 +339,8 @@ fn every_call_that_knows_files_gives_each_of_its_answers_in_a_run() {
 
 /// The lines up to the first result's last, of which version, type and join are always good.
 #[test]
-fn every_key_of_a_file_meets_a_wrong_value_in_four_runs() {
-    let met: BTreeSet<usize> = (20..24)
+fn every_key_of_a_file_meets_a_wrong_value_in_eight_runs() {
+    let met: BTreeSet<usize> = (20..28)
         .flat_map(run_of_files)
         .filter_map(|case| case.answer().refusal())
         .filter(|refusal| refusal.number == 43 && refusal.place <= 26)
