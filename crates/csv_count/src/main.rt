@@ -26,6 +26,8 @@ fn count(text: &[u8]) {
             let n = told::of_number(&mut line, b"sheets=", sheets.count);
             program::output(&NAME, &line[..n], b"");
         }
-        Counted::NotCounted(fault) => file::refuse(&NAME, b"", text, fault),
+        Counted::NotCounted(fault) => {
+            file::refuse(&NAME, b"", text, fault);
+        }
     }
 }

@@ -66,7 +66,9 @@ fn convert(text: &[u8], mode: &[u8], sent: &[u8], control: &[u8])
                 finish(all(text, sheets, mode, sent, control, true));
             }
         }
-        Counted::NotCounted(fault) => file::refuse(&NAME, b"sheet=0\n", text, fault),
+        Counted::NotCounted(fault) => {
+            file::refuse(&NAME, b"sheet=0\n", text, fault);
+        }
     }
 }
 

@@ -61,7 +61,11 @@ fn convert(text: &[u8], which: usize, mode: &[u8], sent: &[u8], control: &[u8]) 
     let mut sheet = [0u8; 65536];
     match oul::csv_sheet(text, which, mode, sent, control, &mut sheet) {
         Made::Sheet(n) => program::output(&NAME, program::front(&sheet, n), b""),
-        Made::Unfit(refusal) => file::refuse_sheet(&NAME, refusal),
-        Made::Faulty(fault) => file::refuse(&NAME, b"", text, fault),
+        Made::Unfit(refusal) => {
+            file::refuse_sheet(&NAME, refusal);
+        }
+        Made::Faulty(fault) => {
+            file::refuse(&NAME, b"", text, fault);
+        }
     }
 }

@@ -4,8 +4,11 @@ use csv_rules::Fault;
 use rules::Name;
 use rules::Refusal;
 use spot::Spot;
-ghost use lib.ListN.{length};
+ghost use mathlib.Core.Path.{_≡_};
 ghost use Prim.Native.Nat.{_≤_};
+ghost use lib.ListN.{length};
+ghost use Rattle.rules.specs.Lists.{bytes};
+ghost use Rattle.told.specs.Told.{refusalText, faultText};
 ghost use Rattle.program.specs.Reading.{Within};
 
 // Reads the file in the way of `read_input`, into a buffer that is longer by one byte than the longest file.
@@ -31,37 +34,49 @@ fn fitting(program: &[u8], n: usize, room: usize) -> Input
     Input::Failed
 }
 
-// A file's fault: three lines behind `before`, and where it is met in words.
-pub fn refuse(program: &[u8], before: &[u8], file: &[u8], fault: Fault) {
+// A file's fault: three lines behind `before`, how many bytes they have, and where it is met in words.
+pub fn refuse(program: &[u8], before: &[u8], file: &[u8], fault: Fault) -> usize
+    ensures { λ r. ⌜ r ≡ length (faultText fault) ⌝ }
+{
     let mut lines = [0u8; 96];
     let n = told::of_fault(&mut lines, fault);
     crate::output(program, before, &lines[..n]);
     let mut words = [0u8; 192];
     let k = words::fault_in_words(&mut words, fault, oul::csv_spot(file));
     io::write_all(2, &words[..k]);
+    n
 }
 
-// The refusal of a sheet: three lines, and the words.
-pub fn refuse_sheet(program: &[u8], refusal: Refusal) {
-    three(program, b"", refusal);
+// The refusal of a sheet: three lines, how many bytes they have, and the words.
+pub fn refuse_sheet(program: &[u8], refusal: Refusal) -> usize
+    ensures { λ r. ⌜ r ≡ length (refusalText (bytes "line=") refusal) ⌝ }
+{
+    let n = three(program, b"", refusal);
     say(refusal);
+    n
 }
 
 // The same of the k-th of several, which is named before.
-pub fn refuse_one(program: &[u8], k: usize, refusal: Refusal) {
+pub fn refuse_one(program: &[u8], k: usize, refusal: Refusal) -> usize
+    ensures { λ r. ⌜ r ≡ length (refusalText (bytes "line=") refusal) ⌝ }
+{
     let mut before = [0u8; 96];
-    let n = told::of_number(&mut before, b"sheet=", k);
-    three(program, &before[..n], refusal);
+    let named = told::of_number(&mut before, b"sheet=", k);
+    let n = three(program, &before[..named], refusal);
     io::write_all(2, b"sheet ");
     io::print_decimal(2, k as u64);
     io::write_all(2, b": ");
     say(refusal);
+    n
 }
 
-fn three(program: &[u8], before: &[u8], refusal: Refusal) {
+fn three(program: &[u8], before: &[u8], refusal: Refusal) -> usize
+    ensures { λ r. ⌜ r ≡ length (refusalText (bytes "line=") refusal) ⌝ }
+{
     let mut lines = [0u8; 96];
     let n = told::of_sheet(&mut lines, refusal);
     crate::output(program, before, &lines[..n]);
+    n
 }
 
 // The sheet that is refused isn't kept, so that no byte of it can be named: 41 is a fault of what the caller gives.
@@ -83,6 +98,8 @@ fn say(refusal: Refusal) {
 }
 
 // A buffer for the longest file that the programs take, and one byte more.
-pub fn room() -> [u8; 4194305] {
+pub fn room() -> [u8; 4194305]
+    ensures { λ r. ⌜ length r ≡ 4194305 ⌝ }
+{
     [0; 4194305]
 }

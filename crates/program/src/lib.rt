@@ -9,7 +9,7 @@ ghost use mathlib.Core.Path.{_≡_};
 ghost use lib.ListN.{length, take};
 ghost use Rattle.rules.specs.Lists.{bytes};
 ghost use Rattle.told.specs.Told.{refusalText};
-ghost use Rattle.program.specs.Reading.{endingOf, Within};
+ghost use Rattle.program.specs.Reading.{endingOf, Within, NineDigits};
 
 // ---- input
 // A whole input of so many bytes, at the start of the lent buffer; or none, and why is told already.
@@ -141,14 +141,18 @@ pub enum Number {
     Wrong,
 }
 
-pub fn number_at(i: usize) -> Number {
+pub fn number_at(i: usize) -> Number
+    ensures { λ r. ⌜ NineDigits r ⌝ }
+{
     let mut digits = [0u8; 9];
     let n = os::arg(i, &mut digits);
     read_number(&digits[..n])
 }
 
 // At least one digit, and nothing else.
-fn read_number(s: &[u8]) -> Number {
+fn read_number(s: &[u8]) -> Number
+    ensures { λ r. ⌜ NineDigits r ⌝ }
+{
     if s.len() == 0 {
         return Number::Wrong;
     }
