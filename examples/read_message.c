@@ -14,8 +14,10 @@ static size_t length;
 
 static unsigned char sheet[OUL_SHEET_MAX];
 
-/* PID is the second known segment; its field 3 holds the patient's number. */
-enum { PID = 2, NUMBER = 3 };
+/* PID is the second known segment; its field 3 holds the patient's number, which has at most 20 bytes. */
+enum { PID = 2, NUMBER = 3, NUMBER_MAX = 20 };
+
+static unsigned char number[NUMBER_MAX];
 
 /* The segment with its name, where there is one with that ordinal. */
 static void tell_segment(size_t ordinal) {
@@ -47,8 +49,8 @@ static int tell_message(void) {
         return 1;
     }
     printf("%zu specimens, %zu orders, %zu results", told[0], told[1], told[2]);
-    oul_locate(message, length, PID, NUMBER, 1, told);
-    printf(" of patient %.*s\n", (int)told[1], (const char *)message + told[0]);
+    oul_part_text(message, length, PID, NUMBER, 1, number, sizeof number, told);
+    printf(" of patient %.*s\n", (int)told[0], (const char *)number);
     oul_to_sheet(message, length, sheet, sizeof sheet, told);
     fwrite(sheet, 1, told[0], stdout);
     return 0;

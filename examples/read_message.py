@@ -14,15 +14,15 @@ import sys
 MESSAGE_MAX = 32768
 SHEET_MAX = 65536
 
-# PID is the second known segment; its field 3 holds the patient's number.
-PID, NUMBER = 2, 3
+# PID is the second known segment; its field 3 holds the patient's number, which has at most 20 bytes.
+PID, NUMBER, NUMBER_MAX = 2, 3, 20
 
 SIZE = ctypes.c_size_t
 TOLD = SIZE * 3
 TEXT = [ctypes.c_char_p, SIZE]
 CALLS = {
     'oul_check': TEXT + [TOLD],
-    'oul_locate': TEXT + [SIZE, SIZE, SIZE, TOLD],
+    'oul_part_text': TEXT + [SIZE, SIZE, SIZE] + TEXT + [TOLD],
     'oul_to_sheet': TEXT + TEXT + [TOLD],
     'oul_segment': TEXT + [SIZE, TOLD],
     'oul_spot': TEXT + [SIZE, TOLD],
@@ -66,11 +66,11 @@ def message_told(library, message):
     refusal, told = ask(library.oul_check, message)
     if refusal:
         return refusal_told(library, message, refusal, told[0], told[1]).encode() + b'\n', 1
-    _, (start, length, _) = ask(library.oul_locate, message, PID, NUMBER, 1)
-    patient = message[start:start + length]
+    patient = ctypes.create_string_buffer(NUMBER_MAX)
+    _, (bytes_of_patient, _, _) = ask(library.oul_part_text, message, PID, NUMBER, 1, patient, NUMBER_MAX)
     sheet = ctypes.create_string_buffer(SHEET_MAX)
     _, (length, _, _) = ask(library.oul_to_sheet, message, sheet, SHEET_MAX)
-    return b'%d specimens, %d orders, %d results of patient %s\n' % (*told, patient) + sheet.raw[:length], 0
+    return b'%d specimens, %d orders, %d results of patient %s\n' % (*told, patient.raw[:bytes_of_patient]) + sheet.raw[:length], 0
 
 
 def read_all(most):

@@ -6,14 +6,18 @@
  *     answer 0     what was asked for, as each call says
  *     a refusal    told[0] the known segment, or the line of a sheet; told[1] the field; told[2] 0, but for oul_csv_next. Each is 0 where none is named.
  *
+ * A lent buffer in the sense of demand 1 (docs/DEMANDS.md) is the room bytes at out: a refusal leaves every byte of it. told is no lent buffer but the answer: a
+ * refusal writes it, too.
+ *
  * A pointer is to as many bytes as the length after it says. A length may be 0; its pointer may then be NULL. What a call is lent to read may overlap nothing that
- * it is lent to write, told among it. A refusal leaves every byte of a lent buffer.
+ * it is lent to write, told among it.
  *
  * The library keeps no state: any number of threads may call it at once. It takes no memory but the stack, so many bytes at most (measured,
  * not proved), beside what memcpy and memset take:
  *
  *     oul_check         2048
  *     oul_locate        2304
+ *     oul_part_text     2560
  *     oul_to_sheet      5632
  *     oul_to_message    2048
  *     oul_segment        256
@@ -23,7 +27,7 @@
  *     oul_csv_next     86016
  *     oul_csv_spot    274432
  *
- * The archive defines these ten symbols and no others, and asks for memcpy and memset.
+ * The archive defines these eleven symbols and no others, and asks for memcpy and memset.
  */
 #ifndef OUL_H
 #define OUL_H
@@ -32,7 +36,7 @@
 
 /* The minor number grows with what is added, the major one with what is changed or taken away. */
 #define OUL_VERSION_MAJOR 1
-#define OUL_VERSION_MINOR 2
+#define OUL_VERSION_MINOR 3
 
 /* The most bytes of a message and of a sheet: buffers that hold any. A file has no limit. */
 #define OUL_MESSAGE_MAX 32768
@@ -66,9 +70,9 @@ enum oul_refusal {
     OUL_SHEET_TOO_LONG = 40, /* longer than OUL_SHEET_MAX */
     OUL_SHEET_BYTES = 41,    /* a byte or a shift, or no final 0A; oul_spot tells where */
     OUL_KEY = 42,            /* a wrong or missing key */
-    OUL_LINE = 43,           /* a line's value breaks its rule */
+    OUL_LINE_VALUE = 43,     /* a line's value breaks its rule */
     OUL_OVERFLOW = 44,       /* the message would pass OUL_MESSAGE_MAX bytes or 512 segments */
-    /* a message or a sheet */
+    /* a message, a sheet or a text */
     OUL_ROOM = 45,           /* the lent buffer is too short */
     /* a file; oul_csv_spot tells in which line */
     OUL_QUOTING = 50,        /* an item that is not quoted as it must be, or a line that does not end in CR LF */
@@ -78,12 +82,20 @@ enum oul_refusal {
     OUL_RETURNS = 54         /* a result number that comes back after another */
 };
 
+/* what OUL_LINE_VALUE was called up to version 1.2 */
+#define OUL_LINE OUL_LINE_VALUE
+
 /* Checks a message. Answer 0: it keeps every rule; told: the counts of SPM, OBR and OBX. Refusals 10 to 27. */
 size_t oul_check(const unsigned char *message, size_t length, size_t told[3]);
 
 /* Finds a component of a field of the known segment with that ordinal; all three count from 1. Answer 0: told: where the part starts in the message, how
  * long it is, and 0. The part is still escaped and lies in the first repetition; an absent one has length 0. The check's refusals first, then 31, then 30. */
 size_t oul_locate(const unsigned char *message, size_t length, size_t ordinal, size_t field, size_t component, size_t told[3]);
+
+/* Writes the text of the part that oul_locate finds, without its escapes, into the room bytes at out. Answer 0: told: how many bytes the text has, 0 and 0; the bytes
+ * past it stay. The refusals of oul_locate first; then 23, with the ordinal and the field in told, where the part has a bare subcomponent separator or a bad escape: a part
+ * that the check does not read may, and MSH-2 always does; then 45 where the room is too short. 4,096 bytes, the most of a segment, hold any text. */
+size_t oul_part_text(const unsigned char *message, size_t length, size_t ordinal, size_t field, size_t component, unsigned char *out, size_t room, size_t told[3]);
 
 /* Writes the sheet of a message into the room bytes at out. Answer 0: told: how many bytes the sheet has, 0 and 0; the bytes past it stay. Refusals 10 to 27, then 45
  * where the room is too short; OUL_SHEET_MAX bytes hold any sheet. */

@@ -19,7 +19,7 @@ def octets(text):
 class Case(typing.NamedTuple):
     call: str
     given: bytes
-    numbers: list  # further arguments, as they stand: a fetch has three, a conversion the room of the lent buffer
+    numbers: list  # further arguments, as they stand: a fetch has three, the text of a part these and the room of the lent buffer, a conversion the room
     answer: list   # its words: 'ok' and what is given, or 'refused' and three numbers
 
     @property
@@ -28,7 +28,7 @@ class Case(typing.NamedTuple):
 
     @property
     def text(self):
-        """What a fetch or a conversion gives."""
+        """What a fetch, the text of a part or a conversion gives."""
         return octets(''.join(self.answer[1:]))
 
 

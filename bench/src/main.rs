@@ -4,8 +4,11 @@
 mod files;
 mod inputs;
 
+use oul_tests::places::READ;
+use oul_tests::report::ValueType;
 use oul_tests::{
-    check, csv_sheets, locate, to_message, to_sheet, Given, MESSAGE_LIMIT, SHEET_LIMIT,
+    check, csv_sheets, locate, part_text, to_message, to_sheet, Given, SegmentName, MESSAGE_LIMIT,
+    SEGMENT_LIMIT, SHEET_LIMIT,
 };
 use std::hint::black_box;
 use std::time::{Duration, Instant};
@@ -18,19 +21,6 @@ const TURNS: usize = 5;
 
 /// Makes a message of so many bytes at most.
 type Input = fn(usize) -> Vec<u8>;
-/// The read places of a segment: field and component.
-type Places = &'static [(usize, usize)];
-
-#[rustfmt::skip]
-const READ: [(&[u8], Places); 7] = [
-    (b"MSH", &[(7, 1), (9, 1), (9, 2), (9, 3), (10, 1), (11, 1), (12, 1), (18, 1)]),
-    (b"PID", &[(3, 1), (5, 1), (5, 2), (7, 1), (8, 1)]),
-    (b"PV1", &[(2, 1)]),
-    (b"SPM", &[(4, 1), (4, 3), (17, 1)]),
-    (b"OBR", &[(2, 1), (4, 1), (4, 3)]),
-    (b"ORC", &[(1, 1), (2, 1)]),
-    (b"OBX", &[(2, 1), (3, 1), (3, 2), (3, 3), (5, 1), (6, 1), (8, 1), (11, 1)]),
-];
 
 fn main() {
     ratios();
@@ -77,6 +67,23 @@ fn ratios() {
                     keep(oul::check(m));
                     for &(ordinal, field, component) in &places {
                         keep(oul::locate(m, ordinal, field, component));
+                    }
+                },
+            ),
+        );
+        row(
+            &format!("check, text of {} places", places.len()),
+            race(
+                || {
+                    keep(check(m));
+                    for &(ordinal, field, component) in &places {
+                        keep(part_text(m, ordinal, field, component, SEGMENT_LIMIT));
+                    }
+                },
+                || {
+                    keep(oul::check(m));
+                    for &(ordinal, field, component) in &places {
+                        keep(oul::part_text(m, ordinal, field, component, &mut out));
                     }
                 },
             ),
@@ -208,14 +215,17 @@ fn agree_on_file(file: &[u8], out: &mut [u8]) -> usize {
     sheets.len()
 }
 
-/// The ordinal, field and component of every read place of a message.
+/// The ordinal, field and component of every read place of a message. Its results are NM or ST,
+/// whose values stand in the same place.
 fn places(m: &[u8]) -> Vec<(usize, usize, usize)> {
     let segments = m.split_inclusive(|&byte| byte == b'\r');
-    let known =
-        segments.filter_map(|segment| READ.iter().find(|(name, _)| segment.starts_with(name)));
+    let read = READ.iter().filter(|place| place.is_for(ValueType::Number));
     (1..)
-        .zip(known)
-        .flat_map(|(ordinal, (_, places))| places.iter().map(move |&(f, c)| (ordinal, f, c)))
+        .zip(segments.filter_map(SegmentName::of))
+        .flat_map(|(ordinal, name)| {
+            let places = read.clone().filter(move |place| place.segment == name);
+            places.map(move |place| (ordinal, place.field, place.component))
+        })
         .collect()
 }
 
@@ -227,12 +237,15 @@ fn agree(m: &[u8], places: &[(usize, usize, usize)]) -> Vec<u8> {
         (ours.specimens, ours.orders, ours.results),
         (counts.specimens, counts.orders, counts.results)
     );
+    let mut out = vec![0; SHEET_LIMIT];
     for &(ordinal, field, component) in places {
         let part = locate(m, ordinal, field, component).expect("a place that is there");
         assert_eq!(oul::locate(m, ordinal, field, component), Ok(part));
+        let text = part_text(m, ordinal, field, component, SEGMENT_LIMIT).expect("a good text");
+        let length = oul::part_text(m, ordinal, field, component, &mut out);
+        assert_eq!(length.map(|length| &out[..length]), Ok(&text[..]));
     }
     let sheet = to_sheet(m, SHEET_LIMIT).expect("a good message");
-    let mut out = vec![0; SHEET_LIMIT];
     assert_eq!(oul::to_sheet(m, &mut out), Ok(sheet.len()));
     assert_eq!(out[..sheet.len()], sheet);
     assert_eq!(oul::to_message(&sheet, &mut out), Ok(m.len()));

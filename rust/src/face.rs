@@ -33,6 +33,16 @@ mod c {
             component: usize,
             told: *mut [usize; 3],
         ) -> usize;
+        pub fn oul_part_text(
+            message: *const u8,
+            length: usize,
+            ordinal: usize,
+            field: usize,
+            component: usize,
+            out: *mut u8,
+            room: usize,
+            told: *mut [usize; 3],
+        ) -> usize;
         pub fn oul_to_sheet(
             message: *const u8,
             length: usize,
@@ -107,6 +117,31 @@ pub fn locate(m: &[u8], ordinal: usize, field: usize, component: usize) -> Answe
     // SAFETY: as above.
     let answer =
         unsafe { c::oul_locate(m.as_ptr(), m.len(), ordinal, field, component, &mut told) };
+    (answer, told)
+}
+
+pub fn part_text(
+    m: &[u8],
+    ordinal: usize,
+    field: usize,
+    component: usize,
+    out: &mut [u8],
+) -> Answer {
+    let mut told = [0; 3];
+    let (to, room) = (out.as_mut_ptr(), out.len());
+    // SAFETY: as above.
+    let answer = unsafe {
+        c::oul_part_text(
+            m.as_ptr(),
+            m.len(),
+            ordinal,
+            field,
+            component,
+            to,
+            room,
+            &mut told,
+        )
+    };
     (answer, told)
 }
 

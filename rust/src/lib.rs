@@ -1,6 +1,6 @@
 //! The specimen result message OUL^R22 of HL7 v2.5, over a proved library: [`check`] a message,
-//! [`fetch`] a part of it, turn it [`to_sheet`] and back [`to_message`]; and go through the sheets
-//! of a commercial centre's CSV file by [`csv_count`] and [`csv_next`].
+//! [`fetch`] a part of it or its [`part_text`], turn it [`to_sheet`] and back [`to_message`]; and go
+//! through the sheets of a commercial centre's CSV file by [`csv_count`] and [`csv_next`].
 //!
 //! Every call takes any bytes, ends, takes no memory and keeps no state. It gives what was asked
 //! for, or the one [`Refusal`] that is met first; a refusal leaves a lent buffer as it was.
@@ -100,6 +100,33 @@ pub fn fetch(
     component: usize,
 ) -> Result<&[u8], Refusal> {
     locate(message, ordinal, field, component).map(|part| &message[part])
+}
+
+/// Writes the text of the part that [`locate`] finds, without its escapes, over the front of `out`,
+/// and gives its length; the bytes past it stay. 4,096 bytes hold any text.
+///
+/// The refusals of [`locate`] first; then 23 with the segment and the field, where the part has a
+/// bare subcomponent separator or a bad escape, as a part that the check does not read may and
+/// MSH-2 always does; then 45 where `out` is too short.
+///
+/// ```
+/// let message = include_str!("../../tests/outside/01-whole-case.msg").replace("|P7|", r"|P\F\7|");
+/// let mut out = [b'.'; 5];
+/// assert_eq!(oul::part_text(message.as_bytes(), 2, 3, 1, &mut out)?, 3);
+/// assert_eq!(out, *b"P|7..");
+/// let refusal = oul::part_text(message.as_bytes(), 1, 2, 1, &mut out).unwrap_err();
+/// assert_eq!(refusal.to_string(), "refused with 23, segment 1, field 2");
+/// # Ok::<(), oul::Refusal>(())
+/// ```
+pub fn part_text(
+    message: &[u8],
+    ordinal: usize,
+    field: usize,
+    component: usize,
+    out: &mut [u8],
+) -> Result<usize, Refusal> {
+    let answer = face::part_text(message, ordinal, field, component, out);
+    accepted(answer).map(|[length, ..]| length)
 }
 
 /// Writes the sheet of a message over the front of `out`, and gives its length; the bytes past it

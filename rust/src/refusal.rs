@@ -83,7 +83,9 @@ pub mod number {
     /// A wrong or missing key.
     pub const KEY: u8 = 42;
     /// A line's value breaks its rule.
-    pub const LINE: u8 = 43;
+    pub const LINE_VALUE: u8 = 43;
+    /// What [`LINE_VALUE`] was called up to version 1.2.
+    pub const LINE: u8 = LINE_VALUE;
     /// The message would pass [`MESSAGE_MAX`](crate::MESSAGE_MAX) bytes or 512 segments.
     pub const OVERFLOW: u8 = 44;
     /// The lent buffer is too short.

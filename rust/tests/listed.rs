@@ -3,9 +3,8 @@
 use oul::Refusal;
 use oul_tests::cases::{Answer, Call, Case};
 use oul_tests::generate;
-use oul_tests::requests::{self, Asked};
-use std::fs;
-use std::path::Path;
+use oul_tests::listed::{self, Request};
+use std::path::{Path, PathBuf};
 
 #[test]
 fn every_listed_case_is_answered_as_listed() {
@@ -17,19 +16,13 @@ fn every_edge_is_answered_as_listed() {
     run("edges.tsv");
 }
 
-/// A list of a request tells how many sheets a file has, and not where its first row starts.
 #[test]
 fn every_call_of_the_first_request_is_answered_as_listed() {
-    for line in entries("requests/req01.tsv") {
-        let listed = requests::parse(&line).expect("a case");
-        let Asked::Call(case) = &listed.asked else {
-            continue;
-        };
-        let answer = match answer(case) {
-            Answer::Sheets(sheets) => format!("ok {}", sheets.count),
-            answer => answer.to_string(),
-        };
-        assert_eq!(answer, listed.answer, "{}", listed.name);
+    for listed in listed::requests(&path("requests/req01.tsv")).expect("a list") {
+        if let Request::Call(case) = &listed.asked {
+            let answer = listed::in_request(&answer(case));
+            assert_eq!(answer, listed.answer, "{}", listed.place);
+        }
     }
 }
 
@@ -41,22 +34,16 @@ fn generated_cases_are_answered_as_by_the_independent_program() {
 }
 
 fn run(list: &str) {
-    for line in entries(list) {
-        let (case, listed) = Case::parse(&line).expect("a case");
-        assert_eq!(answer(&case).to_string(), listed, "{case}");
+    for listed in listed::cases(&path(list)).expect("a list") {
+        let answer = answer(&listed.asked).to_string();
+        assert_eq!(answer, listed.answer, "{}", listed.place);
     }
 }
 
-/// The lines of a list of `tests/` that are no comments: some.
-fn entries(list: &str) -> Vec<String> {
+/// A list of `tests/`.
+fn path(list: &str) -> PathBuf {
     let tests = Path::new(env!("CARGO_MANIFEST_DIR")).join("../tests");
-    let list = fs::read_to_string(tests.join(list)).expect("a list");
-    let lines = list.lines().map(String::from);
-    let entries: Vec<String> = lines
-        .filter(|line| !line.is_empty() && !line.starts_with('#'))
-        .collect();
-    assert!(!entries.is_empty());
-    entries
+    tests.join(list)
 }
 
 /// What this crate answers, as it stands in a list.
@@ -70,11 +57,12 @@ fn answer(case: &Case) -> Answer {
                 results: counts.results,
             })
         }),
-        &Call::Fetch {
-            ordinal,
-            field,
-            component,
-        } => oul::fetch(input, ordinal, field, component).map(|part| Answer::Bytes(part.to_vec())),
+        Call::Fetch(part) => oul::fetch(input, part.ordinal, part.field, part.component)
+            .map(|part| Answer::Bytes(part.to_vec())),
+        Call::PartText { part, room } => written(*room, |out| {
+            oul::part_text(input, part.ordinal, part.field, part.component, out)
+        })
+        .map(Answer::Bytes),
         &Call::ToSheet { room } => {
             written(room, |out| oul::to_sheet(input, out)).map(Answer::Bytes)
         }

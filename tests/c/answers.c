@@ -1,19 +1,19 @@
 /* answers: reads cases from standard input and writes the library's answers to standard output, by way of include/oul.h. tests/compare holds them against the
  * independent Rust program.
  *
- * A case is six numbers of eight bytes, the lowest byte first, and the input: the call (0 check, 1 locate, 2 to_sheet, 3 to_message, 4 segment, 5 spot, 6 csv_count,
- * 7 csv_sheet, 8 csv_next, 9 csv_spot), three numbers (locate: ordinal, field, component; to_sheet, to_message: the room of the lent buffer, 0, 0; segment: ordinal, 0,
- * 0; spot: the refusal, 0, 0; csv_sheet: the room, which sheet, 0; csv_next: the room, the place, 0; else 0, 0, 0), the salt of what the buffer holds before, and the
- * length of the input. Behind the input of csv_sheet and csv_next stand the lengths of mode, sent and control, as such numbers, and then the three. An answer is four
- * such numbers, what the call returned and told, and for a call that writes the lent buffer, with GUARD bytes behind it. Where there is no input, no text or no room
- * the call is given NULL.
+ * A case is seven numbers of eight bytes, the lowest byte first, and the input: the call (0 check, 1 locate, 2 part_text, 3 to_sheet, 4 to_message, 5 segment, 6 spot,
+ * 7 csv_count, 8 csv_sheet, 9 csv_next, 10 csv_spot), three numbers (locate, part_text: ordinal, field, component; segment: ordinal, 0, 0; spot: the refusal, 0, 0;
+ * csv_sheet: which sheet, 0, 0; csv_next: the place, 0, 0; else 0, 0, 0), the room of the lent buffer (0 where none is lent), the salt of what the buffer holds before,
+ * and the length of the input. Behind the input of csv_sheet and csv_next stand the lengths of mode, sent and control, as such numbers, and then the three. An answer is
+ * four such numbers, what the call returned and told, and for a call that writes the lent buffer, with GUARD bytes behind it. Where there is no input, no text or no
+ * room the call is given NULL.
  */
 #include "oul.h"
 
 #include <stdio.h>
 #include <string.h>
 
-enum { CHECK, LOCATE, TO_SHEET, TO_MESSAGE, SEGMENT, SPOT, CSV_COUNT, CSV_SHEET, CSV_NEXT, CSV_SPOT };
+enum { CHECK, LOCATE, PART_TEXT, TO_SHEET, TO_MESSAGE, SEGMENT, SPOT, CSV_COUNT, CSV_SHEET, CSV_NEXT, CSV_SPOT };
 enum { MODE, SENT, CONTROL, TEXTS };
 enum { INPUT = 1 << 20, TEXT = 1 << 17, ROOM = 1 << 17, GUARD = 16 };
 
@@ -27,7 +27,7 @@ static unsigned char buffer[ROOM + GUARD];
 static unsigned char before[256 + ROOM + GUARD];
 
 struct ask {
-    size_t call, one, two, three, salt, length;
+    size_t call, one, two, three, room, salt, length;
 };
 
 /* What a buffer holds before a call: the byte i is 7 times (i + salt). */
@@ -38,8 +38,8 @@ static void prepare(void) {
 
 /* Fills the buffer; how many bytes of it are shown. */
 static size_t lend(const struct ask *a) {
-    memcpy(buffer, before + a->salt, a->one + GUARD);
-    return a->one + GUARD;
+    memcpy(buffer, before + a->salt, a->room + GUARD);
+    return a->room + GUARD;
 }
 
 static int has_texts(const struct ask *a) {
@@ -47,7 +47,7 @@ static int has_texts(const struct ask *a) {
 }
 
 static int writes(const struct ask *a) {
-    return a->call == TO_SHEET || a->call == TO_MESSAGE || has_texts(a);
+    return a->call == PART_TEXT || a->call == TO_SHEET || a->call == TO_MESSAGE || has_texts(a);
 }
 
 static int read_texts(void) {
@@ -71,7 +71,7 @@ static int answer(const struct ask *a) {
     size_t said[4] = {UNTOLD, UNTOLD, UNTOLD, UNTOLD};
     size_t lent = writes(a) ? lend(a) : 0;
     const unsigned char *from = a->length ? input : NULL;
-    unsigned char *out = a->one ? buffer : NULL;
+    unsigned char *out = a->room ? buffer : NULL;
     switch (a->call) {
     case CHECK:
         said[0] = oul_check(from, a->length, said + 1);
@@ -79,11 +79,14 @@ static int answer(const struct ask *a) {
     case LOCATE:
         said[0] = oul_locate(from, a->length, a->one, a->two, a->three, said + 1);
         break;
+    case PART_TEXT:
+        said[0] = oul_part_text(from, a->length, a->one, a->two, a->three, out, a->room, said + 1);
+        break;
     case TO_SHEET:
-        said[0] = oul_to_sheet(from, a->length, out, a->one, said + 1);
+        said[0] = oul_to_sheet(from, a->length, out, a->room, said + 1);
         break;
     case TO_MESSAGE:
-        said[0] = oul_to_message(from, a->length, out, a->one, said + 1);
+        said[0] = oul_to_message(from, a->length, out, a->room, said + 1);
         break;
     case SEGMENT:
         said[0] = oul_segment(from, a->length, a->one, said + 1);
@@ -95,10 +98,10 @@ static int answer(const struct ask *a) {
         said[0] = oul_csv_count(from, a->length, said + 1);
         break;
     case CSV_SHEET:
-        said[0] = oul_csv_sheet(from, a->length, a->two, GIVEN, out, a->one, said + 1);
+        said[0] = oul_csv_sheet(from, a->length, a->one, GIVEN, out, a->room, said + 1);
         break;
     case CSV_NEXT:
-        said[0] = oul_csv_next(from, a->length, a->two, GIVEN, out, a->one, said + 1);
+        said[0] = oul_csv_next(from, a->length, a->one, GIVEN, out, a->room, said + 1);
         break;
     case CSV_SPOT:
         said[0] = oul_csv_spot(from, a->length, said + 1);
@@ -113,7 +116,7 @@ int main(void) {
     struct ask a;
     prepare();
     while (fread(&a, sizeof a, 1, stdin) == 1) {
-        int good = a.length <= INPUT && a.salt <= 255 && (!writes(&a) || a.one <= ROOM);
+        int good = a.length <= INPUT && a.salt <= 255 && a.room <= ROOM;
         if (!good || fread(input, 1, a.length, stdin) != a.length || (has_texts(&a) && !read_texts()) || !answer(&a)) {
             fprintf(stderr, "answers: no case\n");
             return 1;

@@ -30,6 +30,13 @@ static void locate(void) {
     oul_locate(input, length, 2, 5, 2, told);
 }
 
+/* a part with a text, one without, and MSH-2 */
+static void part_text(void) {
+    oul_part_text(input, length, 2, 5, 1, out, sizeof out, told);
+    oul_part_text(input, length, 2, 3, 9, out, sizeof out, told);
+    oul_part_text(input, length, 1, 2, 1, out, sizeof out, told);
+}
+
 static void to_sheet(void) {
     oul_to_sheet(input, length, out, sizeof out, told);
 }
@@ -77,6 +84,7 @@ static struct {
     {"nothing", nothing, 0},
     {"oul_check", check, 0},
     {"oul_locate", locate, 0},
+    {"oul_part_text", part_text, 0},
     {"oul_to_sheet", to_sheet, 0},
     {"oul_to_message", to_message, 0},
     {"oul_segment", segment, 0},

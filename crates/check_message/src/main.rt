@@ -23,7 +23,7 @@ fn check(m: &[u8]) {
     match oul::check(m) {
         Answer::Accepted(counts) => {
             let mut lines = [0u8; 96];
-            let n = told::of_counts(&mut lines, counts);
+            let n = printed::of_counts(&mut lines, counts);
             program::output(&NAME, &lines[..n], b"");
         }
         Answer::Refused(refusal) => {

@@ -1,3 +1,3 @@
-pub mod Texts
+pub mod Writing
 pub mod Messages
 pub mod Passing

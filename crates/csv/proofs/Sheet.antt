@@ -46,10 +46,10 @@ pub told-as : {t u : Told (List ℕ)} {x : List ℕ} {r : Made} {y : List ℕ} �
 told-as e p = rw e p
 
 unfit : (x : List ℕ) (k : Refusal) → SheetCall (refusal k) x (Unfit k) x
-unfit x k = record { told = refl; buffer = refl }
+unfit x k = record { told = refl; buffer = refl; within = λ n e. let z : _≡_ {A = ℕ} 0 1 = cc in absurd (omega arith) }
 
 faulty : (x : List ℕ) (f : Fault) → SheetCall (toldFault f) x (Faulty f) x
-faulty x f = record { told = refl; buffer = refl }
+faulty x f = record { told = refl; buffer = refl; within = λ n e. let z : _≡_ {A = ℕ} 0 1 = cc in absurd (omega arith) }
 
 -- ---- 45, or the sheet
 module _ (s x : List ℕ) where
@@ -59,7 +59,7 @@ module _ (s x : List ℕ) where
 
   pub copied-all : (r : ℕ) (y : List ℕ) → length s ≤ length x → Wrote r y s x → SheetCall (copiedTold s (length x)) x (Sheet r) y
   unfolding copiedTold Over.over
-  copied-all r y h w = rw (le-ltb (length x) (length s) h) (record { told = ap gives (w .ends); buffer = w .is })
+  copied-all r y h w = rw (le-ltb (length x) (length s) h) (record { told = ap gives (w .ends); buffer = w .is; within = λ n e. let z : n ≡ r = cc in omega (arith, w .ends) })
 
   -- 40 to 43 before that: p is what judging tells
   module _ (p : Judged) (t : toldJudged p ≡ judgedTold s) where

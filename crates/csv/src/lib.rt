@@ -13,9 +13,9 @@ ghost use mathlib.Core.Path.{_≡_};
 ghost use Prim.Native.Nat.{_<_};
 ghost use lib.ListN.{length};
 ghost use Rattle.rules.specs.Told.{gives};
-ghost use Rattle.csv_rules.specs.Answers.{toldCount, SheetCall, NextCall};
-ghost use Rattle.csv_rules.specs.Sheets.{csvCount, csvSheet, csvNext, placeAfter};
-ghost use Rattle.csv_rules.specs.Spot.{csvSpot};
+ghost use Rattle.csv_rules.specs.Answers.{SheetCall};
+ghost use Rattle.csv_rules.specs.Sheets.{csvCount, placeAfter};
+ghost use Rattle.csv_rules.specs.Promises.{SheetsCounted, LineTold, CsvSheetWritten, NextSheetWritten};
 ghost use Rattle.csv_rules.specs.Claims.{placeOf};
 ghost use Rattle.csv_runs.specs.Sheet.{sheetAt};
 ghost use Rattle.csv.specs.Calls.{Convertible, copiedTold, madeTold};
@@ -23,7 +23,7 @@ ghost use Rattle.csv.specs.Calls.{Convertible, copiedTold, madeTold};
 // ---- the whole file
 // How many sheets a file holds, and where its first row stands; or 50 to 54.
 pub fn csv_count(file: &[u8]) -> Counted
-    ensures { λ r. ⌜ toldCount r ≡ csvCount (now (file .entry)) ⌝ }
+    ensures { λ r. ⌜ SheetsCounted (now (file .entry)) r ⌝ }
 {
     match csv_check::verdict_on(file) {
         Verdict::Right(sheets) => Counted::Sheets(sheets),
@@ -36,7 +36,7 @@ pub fn csv_count(file: &[u8]) -> Counted
 
 // The line where a file is refused, from 1; 0 where it isn't.
 pub fn csv_spot(file: &[u8]) -> usize
-    ensures { λ r. ⌜ r ≡ csvSpot (now (file .entry)) ⌝ }
+    ensures { λ r. ⌜ LineTold (now (file .entry)) r ⌝ }
 {
     match csv_check::verdict_on(file) {
         Verdict::Right(_) => 0,
@@ -118,7 +118,7 @@ pub fn csv_next(
     control: &[u8],
     out: &mut [u8],
 ) -> Next
-    ensures { λ r. ⌜ NextCall (csvNext (now (file .entry)) at (record { mode = now (mode .entry); sent = now (sent .entry); control = now (control .entry) }) (length (now (out .entry)))) (placeAfter (now (file .entry)) at) (now (out .entry)) r (now (out .exit)) ⌝ }
+    ensures { λ r. ⌜ NextSheetWritten (now (file .entry)) at (record { mode = now (mode .entry); sent = now (sent .entry); control = now (control .entry) }) (now (out .entry)) r (now (out .exit)) ⌝ }
 {
     if file.len() <= at {
         return Next {
@@ -140,7 +140,7 @@ fn next_in(
     out: &mut [u8],
 ) -> Next
     requires { ⌜ at < length (now file) ⌝ }
-    ensures { λ r. ⌜ NextCall (csvNext (now (file .entry)) at (record { mode = now (mode .entry); sent = now (sent .entry); control = now (control .entry) }) (length (now (out .entry)))) (placeAfter (now (file .entry)) at) (now (out .entry)) r (now (out .exit)) ⌝ }
+    ensures { λ r. ⌜ NextSheetWritten (now (file .entry)) at (record { mode = now (mode .entry); sent = now (sent .entry); control = now (control .entry) }) (now (out .entry)) r (now (out .exit)) ⌝ }
 {
     let put = csv_runs::put_sheet(sheet, file, at, mode, sent, control);
     let run = put.run;
@@ -208,7 +208,7 @@ pub fn csv_sheet(
     control: &[u8],
     out: &mut [u8],
 ) -> Made
-    ensures { λ r. ⌜ SheetCall (csvSheet (now (file .entry)) which (record { mode = now (mode .entry); sent = now (sent .entry); control = now (control .entry) }) (length (now (out .entry)))) (now (out .entry)) r (now (out .exit)) ⌝ }
+    ensures { λ r. ⌜ CsvSheetWritten (now (file .entry)) which (record { mode = now (mode .entry); sent = now (sent .entry); control = now (control .entry) }) (now (out .entry)) r (now (out .exit)) ⌝ }
 {
     match csv_check::verdict_on(file) {
         Verdict::Wrong(blame) => {
@@ -230,7 +230,7 @@ fn sheet_of(
     out: &mut [u8],
 ) -> Made
     requires { ⌜ csvCount (now file) ≡ gives sheets ⌝ }
-    ensures { λ r. ⌜ SheetCall (csvSheet (now (file .entry)) which (record { mode = now (mode .entry); sent = now (sent .entry); control = now (control .entry) }) (length (now (out .entry)))) (now (out .entry)) r (now (out .exit)) ⌝ }
+    ensures { λ r. ⌜ CsvSheetWritten (now (file .entry)) which (record { mode = now (mode .entry); sent = now (sent .entry); control = now (control .entry) }) (now (out .entry)) r (now (out .exit)) ⌝ }
 {
     if which == 0 {
         return refused(Kind::NoOrdinal);

@@ -23,7 +23,7 @@ fn count(text: &[u8]) {
     match oul::csv_count(text) {
         Counted::Sheets(sheets) => {
             let mut line = [0u8; 96];
-            let n = told::of_number(&mut line, b"sheets=", sheets.count);
+            let n = printed::of_number(&mut line, b"sheets=", sheets.count);
             program::output(&NAME, &line[..n], b"");
         }
         Counted::NotCounted(fault) => {

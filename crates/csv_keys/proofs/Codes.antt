@@ -11,7 +11,7 @@ use lib.ListN.{length, getD, take, drop, replicate}
 use lib.Seq.{getD-take, getD-drop}
 use Rattle.rules.specs.Lists.{bytes, empty, same, all}
 use Rattle.rules.specs.Shift.{within}
-use Rattle.rules.specs.Value.{number, fault, fits}
+use Rattle.rules.specs.Value.{numeric, fault, fits}
 use Rattle.rules.proofs.Logic.{cases, both, not-true}
 use Rattle.rules.proofs.Lists.{same-eq}
 use Rattle.value.specs.declared.Fault.{Fault}
@@ -170,9 +170,9 @@ empty-halved [] = refl
 empty-halved (b ∷ s) = sym (ne-eqb (length (b ∷ s)) 0 (omega arith))
 
 -- a text with a quote is no number, in the file and read
-number-halved : (raw : List ℕ) → fits true number (halved false raw) ≡ fits true number raw
+number-halved : (raw : List ℕ) → fits true numeric (halved false raw) ≡ fits true numeric raw
 number-halved raw =
-    cases (all spelling raw) (λ e. ap (fits true number) (halved-plain spelling refl raw e))
+    cases (all spelling raw) (λ e. ap (fits true numeric) (halved-plain spelling refl raw e))
     (λ e. not-number (halved false raw) (all-halved spelling refl raw ∙ e) ∙ sym (not-number raw e))
 
 module _ (f spans lead : List ℕ) (start len code n s l : ℕ) (e : code ≡ codeOf (take len (drop start f))) (h : start + len ≤ length f) where
@@ -189,9 +189,9 @@ module _ (f spans lead : List ℕ) (start len code n s l : ℕ) (e : code ≡ co
       rw z (word-key f (83 ∷ 78 ∷ []) lead n s l w)
 
   module _ (t : (not (eqb len 0) && not (eqb code 66)) ≡ false) (raw : List ℕ) (o : raw ≡ stretch f spans 34) (x : Fault) (q : faultNo x ≡ fault true (ruleOf Number) raw) (u : Bool) (g : u ≡ fineOf x) where
-    number-is : fits true number (itemAt f spans 34) ≡ eqb (faultNo x) 0
+    number-is : fits true numeric (itemAt f spans 34) ≡ eqb (faultNo x) 0
     unfolding itemAt ruleOf
-    number-is = number-halved (stretch f spans 34) ∙ ap (fits true number) (sym o) ∙ ap (λ (k : ℕ). eqb k 0) (sym q)
+    number-is = number-halved (stretch f spans 34) ∙ ap (fits true numeric) (sym o) ∙ ap (λ (k : ℕ). eqb k 0) (sym q)
 
     pub kind-nm : u ≡ true → Word (78 ∷ 77 ∷ []) lead n s l → KeyIs f (typeOf (itemAt f spans 34) (itemIn f start len)) lead n s l
     unfolding typeOf bytes

@@ -115,7 +115,7 @@ fn fifteen(file: &[u8], start: usize, len: usize) -> KeyAt
         return as_is(start, len);
     }
     let end = start + len;
-    if !value::digits(&file[start..end], len) {
+    if !bytes::digits(&file[start..end], len) {
         return as_is(start, len);
     }
     let lead = [48u8; 15];
@@ -310,7 +310,7 @@ fn same_at(file: &[u8], a: &[usize; 90], b: &[usize; 90], how: How, column: usiz
     let n = column - 1;
     let mine = csv_rows::item(file, a, n);
     let other = csv_rows::item(file, b, n);
-    if value::equal(mine, other) {
+    if bytes::equal(mine, other) {
         return true;
     }
     let k = key(file, a, how, column);

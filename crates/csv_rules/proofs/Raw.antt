@@ -15,7 +15,7 @@ use Rattle.rules.specs.declared.Name.the-variants.{Msh, Pid, Pv1, Spm, Obr, Orc
 use Rattle.rules.specs.Lists.{bytes, empty, filled, nth, same, all, split, onto}
 use Rattle.rules.specs.Shift.{within}
 use Rattle.rules.specs.Frame.{digit}
-use Rattle.rules.specs.Value.{number, point, unsigned, spelled, holds, tooLong, fault, fits}
+use Rattle.rules.specs.Value.{numeric, point, unsigned, spelled, holds, tooLong, fault, fits}
 use Rattle.rules.proofs.Logic.{cases, both, either, never, and-false, or-true, not-true}
 use Rattle.rules.proofs.Lists.{same-eq, same-self, empty-is, all-first, all-cons, all-each}
 use Rattle.csv_rules.specs.Kanji.{lead, trail, first, second, isPair, Character, one, pair, charactersAt, characters, good, convertible, into, back, shifted, converted}
@@ -319,16 +319,16 @@ signed-spelling (b ∷ s) h =
     (λ e. let g : all p s ≡ true = rw e at h in rw (all-cons spelling b s, e) (all-each p spelling q s g))
     (λ e. let g : all p (b ∷ s) ≡ true = rw e at h in all-each p spelling q (b ∷ s) g)
 
-pub not-number : (s : List ℕ) → all spelling s ≡ false → fits true number s ≡ false
+pub not-number : (s : List ℕ) → all spelling s ≡ false → fits true numeric s ≡ false
 unfolding fault holds spelled
 not-number s h =
     let p : ℕ → Bool = λ b. digit b || point b in
     let e : all p (unsigned s) ≡ false = cases (all p (unsigned s)) (λ t. never (sym (signed-spelling s t) ∙ h)) (λ t. t) in
-    rw e (cases (empty s) (λ t. rw t) (λ t. cases (tooLong number s) (λ u. rw (t, u)) (λ u. rw (t, u))))
+    rw e (cases (empty s) (λ t. rw t) (λ t. cases (tooLong numeric s) (λ u. rw (t, u)) (λ u. rw (t, u))))
 
-number-same : (v : List ℕ) → convertible v ≡ true → fits true number (converted v) ≡ fits true number v
+number-same : (v : List ℕ) → convertible v ≡ true → fits true numeric (converted v) ≡ fits true numeric v
 number-same v h =
-    pairCases v h (λ e. ap (fits true number) e)
+    pairCases v h (λ e. ap (fits true numeric) e)
     (λ f. let q = f spelling spelling-alone in not-number (converted v) (q .1) ∙ sym (not-number v (q .0)))
 
 empty-same : (v : List ℕ) → convertible v ≡ true → empty (converted v) ≡ empty v
@@ -344,7 +344,7 @@ unfolding typeOf bytes all
 type-becomes v f h k =
     rw (empty-same f k, same-plain f (bytes "B") k refl, number-same v h)
     (cases (empty f || same f (bytes "B"))
-    (λ e. rw e (cases (fits true number v) (λ n. rw n (plain-becomes (bytes "NM") refl)) (λ n. rw n (plain-becomes (bytes "ST") refl))))
+    (λ e. rw e (cases (fits true numeric v) (λ n. rw n (plain-becomes (bytes "NM") refl)) (λ n. rw n (plain-becomes (bytes "ST") refl))))
     (λ e. rw e (plain-becomes (bytes "SN") refl)))
 
 -- ---- a key's value is the converted text of its raw value

@@ -5,21 +5,25 @@ use mathlib.Core.List.{List, [], _∷_}
 use Prim.Native.Nat.{ℕ, _≤_}
 use native.Mathlib.Omega.{arith}
 use lib.Dec.{eqb}
+use lib.ListN.{length}
 use Rattle.rules.specs.declared.Kind.{Kind}
-use Rattle.rules.specs.declared.Kind.the-variants.{TooLong, Header, Bytes, Segment, TooMany, Order, Missing, Null, Repeated, Escape, Long, Value, Status, Differs, NoOrdinal, Zero, SheetTooLong, SheetBytes, Key, Line, Overflow, Room}
+use Rattle.rules.specs.declared.Kind.the-variants.{TooLong, Header, Bytes, Segment, TooMany, Order, Missing, Null, Repeated, Escape, Long, Value, Status, Differs, NoOrdinal, Zero, SheetTooLong, SheetBytes, Key, LineValue, Overflow, Room}
 use Rattle.rules.specs.declared.Refusal.{Refusal}
-use Rattle.rules.specs.Told.{number}
+use Rattle.rules.specs.Told.{Told, gives, refused, number}
 use Rattle.rules.specs.All.{rules}
+use Rattle.rules.proofs.Logic.{not-given}
 use Rattle.rules.proofs.Unique.{refusal-unique}
 use Rattle.csv_rules.specs.declared.Fault.{Fault}
 use Rattle.csv_rules.specs.declared.Fault.the-variants.{Quoting, Columns, Unconverted, HeaderDiffers, Returns}
+use Rattle.csv_rules.specs.declared.Counted.{Counted}
 use Rattle.csv_rules.specs.declared.Counted.the-variants.{Sheets, NotCounted}
 use Rattle.csv_rules.specs.declared.Made.{Made}
 use Rattle.csv_rules.specs.declared.Made.the-variants.{Sheet, Unfit, Faulty}
 use Rattle.csv_rules.specs.declared.Next.{Next}
-use Rattle.csv_rules.specs.Answers.{faultNumber, toldMade}
+use Rattle.csv_rules.specs.Answers.{faultNumber, toldCount, toldMade, SheetCall}
+use Rattle.csv_rules.specs.Sheets.{csvSheet, csvNext}
 use Rattle.csv_rules.specs.Columns.{columns, dropped}
-use Rattle.csv_rules.specs.Claims.{sameKeys, oneTo, once, uses, EveryKey, EveryColumn, CountedOnce, SheetOnce, NextOnce}
+use Rattle.csv_rules.specs.Claims.{sameKeys, oneTo, once, uses, EveryKey, EveryColumn, CountedOnce, SheetOnce, NextOnce, SheetLeaves, NextLeaves}
 
 pub every-key : EveryKey
 unfolding rules columns sameKeys
@@ -68,7 +72,7 @@ low Zero = omega arith
 low SheetTooLong = omega arith
 low SheetBytes = omega arith
 low Key = omega arith
-low Line = omega arith
+low LineValue = omega arith
 low Overflow = omega arith
 low Room = omega arith
 
@@ -82,11 +86,14 @@ high Returns = omega arith
 apart : {P : Type 0} (r : Refusal) (f : Fault) → number (r .kind) ≡ faultNumber f → P
 apart r f e = absurd (omega (arith, low (r .kind), high f, e))
 
+count-once : (a b : Counted) → toldCount a ≡ toldCount b → a ≡ b
+count-once (Sheets c) (Sheets d) h = cc
+count-once (Sheets c) (NotCounted f) h = cc
+count-once (NotCounted f) (Sheets c) h = cc
+count-once (NotCounted f) (NotCounted g) h = ap NotCounted (fault-unique f g (cc))
+
 pub counted-once : CountedOnce
-counted-once (Sheets c) (Sheets d) h = cc
-counted-once (Sheets c) (NotCounted f) h = cc
-counted-once (NotCounted f) (Sheets c) h = cc
-counted-once (NotCounted f) (NotCounted g) h = ap NotCounted (fault-unique f g (cc))
+counted-once file a b p q = count-once a b (p ∙ sym q)
 
 pub made-once : (a b : Made) → toldMade a ≡ toldMade b → a ≡ b
 made-once (Sheet n) (Sheet m) h = cc
@@ -99,13 +106,29 @@ made-once (Faulty f) (Sheet m) h = cc
 made-once (Faulty f) (Unfit s) h = apart s f (cc)
 made-once (Faulty f) (Faulty g) h = ap Faulty (fault-unique f g (cc))
 
+call-once : (t : Told (List ℕ)) (before x y : List ℕ) (a b : Made) → SheetCall t before a x → SheetCall t before b y → (a ≡ b) × (x ≡ y)
+call-once t before x y a b C D = (made-once a b (C .told ∙ sym (D .told)), C .buffer ∙ sym (D .buffer))
+
 pub sheet-once : SheetOnce
-sheet-once t before x y a b C D = (made-once a b (C .told ∙ sym (D .told)), C .buffer ∙ sym (D .buffer))
+sheet-once file which g before x y a b C D = call-once (csvSheet file which g (length before)) before x y a b C D
 
 abbrev next : Made → ℕ → Next
 next w n = record { made = w; place = n }
 
 pub next-once : NextOnce
-next-once t n before x y a b C D =
-    let w = sheet-once t before x y (a .made) (b .made) (C .call) (D .call) in
+next-once file at g before x y a b C D =
+    let w = call-once (csvNext file at g (length before)) before x y (a .made) (b .made) (C .call) (D .call) in
     (ap (λ z. next z (a .place)) (w .0) ∙ ap (next (b .made)) (C .place ∙ sym (D .place)), w .1)
+
+-- ---- what is no sheet leaves the buffer
+call-leaves : (t : Told (List ℕ)) (before after : List ℕ) (r : Made) → ((n : ℕ) → r ≡ Sheet n → ⊥) → SheetCall t before r after → after ≡ before
+call-leaves (gives w) before after (Sheet n) h C = absurd (h n refl)
+call-leaves (gives w) before after (Unfit k) h C = not-given (C .told)
+call-leaves (gives w) before after (Faulty f) h C = not-given (C .told)
+call-leaves (refused n s f) before after r h C = C .buffer
+
+pub sheet-leaves : SheetLeaves
+sheet-leaves file which g before after r h C = call-leaves (csvSheet file which g (length before)) before after r h C
+
+pub next-leaves : NextLeaves
+next-leaves file at g before after r h C = call-leaves (csvNext file at g (length before)) before after (r .made) h (C .call)

@@ -1,7 +1,8 @@
 -- What the answers about a file tell: the request's number and values for every case.
 use mathlib.Core.Path.{_≡_}
 use mathlib.Core.List.{List}
-use Prim.Native.Nat.{ℕ}
+use Prim.Native.Nat.{ℕ, _≤_}
+use lib.ListN.{length}
 use Rattle.rules.specs.Told.{Told, gives, refused, refusal, over, lengthOf}
 use Rattle.csv_rules.specs.declared.Fault.{Fault}
 use Rattle.csv_rules.specs.declared.Fault.the-variants.{Quoting, Columns, Unconverted, HeaderDiffers, Returns}
@@ -34,10 +35,12 @@ toldMade (Sheet n) = gives n
 toldMade (Unfit r) = refusal r
 toldMade (Faulty f) = toldFault f
 
--- a call that gives t, a sheet or a refusal: what it answers, r, and what it leaves, after, of a lent buffer that held before
+-- a call that gives t, a sheet or a refusal: what it answers, r, and what it leaves, after, of a lent buffer that held before. What it says it
+-- wrote lies in the buffer.
 pub record SheetCall (t : Told (List ℕ)) (before : List ℕ) (r : Made) (after : List ℕ) : Type 0 where
   pub told : toldMade r ≡ lengthOf t
   pub buffer : after ≡ over t before
+  pub within : (n : ℕ) → r ≡ Sheet n → n ≤ length before
 
 -- the same, and the place behind
 pub record NextCall (t : Told (List ℕ)) (behind : ℕ) (before : List ℕ) (r : Next) (after : List ℕ) : Type 0 where

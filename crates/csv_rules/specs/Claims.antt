@@ -7,7 +7,7 @@ use Prim.Native.String.{String}
 use lib.Dec.{eqb}
 use Rattle.rules.specs.declared.Name.{Name}
 use Rattle.rules.specs.declared.Name.the-variants.{Pid, Pv1, Spm, Obr, Obx}
-use Rattle.rules.specs.Told.{Told, gives, refused}
+use Rattle.rules.specs.Told.{gives, refused}
 use Rattle.rules.specs.Lists.{bytes, same, all, count, has}
 use Rattle.rules.specs.Row.{Line, lines}
 use Rattle.rules.specs.Shift.{within, keeps}
@@ -15,8 +15,9 @@ use Rattle.rules.specs.Message.{toMessage}
 use Rattle.returns.specs.Demand2.{Only44Or45, Returned}
 use Rattle.csv_rules.specs.declared.Counted.{Counted}
 use Rattle.csv_rules.specs.declared.Made.{Made}
+use Rattle.csv_rules.specs.declared.Made.the-variants.{Sheet}
 use Rattle.csv_rules.specs.declared.Next.{Next}
-use Rattle.csv_rules.specs.Answers.{toldCount, SheetCall, NextCall}
+use Rattle.csv_rules.specs.Promises.{SheetsCounted, CsvSheetWritten, NextSheetWritten}
 use Rattle.csv_rules.specs.Quote.{Items, Lines, cut, isBroken, linesIn}
 use Rattle.csv_rules.specs.Quote as Csv
 use Rattle.csv_rules.specs.Written.{Spells}
@@ -97,15 +98,26 @@ SheetGoesOn = (file : List ℕ) (which : ℕ) (g : Given) (room : ℕ) (s : List
 abbrev pub NextGoesOn : Type 0
 NextGoesOn = (file : List ℕ) (at : ℕ) (g : Given) (room : ℕ) (s : List ℕ) → csvNext file at g room ≡ gives s → GoesOn s
 
--- ---- the answers are told apart: two that meet one promise are the same
+-- ---- the answers are told apart: two that keep one promise are the same, with the same bytes in the buffer
 abbrev pub CountedOnce : Type 0
-CountedOnce = (a b : Counted) → toldCount a ≡ toldCount b → a ≡ b
+CountedOnce = (file : List ℕ) (a b : Counted) → SheetsCounted file a → SheetsCounted file b → a ≡ b
 
 abbrev pub SheetOnce : Type 0
-SheetOnce = (t : Told (List ℕ)) (before x y : List ℕ) (a b : Made) → SheetCall t before a x → SheetCall t before b y → (a ≡ b) × (x ≡ y)
+SheetOnce = (file : List ℕ) (which : ℕ) (g : Given) (before x y : List ℕ) (a b : Made)
+    → CsvSheetWritten file which g before a x → CsvSheetWritten file which g before b y → (a ≡ b) × (x ≡ y)
 
 abbrev pub NextOnce : Type 0
-NextOnce = (t : Told (List ℕ)) (n : ℕ) (before x y : List ℕ) (a b : Next) → NextCall t n before a x → NextCall t n before b y → (a ≡ b) × (x ≡ y)
+NextOnce = (file : List ℕ) (at : ℕ) (g : Given) (before x y : List ℕ) (a b : Next)
+    → NextSheetWritten file at g before a x → NextSheetWritten file at g before b y → (a ≡ b) × (x ≡ y)
+
+-- and one that gives no sheet leaves the buffer exactly as lent
+abbrev pub SheetLeaves : Type 0
+SheetLeaves = (file : List ℕ) (which : ℕ) (g : Given) (before after : List ℕ) (r : Made) → ((n : ℕ) → r ≡ Sheet n → ⊥)
+    → CsvSheetWritten file which g before r after → after ≡ before
+
+abbrev pub NextLeaves : Type 0
+NextLeaves = (file : List ℕ) (at : ℕ) (g : Given) (before after : List ℕ) (r : Next) → ((n : ℕ) → r .made ≡ Sheet n → ⊥)
+    → NextSheetWritten file at g before r after → after ≡ before
 
 -- ---- sheet after sheet: from the first row on, the calls give the sheets of the file in order, whatever the caller gives for each, and then 30
 unfoldable pub Follows : List ℕ → ℕ → List Run → Type 0

@@ -10,7 +10,7 @@ use Rattle.rules.specs.declared.Name.{Name}
 use Rattle.rules.specs.declared.Name.the-variants.{Msh, Pid, Pv1, Spm, Obr, Orc, Obx, Other}
 use Rattle.rules.specs.Lists.{bytes, empty, filled, nth, same, all, split}
 use Rattle.rules.specs.Frame.{digit}
-use Rattle.rules.specs.Value.{number, fits}
+use Rattle.rules.specs.Value.{numeric, fits}
 use Rattle.csv_rules.specs.Quote.{Items}
 use Rattle.csv_rules.specs.Kanji.{converted}
 
@@ -41,7 +41,7 @@ meaningOf (c ∷ cs) v = elim (same v (bytes (c .0))) [ true ↦ bytes (c .1) | 
 
 -- 004, OBX-2: a form other than B ("no result") makes SN; without one a number (01's NM) is NM, any other value ST
 unfoldable pub typeOf : List ℕ → List ℕ → List ℕ
-typeOf value form = cond (empty form || same form (bytes "B")) (cond (fits true number value) (bytes "NM") (bytes "ST")) (bytes "SN")
+typeOf value form = cond (empty form || same form (bytes "B")) (cond (fits true numeric value) (bytes "NM") (bytes "ST")) (bytes "SN")
 
 -- the text of column n; columns past a row's end are blank
 unfoldable pub textAt : Items → ℕ → List ℕ

@@ -7,6 +7,7 @@ pub mod Sheets
 pub mod Raw
 pub mod Spot
 pub mod Answers
+pub mod Promises
 pub mod AllCsv
 pub mod Sample
 pub mod Claims

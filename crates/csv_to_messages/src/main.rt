@@ -124,7 +124,7 @@ fn each(
     let mut k = 0;
     while k < sheets.count {
         k += 1;
-        let n = told::numbered(own, control, k, b"");
+        let n = printed::numbered(own, control, k, b"");
         let next = oul::csv_next(text, at, mode, sent, program::front(own, n), sheet);
         let made = next.made;
         at = next.place;

@@ -1,4 +1,3 @@
-pub mod Edits
-pub mod Covered
-pub mod Demand
-pub mod Instance
+pub mod Demand1
+pub mod Demand2
+pub mod Demands

@@ -1,1 +1,1 @@
-// The demands are theorems over the rules: no code.
+// The three demands, said and proved of the definitions and of the promises of the calls.

@@ -1,35 +1,30 @@
 // Fetching a part of a message: "the caller gets back the very stretch of his message, still escaped, from the first repetition".
-use frame::header;
-use frame::names;
 use rules::Answer;
 use rules::Delims;
 use rules::Fetched;
+use rules::Found;
 use rules::Kind;
+use rules::KnownSegment;
 use rules::Name;
 use rules::Refusal;
 use rules::Span;
 ghost use mathlib.Core.Path.{_≡_};
-ghost use mathlib.Core.Bool.{cond, not};
+ghost use mathlib.Core.Bool.{cond};
 ghost use Prim.Native.Nat.{_+_, _≤_};
 ghost use lib.Dec.{eqb};
 ghost use lib.ListN.{length, take, drop};
-ghost use Rattle.rules.specs.declared.Name.the-variants.{Other};
-ghost use Rattle.rules.specs.Told.{toldSpan, _when_};
 ghost use Rattle.rules.specs.Shift.{met};
 ghost use Rattle.rules.specs.Frame.{is, known};
 ghost use Rattle.rules.specs.Proper.{Proper};
-ghost use Rattle.rules.specs.Fetch.{spanOf, stretch, fetchTold, bytesAt, partTold};
-ghost use Rattle.rules.specs.Fetch as Fetch;
-ghost use Rattle.fetch.specs.Place.{shown, startTold, spanIn, placeTold, knownOf, foundTold, partIn, stretchOf};
-
-mod pieces;
+ghost use Rattle.rules.specs.Fetch.{spanOf, stretch, knownOf};
+ghost use Rattle.rules.specs.Promises.{Located, PartGiven, StretchGiven};
+ghost use Rattle.fetch.specs.Place.{PlaceFound, partIn, stretchOf};
 
 // Where the part stands, or the refusal: the check's own first, then 31, then 30.
 pub fn locate(m: &[u8], ordinal: usize, field: usize, component: usize) -> Fetched
-    ensures { λ r. ⌜ toldSpan r ≡ fetchTold (now (m .entry)) ordinal field component ⌝ }
-    ensures within { λ r. ⌜ ((p : Span) → r ≡ Fetched.At p → p .start + p .len ≤ length (now (m .entry))) ⌝ }
+    ensures { λ r. ⌜ Located (now (m .entry)) ordinal field component r ⌝ }
 {
-    match message::check(m) {
+    match checks::check(m) {
         Answer::Refused(r) => Fetched::NotFetched(r),
         Answer::Accepted(_) => place(m, ordinal, field, component),
     }
@@ -37,16 +32,14 @@ pub fn locate(m: &[u8], ordinal: usize, field: usize, component: usize) -> Fetch
 
 // The part itself, as the part of m that it is; where it is refused an empty one, at the start.
 pub fn fetch(m: &[u8], ordinal: usize, field: usize, component: usize) -> &[u8]
-    ensures { λ r. ⌜ now r ≡ shown (partTold (now (m .entry)) ordinal field component) ⌝ }
-    ensures place { λ r. ⌜ r .ptr ≡ (m .entry .ptr .0, startTold (fetchTold (now (m .entry)) ordinal field component) + m .entry .ptr .1) ⌝ }
+    ensures { λ r. ⌜ PartGiven (now (m .entry)) (m .entry .ptr) ordinal field component (now r) (r .ptr) ⌝ }
 {
     bytes_of(m, locate(m, ordinal, field, component))
 }
 
 // The stretch of m that an answer names; an empty one, at the start, where it names none that lies in m.
 pub fn bytes_of(m: &[u8], answer: Fetched) -> &[u8]
-    ensures { λ r. ⌜ now r ≡ bytesAt (now (m .entry)) (spanIn (length (now (m .entry))) answer) ⌝ }
-    ensures place { λ r. ⌜ r .ptr ≡ (m .entry .ptr .0, spanIn (length (now (m .entry))) answer .start + m .entry .ptr .1) ⌝ }
+    ensures { λ r. ⌜ StretchGiven (now (m .entry)) (m .entry .ptr) answer (now r) (r .ptr) ⌝ }
 {
     match answer {
         Fetched::NotFetched(_) => &m[..0],
@@ -67,8 +60,7 @@ pub fn bytes_of(m: &[u8], answer: Fetched) -> &[u8]
 
 // After the check: where the part stands, or 31, or 30. It takes any bytes.
 pub fn place(m: &[u8], ordinal: usize, field: usize, component: usize) -> Fetched
-    ensures { λ r. ⌜ toldSpan r ≡ placeTold (now (m .entry)) ordinal field component ⌝ }
-    ensures within { λ r. ⌜ ((p : Span) → r ≡ Fetched.At p → p .start + p .len ≤ length (now (m .entry))) ⌝ }
+    ensures { λ r. ⌜ PlaceFound (now (m .entry)) ordinal field component r ⌝ }
 {
     if (field == 0) | (component == 0) {
         return refused(Kind::Zero);
@@ -76,7 +68,7 @@ pub fn place(m: &[u8], ordinal: usize, field: usize, component: usize) -> Fetche
     if !header::is_header(m) {
         return refused(Kind::NoOrdinal);
     }
-    match known_segment(m, ordinal) {
+    match known::known_segment(m, ordinal) {
         Found::Nothing => refused(Kind::NoOrdinal),
         Found::At(s) => Fetched::At(part_of(m, header::delims(m), s, field, component)),
     }
@@ -92,59 +84,8 @@ fn refused(kind: Kind) -> Fetched
     })
 }
 
-// A known segment: its name, where it starts, and how long it is without its 0D.
-pub struct Segment {
-    pub name: Name,
-    pub start: usize,
-    pub len: usize,
-}
-
-pub enum Found {
-    At(Segment),
-    Nothing,
-}
-
-// "Ordinals count known segments only, from 1." It takes any bytes.
-pub fn known_segment(m: &[u8], ordinal: usize) -> Found
-    ensures { λ r. ⌜ foundTold (now (m .entry)) r ≡ Fetch.ordinal (known (now (m .entry))) ordinal ⌝ }
-    ensures within { λ r. ⌜ ((s : Segment) → r ≡ Found.At s → s .start + s .len ≤ length (now (m .entry))) ⌝ }
-{
-    if ordinal == 0 {
-        return Found::Nothing;
-    }
-    let mut left = ordinal - 1;
-    let mut at = 0;
-    while at < m.len() {
-        let rest = &m[at..];
-        let n = value::before(rest, 0x0D);
-        if n == rest.len() {
-            return Found::Nothing;
-        }
-        let name = names::name_of(&rest[..n]);
-        let one = counts(name);
-        if left < one {
-            return Found::At(Segment {
-                name,
-                start: at,
-                len: n,
-            });
-        }
-        left -= one;
-        at += n + 1;
-    }
-    Found::Nothing
-}
-
-// 1 for a known name, 0 for another.
-fn counts(name: Name) -> usize
-    ensures { λ r. ⌜ r ≡ (1 when not (is name Other)) ⌝ }
-    ensures small { λ r. ⌜ r ≤ 1 ⌝ }
-{
-    if names::is(name, Name::Other) { 0 } else { 1 }
-}
-
 // A component of a field of a segment. In MSH the first separator is itself field 1.
-fn part_of(m: &[u8], d: Delims, s: Segment, field: usize, component: usize) -> Span
+fn part_of(m: &[u8], d: Delims, s: KnownSegment, field: usize, component: usize) -> Span
     requires { ⌜ (1 ≤ field) × (1 ≤ component) × (9 ≤ length (now m)) × (s .start + s .len ≤ length (now m)) × Proper d ⌝ }
     ensures { λ r. ⌜ r ≡ spanOf d (knownOf (now (m .entry)) s) field component ⌝ }
     ensures within { λ r. ⌜ r .start + r .len ≤ length (now (m .entry)) ⌝ }
@@ -178,7 +119,7 @@ fn undivided(start: usize, len: usize, component: usize) -> Span
 }
 
 // A component of the first repetition of the n-th piece of a segment.
-fn component_of(m: &[u8], d: Delims, s: Segment, n: usize, component: usize) -> Span
+fn component_of(m: &[u8], d: Delims, s: KnownSegment, n: usize, component: usize) -> Span
     requires { ⌜ (1 ≤ component) × (s .start + s .len ≤ length (now m)) × Proper d ⌝ }
     ensures { λ r. ⌜ r ≡ stretchOf d (s .start) (met (take (s .len) (drop (s .start) (now (m .entry))))) n component ⌝ }
     ensures within { λ r. ⌜ r .start + r .len ≤ length (now (m .entry)) ⌝ }

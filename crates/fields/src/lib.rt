@@ -1,20 +1,21 @@
-// One read field of a segment, as the table of document 01 lists it, and on from one field to the next.
+// A segment, read field by read field: one field as the table of document 01 lists it, and on from one to the next.
 use closed::ClosedRead;
+use components::Components;
+use components::one;
+use components::three;
 use rules::Delims;
 use value::Fault;
 use value::Place;
 ghost use mathlib.Core.Path.{_≡_};
 ghost use mathlib.Core.Bool.{not};
-ghost use mathlib.Core.List.{[], _∷_};
-ghost use Prim.Native.Nat.{_+_, _≤_};
-ghost use lib.ListN.{length, drop};
+ghost use Prim.Native.Nat.{_+_, _-_, _≤_};
+ghost use lib.ListN.{length, take, drop};
 ghost use Rattle.rules.specs.Told.{_then_, _when_};
 ghost use Rattle.rules.specs.Shift.{met};
-ghost use Rattle.rules.specs.Proper.{Delim, Proper};
+ghost use Rattle.rules.specs.Proper.{Proper};
 ghost use Rattle.scan.specs.Scan.{onward};
 ghost use Rattle.value.specs.Rules.{faultNo};
-ghost use Rattle.judge.specs.Judge.{Clean};
-ghost use Rattle.fields.specs.Fields.{placeFault, formFault, formHead, Smalls, SmallForm, JudgedOf, ComponentsOf, ReadOf, Begins, Ready, To, ValueTo};
+ghost use Rattle.fields.specs.Fields.{formFault, formHead, SmallForm, ReadOf, Begins, Ready, To, EndOf};
 
 // What is read of a field: its component 1; some of its first three; the whole of MSH-18 or of PID-5.
 pub enum Form {
@@ -24,17 +25,7 @@ pub enum Form {
     Names,
 }
 
-// ---- faults
-
-// A fault where something doesn't hold.
-pub fn unless(holds: bool, f: Fault) -> Fault
-    ensures { λ r. ⌜ faultNo r ≡ (faultNo f when not holds) ⌝ }
-{
-    if holds {
-        return Fault::Nothing;
-    }
-    f
-}
+// ---- one field
 
 // 22, or a fault after it.
 fn repeated(repeats: bool, f: Fault) -> Fault
@@ -46,114 +37,6 @@ fn repeated(repeats: bool, f: Fault) -> Fault
     f
 }
 
-// ---- one field
-
-fn judge_place(raw: &[u8], d: Delims, place: Place) -> Fault
-    requires { ⌜ Smalls place ⌝ }
-    ensures { λ r. ⌜ faultNo r ≡ placeFault d place (met (now (raw .entry))) ⌝ }
-{
-    match place {
-        Place::Unread => Fault::Nothing,
-        Place::Must(rule) => judge::judge(raw, d, true, rule),
-        Place::May(rule) => judge::judge(raw, d, false, rule),
-    }
-}
-
-// The same of a component that has neither escape byte nor subcomponent separator.
-fn judge_clean_place(raw: &[u8], place: Place) -> Fault
-    ensures { λ r. ⌜ ((d : Delims) → Clean d (now (raw .entry)) → faultNo r ≡ placeFault d place (met (now (raw .entry)))) ⌝ }
-{
-    match place {
-        Place::Unread => Fault::Nothing,
-        Place::Must(rule) => judge::judge_clean(raw, true, rule),
-        Place::May(rule) => judge::judge_clean(raw, false, rule),
-    }
-}
-
-// The component at the start of t: its fault and its length.
-struct Judged {
-    fault: Fault,
-    len: usize,
-}
-
-fn component(t: &[u8], d: Delims, place: Place) -> Judged
-    requires { ⌜ Proper d × Smalls place ⌝ }
-    ensures { λ r. ⌜ JudgedOf d place (now (t .entry)) (faultNo (r .fault)) (r .len) ⌝ }
-    ensures within { λ r. ⌜ r .len ≤ length (now (t .entry)) ⌝ }
-{
-    let c = scan::first(t, d);
-    let len = c.len;
-    if c.clean {
-        let fault = judge_clean_place(&t[..len], place);
-        return Judged { fault, len };
-    }
-    let fault = judge_place(&t[..len], d, place);
-    Judged { fault, len }
-}
-
-// The field at the start of t: whether it repeats, the first fault of its components, the length of the first one and its own.
-struct Components {
-    repeats: bool,
-    fault: Fault,
-    head: usize,
-    len: usize,
-}
-
-fn one(t: &[u8], d: Delims, a: Place) -> Components
-    requires { ⌜ Proper d × Smalls a ⌝ }
-    ensures { λ r. ⌜ ComponentsOf d (a ∷ []) (now (t .entry)) (r .repeats) (faultNo (r .fault)) (r .head) (r .len) ⌝ }
-    ensures within { λ r. ⌜ (r .len ≤ length (now (t .entry))) × (r .head ≤ length (now (t .entry))) ⌝ }
-{
-    let x = component(t, d, a);
-    let fault = x.fault;
-    let head = x.len;
-    let e = scan::finish(&t[head..], d);
-    Components {
-        repeats: e.repeats,
-        fault,
-        head,
-        len: head + e.len,
-    }
-}
-
-fn two(t: &[u8], d: Delims, a: Place, b: Place) -> Components
-    requires { ⌜ Proper d × Smalls a × Smalls b ⌝ }
-    ensures { λ r. ⌜ ComponentsOf d (a ∷ b ∷ []) (now (t .entry)) (r .repeats) (faultNo (r .fault)) (r .head) (r .len) ⌝ }
-    ensures within { λ r. ⌜ (r .len ≤ length (now (t .entry))) × (r .head ≤ length (now (t .entry))) ⌝ }
-{
-    let x = component(t, d, a);
-    let f = x.fault;
-    let head = x.len;
-    let u = scan::behind(t, head, d);
-    let r = one(u, d, b);
-    let g = r.fault;
-    Components {
-        repeats: r.repeats,
-        fault: value::earlier(f, g),
-        head,
-        len: t.len() - u.len() + r.len,
-    }
-}
-
-fn three(t: &[u8], d: Delims, a: Place, b: Place, c: Place) -> Components
-    requires { ⌜ Proper d × Smalls a × Smalls b × Smalls c ⌝ }
-    ensures { λ r. ⌜ ComponentsOf d (a ∷ b ∷ c ∷ []) (now (t .entry)) (r .repeats) (faultNo (r .fault)) (r .head) (r .len) ⌝ }
-    ensures within { λ r. ⌜ (r .len ≤ length (now (t .entry))) × (r .head ≤ length (now (t .entry))) ⌝ }
-{
-    let x = component(t, d, a);
-    let f = x.fault;
-    let head = x.len;
-    let u = scan::behind(t, head, d);
-    let r = two(u, d, b, c);
-    let g = r.fault;
-    Components {
-        repeats: r.repeats,
-        fault: value::earlier(f, g),
-        head,
-        len: t.len() - u.len() + r.len,
-    }
-}
-
 // The field at the start of t: its fault, the length of its first component where that is read, and its own.
 struct Read {
     fault: Fault,
@@ -161,7 +44,7 @@ struct Read {
     len: usize,
 }
 
-fn joined(c: Components) -> Read
+fn divided(c: Components) -> Read
     ensures { λ r. ⌜ (faultNo (r .fault) ≡ (22 when (c .repeats) then faultNo (c .fault))) × (r .head ≡ c .head) × (r .len ≡ c .len) ⌝ }
 {
     let f = c.fault;
@@ -189,8 +72,8 @@ fn judge_field(t: &[u8], d: Delims, form: Form) -> Read
     ensures within { λ r. ⌜ (r .len ≤ length (now (t .entry))) × (r .head ≤ length (now (t .entry))) ⌝ }
 {
     match form {
-        Form::One(a) => joined(one(t, d, a)),
-        Form::Three(a, b, c) => joined(three(t, d, a, b, c)),
+        Form::One(a) => divided(one(t, d, a)),
+        Form::Three(a, b, c) => divided(three(t, d, a, b, c)),
         Form::Charset => undivided(closed::charset(t, d)),
         Form::Names => undivided(closed::names(t, d)),
     }
@@ -221,19 +104,20 @@ pub fn begin(field: usize) -> Walk
     }
 }
 
-// Where what follows the n-th separator after `at` starts.
-fn past(s: &[u8], at: usize, n: usize, sep: u8) -> usize
-    requires { ⌜ Delim sep × (at ≤ length (now s)) ⌝ }
-    ensures { λ r. ⌜ met (drop r (now (s .entry))) ≡ onward sep n (met (drop at (now (s .entry)))) ⌝ }
+// Where the field of a number starts.
+pub fn start_of(s: &[u8], d: Delims, w: Walk, number: usize) -> usize
+    requires { ⌜ Proper d × Ready (now s) number w ⌝ }
+    ensures { λ r. ⌜ met (drop r (now (s .entry))) ≡ onward (d .field) (number - w .field) (met (drop (w .at) (now (s .entry)))) ⌝ }
     ensures within { λ r. ⌜ r ≤ length (now (s .entry)) ⌝ }
 {
-    let mut to = at;
-    let mut left = n;
+    let sep = d.field;
+    let mut at = w.at;
+    let mut left = number - w.field;
     while 0 < left {
-        to += scan::past(&s[to..], sep);
+        at += scan::past(&s[at..], sep);
         left -= 1;
     }
-    to
+    at
 }
 
 // On to a field and through it, where no fault is found yet.
@@ -245,8 +129,7 @@ pub fn field(s: &[u8], d: Delims, w: Walk, number: usize, form: Form) -> Walk
     if !value::fine(fault) {
         return w;
     }
-    let at = w.at;
-    let start = past(s, at, number - w.field, d.field);
+    let start = start_of(s, d, w, number);
     let r = judge_field(&s[start..], d, form);
     let fault = r.fault;
     Walk {
@@ -258,39 +141,50 @@ pub fn field(s: &[u8], d: Delims, w: Walk, number: usize, form: Form) -> Walk
     }
 }
 
-// The same for OBX-5, given OBX-2's word; and whether its value is filled, and whether a part beside it is.
-pub struct Valued {
-    pub walk: Walk,
-    pub filled: bool,
-    pub beside: bool,
+// The first component of the last field that was judged, where that is read.
+pub fn head_of(s: &[u8], w: Walk) -> &[u8]
+    requires { ⌜ w .start + w .head ≤ length (now s) ⌝ }
+    ensures { λ r. ⌜ now r ≡ take (w .head) (drop (w .start) (now (s .entry))) ⌝ }
+{
+    let from = w.start;
+    let to = from + w.head;
+    &s[from..to]
 }
 
-pub fn value_field(s: &[u8], d: Delims, w: Walk, kind: &[u8]) -> Valued
-    requires { ⌜ Proper d × Ready (now s) 5 w ⌝ }
-    ensures { λ r. ⌜ ValueTo d (now (s .entry)) (now (kind .entry)) w (r .walk) (r .filled) (r .beside) ⌝ }
+// ---- the end of a segment
+
+// A segment: its first fault, and the fault's field; of an OBR also where its order number lies.
+pub struct SegmentRead {
+    pub fault: Fault,
+    pub field: usize,
+    pub at: usize,
+    pub len: usize,
+}
+
+pub fn ended(w: Walk) -> SegmentRead
+    ensures { λ r. ⌜ EndOf w (faultNo (w .fault)) r ⌝ }
 {
     let fault = w.fault;
-    if !value::fine(fault) {
-        return Valued {
-            walk: w,
-            filled: false,
-            beside: false,
+    SegmentRead {
+        fault,
+        field: w.field,
+        at: 0,
+        len: 0,
+    }
+}
+
+// "then 26 or 27 after that field": where nothing was found wrong before, f unless something holds.
+pub fn ended_unless(w: Walk, holds: bool, f: Fault) -> SegmentRead
+    ensures { λ r. ⌜ EndOf w (faultNo (w .fault) then (faultNo f when not holds)) r ⌝ }
+{
+    let fault = w.fault;
+    if value::fine(fault) & !holds {
+        return SegmentRead {
+            fault: f,
+            field: w.field,
+            at: 0,
+            len: 0,
         };
     }
-    let at = w.at;
-    let start = past(s, at, 5 - w.field, d.field);
-    let r = closed::value(&s[start..], d, kind);
-    let fault = r.fault;
-    let walk = Walk {
-        fault,
-        field: 5,
-        start,
-        head: 0,
-        at: start + r.len,
-    };
-    Valued {
-        walk,
-        filled: r.filled,
-        beside: r.beside,
-    }
+    ended(w)
 }

@@ -14,18 +14,16 @@ use Rattle.rules.specs.declared.Counts.{Counts}
 use Rattle.rules.specs.declared.Name.{Name}
 use Rattle.rules.specs.declared.Name.the-variants.{Spm, Obr, Obx, Other}
 use Rattle.rules.specs.Told.{gives, refused, refuse_if_else_, _>>_, _>>=_, _then_, _when_}
-use Rattle.rules.specs.Lists.{any, count}
-use Rattle.rules.specs.Frame.{delimsOf, segments, nameOf, is, after, knownFrom, known, orderFault}
+use Rattle.rules.specs.Lists.{count}
+use Rattle.rules.specs.Frame.{delimsOf, segments, nameOf, is, knownFrom, known, Reached, start, past, mayFollow, mayEnd, orderFault}
 use Rattle.rules.specs.View.{Segment, segmentOf, view}
-use Rattle.rules.specs.Check.{frameTold, namesOf, countsTold, placesTold, viewTold, checkTold}
+use Rattle.rules.specs.Check.{frameTold, namesOf, countsTold, unsaid, placesTold, viewTold, checkTold}
 use Rattle.rules.proofs.Logic.{cases, toldCases, then-zero, then-gives}
 use Rattle.rules.proofs.Header.{header}
 use Rattle.rules.proofs.Where.{passes}
-use Rattle.rules.proofs.Unique.{refusal-unique}
-use Rattle.frame.specs.Frame.{framedTold, frameOf, Sound, start, tallied, countedOf, seenIn, closing}
+use Rattle.order.specs.Order.{reachedOf, codeOf}
+use Rattle.frame.specs.Frame.{frameOf, Sound, nothingSeen, tallied, countedOf, seenIn, closing}
 use Rattle.frame.specs.declared.Opened.{Opened}
-use Rattle.frame.specs.declared.Framed.{Framed}
-use Rattle.frame.specs.declared.Framed.the-variants.{Open, Not}
 use Rattle.frame.specs.declared.segments.Seen.{Seen}
 
 -- ---- the names of the known segments
@@ -46,20 +44,20 @@ module _ (d : Delims) (at : ℕ) (s : List ℕ) (ss : List (List ℕ)) where
   names-known e = rw e
 
 -- ---- the pass
-counted-other : (v : Seen) (n : Name) → is n Other ≡ true
-    → countedOf v n ≡ record { segments = v .segments + 1; known = v .known; last = v .last; fault = v .fault; counts = v .counts }
+pub counted-skipped : (v : Seen) (n : Name) → is n Other ≡ true
+    → countedOf v n ≡ record { segments = v .segments + 1; known = v .known; reached = v .reached; fault = v .fault; counts = v .counts }
 unfolding countedOf
-counted-other v n e = rw e
+counted-skipped v n e = rw e
 
-counted-known : (v : Seen) (n : Name) → is n Other ≡ false
+pub counted-next : (v : Seen) (n : Name) → is n Other ≡ false
     → countedOf v n
-    ≡ record { segments = v .segments + 1; known = v .known + 1; last = n; fault = v .fault then (v .known + 1 when not (any (is n) (after (v .last)))); counts = tallied (v .counts) n }
+    ≡ record { segments = v .segments + 1; known = v .known + 1; reached = codeOf (past (reachedOf (v .reached)) n); fault = v .fault then (v .known + 1 when not (mayFollow (reachedOf (v .reached)) n)); counts = tallied (v .counts) n }
 unfolding countedOf
-counted-known v n e = rw e
+counted-next v n e = rw e
 
 -- 14
 counted-one : (v : Seen) (n : Name) → countedOf v n .segments ≡ v .segments + 1
-counted-one v n = cases (is n Other) (λ e. ap (λ w. w .segments) (counted-other v n e)) (λ e. ap (λ w. w .segments) (counted-known v n e))
+counted-one v n = cases (is n Other) (λ e. ap (λ w. w .segments) (counted-skipped v n e)) (λ e. ap (λ w. w .segments) (counted-next v n e))
 
 seen-segments : (v : Seen) (ss : List (List ℕ)) → seenIn v ss .segments ≡ v .segments + length ss
 unfolding seenIn
@@ -82,50 +80,50 @@ seen-counts d at v (s ∷ ss) =
     let ns : List Name = namesFrom d (at + suc (length s)) ss in
     let r : seenIn (countedOf v n) ss .counts ≡ talliedAll (countedOf v n .counts) ns = seen-counts d (at + suc (length s)) (countedOf v n) ss in
     cases (is n Other)
-    (λ e. r ∙ rw (counted-other v n e, names-other d at s ss e))
-    (λ e. r ∙ rw (counted-known v n e, names-known d at s ss e) (tallied-next (v .counts) n ns))
+    (λ e. r ∙ rw (counted-skipped v n e, names-other d at s ss e))
+    (λ e. r ∙ rw (counted-next v n e, names-known d at s ss e) (tallied-next (v .counts) n ns))
 
 -- 15
 unfoldable orderEnd : Seen → ℕ
-orderEnd v = v .fault then (v .known + 1 when not (is (v .last) Obx))
+orderEnd v = v .fault then (v .known + 1 when not (mayEnd (reachedOf (v .reached))))
 
 then-first : (f k x : ℕ) → ((f then (k + 1)) then x) ≡ (f then (k + 1))
 then-first zero k x = rw (add-one k)
 then-first (suc f) k x = refl
 
-order-next : (f k : ℕ) (a n : Name) (ns : List Name)
-    → ((f then (k + 1 when not (any (is n) (after a)))) then orderFault n (k + 1 + 1) ns) ≡ (f then orderFault a (k + 1) (n ∷ ns))
+order-next : (f k : ℕ) (a : Reached) (n : Name) (ns : List Name)
+    → ((f then (k + 1 when not (mayFollow a n))) then orderFault (past a n) (k + 1 + 1) ns) ≡ (f then orderFault a (k + 1) (n ∷ ns))
 unfolding orderFault
 order-next f k a n ns =
-    cases (any (is n) (after a))
+    cases (mayFollow a n)
     (λ e. rw (e, orderFault, then-zero f, add-one (k + 1)))
-    (λ e. rw (e, orderFault) (then-first f k (orderFault n (k + 1 + 1) ns)))
+    (λ e. rw (e, orderFault) (then-first f k (orderFault (past a n) (k + 1 + 1) ns)))
 
-seen-order : (d : Delims) (at : ℕ) (v : Seen) (ss : List (List ℕ)) → orderEnd (seenIn v ss) ≡ (v .fault then orderFault (v .last) (v .known + 1) (namesFrom d at ss))
+seen-order : (d : Delims) (at : ℕ) (v : Seen) (ss : List (List ℕ)) → orderEnd (seenIn v ss) ≡ (v .fault then orderFault (reachedOf (v .reached)) (v .known + 1) (namesFrom d at ss))
 unfolding seenIn orderEnd orderFault
-seen-order d at v [] = rw (names-nil d at) (cases (is (v .last) Obx) (λ e. rw e) (λ e. rw e))
+seen-order d at v [] = rw (names-nil d at) (cases (mayEnd (reachedOf (v .reached))) (λ e. rw e) (λ e. rw e))
 seen-order d at v (s ∷ ss) =
     let n : Name = nameOf s in
     let ns : List Name = namesFrom d (at + suc (length s)) ss in
-    let r : orderEnd (seenIn (countedOf v n) ss) ≡ (countedOf v n .fault then orderFault (countedOf v n .last) (countedOf v n .known + 1) ns) = seen-order d (at + suc (length s)) (countedOf v n) ss in
+    let r : orderEnd (seenIn (countedOf v n) ss) ≡ (countedOf v n .fault then orderFault (reachedOf (countedOf v n .reached)) (countedOf v n .known + 1) ns) = seen-order d (at + suc (length s)) (countedOf v n) ss in
     cases (is n Other)
-    (λ e. r ∙ rw (counted-other v n e, names-other d at s ss e))
-    (λ e. r ∙ rw (counted-known v n e, names-known d at s ss e) (order-next (v .fault) (v .known) (v .last) n ns))
+    (λ e. r ∙ rw (counted-skipped v n e, names-other d at s ss e))
+    (λ e. r ∙ rw (counted-next v n e, names-known d at s ss e) (order-next (v .fault) (v .known) (reachedOf (v .reached)) n ns))
 
 -- so 14 and 15 are the rules' own
-pub closing-is : (m : List ℕ) (d : Delims) → closing d (seenIn start (segments m))
+pub closing-is : (m : List ℕ) (d : Delims) → closing d (seenIn nothingSeen (segments m))
     ≡ (refuse 14 if ltb 512 (length (segments m)) else
-    cond (eqb (orderFault Other 1 (namesOf (view m))) 0) (countsTold (namesOf (view m)) >>= λ c. gives (record { delims = d; counts = c })) (refused 15 (orderFault Other 1 (namesOf (view m))) 0))
+    cond (eqb (orderFault start 1 (namesOf (view m))) 0) (countsTold (namesOf (view m)) >>= λ c. gives (record { delims = d; counts = c })) (refused 15 (orderFault start 1 (namesOf (view m))) 0))
 unfolding closing orderEnd namesFrom view known countsTold
 closing-is m d =
-    let w : Seen = seenIn start (segments m) in
+    let w : Seen = seenIn nothingSeen (segments m) in
     let ns : List Name = namesOf (view m) in
     let en : namesFrom (delimsOf m) 0 (segments m) ≡ ns = refl in
-    let eo : (w .fault then (w .known + 1 when not (is (w .last) Obx))) ≡ orderFault Other 1 ns
-    = seen-order (delimsOf m) 0 start (segments m) ∙ ap (orderFault Other 1) en in
+    let eo : (w .fault then (w .known + 1 when not (mayEnd (reachedOf (w .reached))))) ≡ orderFault start 1 ns
+    = seen-order (delimsOf m) 0 nothingSeen (segments m) ∙ ap (orderFault start 1) en in
     let ec : w .counts ≡ record { spm = count (is Spm) ns; obr = count (is Obr) ns; obx = count (is Obx) ns }
-    = seen-counts (delimsOf m) 0 start (segments m) ∙ rw (en, zero-add (count (is Spm) ns), zero-add (count (is Obr) ns), zero-add (count (is Obx) ns)) in
-    let es : w .segments ≡ length (segments m) = seen-segments start (segments m) ∙ zero-add (length (segments m)) in
+    = seen-counts (delimsOf m) 0 nothingSeen (segments m) ∙ rw (en, zero-add (count (is Spm) ns), zero-add (count (is Obr) ns), zero-add (count (is Obx) ns)) in
+    let es : w .segments ≡ length (segments m) = seen-segments nothingSeen (segments m) ∙ zero-add (length (segments m)) in
     rw (eo, ec, es)
 
 -- ---- what a message that passes is
@@ -136,7 +134,7 @@ pick-gives false x a n s f h = cc
 pub sound : (m : List ℕ) (o : Opened) → frameOf m ≡ gives o → Sound m (o .delims)
 unfolding frameOf countsTold
 sound m o h =
-    let at : ℕ = orderFault Other 1 (namesOf (view m)) in
+    let at : ℕ = orderFault start 1 (namesOf (view m)) in
     let ns : List Name = namesOf (view m) in
     let d : Delims = delimsOf m in
     let x : Opened = record { delims = d; counts = record { spm = count (is Spm) ns; obr = count (is Obr) ns; obx = count (is Obx) ns } } in
@@ -146,23 +144,18 @@ sound m o h =
     rw ed (record { delims = refl; proper = header m (p .headed) .proper; short = p .short; shifts = p .kept; whole = p .cut })
 
 -- ---- the check goes on from the frame
-pub check-from : (m : List ℕ) → checkTold m ≡ (frameOf m >>= λ (o : Opened). placesTold (o .delims) [] 1 (view m .segs) >> gives (o .counts))
+pub check-from : (m : List ℕ) → checkTold m ≡ (frameOf m >>= λ (o : Opened). placesTold (o .delims) unsaid 1 (view m .segs) >> gives (o .counts))
 unfolding checkTold frameOf viewTold view countsTold
 check-from m =
     toldCases (frameTold m)
-    (λ u e. rw e (cases (eqb (orderFault Other 1 (namesOf (view m))) 0) (λ q. rw q) (λ q. rw q)))
+    (λ u e. rw e (cases (eqb (orderFault start 1 (namesOf (view m))) 0) (λ q. rw q) (λ q. rw q)))
     (λ n s f e. rw e)
 
 -- so a refusal of the frame is the check's
 pub check-refused : (m : List ℕ) (n s f : ℕ) → frameOf m ≡ refused n s f → checkTold m ≡ refused n s f
 check-refused m n s f e = check-from m ∙ rw e
 
-pub check-given : (m : List ℕ) (o : Opened) → frameOf m ≡ gives o → checkTold m ≡ (placesTold (o .delims) [] 1 (view m .segs) >> gives (o .counts))
+pub check-given : (m : List ℕ) (o : Opened) → frameOf m ≡ gives o → checkTold m ≡ (placesTold (o .delims) unsaid 1 (view m .segs) >> gives (o .counts))
 check-given m o e = check-from m ∙ rw e
 
 -- ---- two answers that are told the same are the same
-pub framed-unique : (a b : Framed) → framedTold a ≡ framedTold b → a ≡ b
-framed-unique (Open o) (Open p) h = cc
-framed-unique (Open o) (Not r) h = cc
-framed-unique (Not r) (Open o) h = cc
-framed-unique (Not r) (Not s) h = ap Not (refusal-unique _ r s h)

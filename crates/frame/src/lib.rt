@@ -4,13 +4,10 @@ use crate::segments::Seen;
 use rules::Counts;
 use rules::Delims;
 use rules::Kind;
-use rules::Name;
 use rules::Refusal;
 ghost use mathlib.Core.Path.{_≡_};
-ghost use Rattle.frame.specs.Frame.{framedTold, frameOf, closing, Within, Sound};
+ghost use Rattle.frame.specs.Frame.{mostBytes, framedTold, frameOf, closing, Within, Sound};
 
-pub mod header;
-pub mod names;
 pub mod segments;
 
 // What a message that passes 10 to 15 is read with, and what the check gives in the end.
@@ -47,14 +44,14 @@ pub fn frame(m: &[u8]) -> Framed
 
 // 14 and 15, after the last segment.
 fn close(seen: Seen, d: Delims) -> Framed
-    requires { ⌜ Within 32768 seen ⌝ }
+    requires { ⌜ Within mostBytes seen ⌝ }
     ensures { λ r. ⌜ framedTold r ≡ closing d seen ⌝ }
 {
     if 512 < seen.segments {
         return refused(Kind::TooMany, 0);
     }
-    let last = seen.last;
-    let at = segments::first_fault(seen.fault, names::is(last, Name::Obx), seen.known + 1);
+    let reached = seen.reached;
+    let at = segments::first_fault(seen.fault, order::may_end(reached), seen.known + 1);
     if at != 0 {
         return refused(Kind::Order, at);
     }

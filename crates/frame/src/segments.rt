@@ -1,5 +1,5 @@
 // One pass over the segments: each is judged by itself, and counted by its name.
-use crate::names;
+use order::Reached;
 use rules::Counts;
 use rules::Name;
 ghost use mathlib.Core.Path.{_≡_};
@@ -7,14 +7,13 @@ ghost use mathlib.Core.Bool.{not};
 ghost use Prim.Native.Nat.{_≤_};
 ghost use lib.ListN.{length};
 ghost use Rattle.rules.specs.Told.{_then_, _when_};
-ghost use Rattle.rules.specs.Frame.{capital, capitalOrDigit, is};
-ghost use Rattle.frame.specs.Frame.{goodOf, tallied, countedOf, start, passFrom, Within};
+ghost use Rattle.frame.specs.Frame.{mostBytes, goodOf, tallied, countedOf, nothingSeen, passFrom, Within};
 
 // What a pass has met so far.
 pub struct Seen {
     pub segments: usize, // of all names
     pub known: usize,
-    pub last: Name, // of the known ones; `Other` at the start
+    pub reached: Reached, // by the known ones
     pub fault: usize, // the ordinal of the first known one out of order; 0 where there is none
     pub counts: Counts,
 }
@@ -26,15 +25,15 @@ pub enum Passed {
 
 // 13. All segments in turn; the rest of the message after each is passed on.
 pub fn pass(m: &[u8], field: u8) -> Passed
-    requires { ⌜ length (now m) ≤ 32768 ⌝ }
-    ensures { λ r. ⌜ r ≡ passFrom start field (now (m .entry)) ⌝ }
-    ensures within { λ r. ⌜ ((v : Seen) → r ≡ Passed.Whole v → Within 32768 v) ⌝ }
+    requires { ⌜ length (now m) ≤ mostBytes ⌝ }
+    ensures { λ r. ⌜ r ≡ passFrom nothingSeen field (now (m .entry)) ⌝ }
+    ensures within { λ r. ⌜ ((v : Seen) → r ≡ Passed.Whole v → Within mostBytes v) ⌝ }
 {
-    let mut seen = none();
+    let mut seen = nothing_seen();
     let mut at = 0;
     while at < m.len() {
         let rest = &m[at..];
-        let n = value::before(rest, 0x0D);
+        let n = bytes::before(rest, 0x0D);
         if n == rest.len() {
             return Passed::Bad;
         }
@@ -48,13 +47,13 @@ pub fn pass(m: &[u8], field: u8) -> Passed
     Passed::Whole(seen)
 }
 
-fn none() -> Seen
-    ensures { λ r. ⌜ r ≡ start ⌝ }
+fn nothing_seen() -> Seen
+    ensures { λ r. ⌜ r ≡ nothingSeen ⌝ }
 {
     Seen {
         segments: 0,
         known: 0,
-        last: Name::Other,
+        reached: order::start(),
         fault: 0,
         counts: Counts {
             spm: 0,
@@ -74,49 +73,39 @@ pub fn good(s: &[u8], field: u8) -> bool
     if s.len() < 3 {
         return false;
     }
-    let name = is_capital(s[0]) & is_sign(s[1]) & is_sign(s[2]);
+    let name = bytes::is_capital(s[0])
+        & bytes::is_capital_or_digit(s[1])
+        & bytes::is_capital_or_digit(s[2]);
     if s.len() == 3 {
         return name;
     }
     name & (s[3] == field)
 }
 
-fn is_capital(b: u8) -> bool
-    ensures { λ r. ⌜ r ≡ capital b ⌝ }
-{
-    (65 <= b) & (b <= 90)
-}
-
-fn is_sign(b: u8) -> bool
-    ensures { λ r. ⌜ r ≡ capitalOrDigit b ⌝ }
-{
-    ((65 <= b) & (b <= 90)) | ((48 <= b) & (b <= 57))
-}
-
 // One segment more, of this name.
 fn counted(seen: Seen, name: Name) -> Seen
-    requires { ⌜ Within 32768 seen ⌝ }
+    requires { ⌜ Within mostBytes seen ⌝ }
     ensures { λ r. ⌜ r ≡ countedOf seen name ⌝ }
 {
     let segments = seen.segments + 1;
-    let last = seen.last;
+    let reached = seen.reached;
     let c = seen.counts;
     if names::is(name, Name::Other) {
         return Seen {
             segments,
             known: seen.known,
-            last,
+            reached,
             fault: seen.fault,
             counts: c,
         };
     }
     let known = seen.known + 1;
-    let fault = first_fault(seen.fault, names::may_follow(last, name), known);
+    let fault = first_fault(seen.fault, order::may_follow(reached, name), known);
     let counts = tally(c, name);
     Seen {
         segments,
         known,
-        last: name,
+        reached: order::past(reached, name),
         fault,
         counts,
     }
@@ -137,19 +126,12 @@ pub fn first_fault(fault: usize, fine: bool, at: usize) -> usize
 
 // The counts with this name.
 fn tally(c: Counts, name: Name) -> Counts
-    requires { ⌜ (c .spm ≤ 32768) × (c .obr ≤ 32768) × (c .obx ≤ 32768) ⌝ }
+    requires { ⌜ (c .spm ≤ mostBytes) × (c .obr ≤ mostBytes) × (c .obx ≤ mostBytes) ⌝ }
     ensures { λ r. ⌜ r ≡ tallied c name ⌝ }
 {
     Counts {
-        spm: c.spm + hit(Name::Spm, name),
-        obr: c.obr + hit(Name::Obr, name),
-        obx: c.obx + hit(Name::Obx, name),
+        spm: c.spm + names::hit(Name::Spm, name),
+        obr: c.obr + names::hit(Name::Obr, name),
+        obx: c.obx + names::hit(Name::Obx, name),
     }
-}
-
-fn hit(a: Name, b: Name) -> usize
-    ensures { λ r. ⌜ r ≡ (1 when is a b) ⌝ }
-    ensures small { λ r. ⌜ r ≤ 1 ⌝ }
-{
-    if names::is(a, b) { 1 } else { 0 }
 }

@@ -1,144 +1,15 @@
 // One read component, judged: 21, 23, 20, 24, 25.
 use rules::Delims;
-use rules::Mode;
+use unescape::Unescaped;
 use value::Fault;
 use value::Rule;
 ghost use mathlib.Core.Path.{_≡_};
-ghost use Prim.Native.Nat.{_+_, _<_};
-ghost use Rattle.rules.specs.Shift.{mark, met};
+ghost use Rattle.rules.specs.Shift.{met};
 ghost use Rattle.rules.specs.Escape.{unescape};
 ghost use Rattle.rules.specs.Judge.{faultOr23};
 ghost use Rattle.rules.specs.Judge as J;
 ghost use Rattle.value.specs.Rules.{ruleOf, faultNo};
-ghost use Rattle.judge.specs.Judge.{turnOf, namedOf, byteAt, keptLen, keptBuf, answerOf, Fits, Small, Clean};
-
-// Where a reader of a component stands: in the text, after an escape byte, after its letter, or past a fault.
-pub enum At {
-    Plain,
-    Opened,
-    Named(u8),
-    Broken,
-}
-
-pub enum Unescaped {
-    Got(usize),
-    Faulty,
-    Over(usize),
-}
-
-// After the letter of an escape.
-fn named(mode: Mode, b: u8, d: Delims) -> At
-    ensures { λ r. ⌜ r ≡ namedOf d (mark mode b) ⌝ }
-{
-    if scan::meets(mode, b, b'F') {
-        return At::Named(d.field);
-    }
-    if scan::meets(mode, b, b'S') {
-        return At::Named(d.component);
-    }
-    if scan::meets(mode, b, b'T') {
-        return At::Named(d.sub);
-    }
-    if scan::meets(mode, b, b'R') {
-        return At::Named(d.repetition);
-    }
-    if scan::meets(mode, b, b'E') {
-        return At::Named(d.escape);
-    }
-    At::Broken
-}
-
-// After one byte more.
-fn turn(at: At, mode: Mode, b: u8, d: Delims) -> At
-    ensures { λ r. ⌜ r ≡ turnOf d at (mark mode b) ⌝ }
-    ensures byte { λ r. ⌜ b < 256 ⌝ }
-{
-    match at {
-        At::Plain => {
-            if scan::meets(mode, b, d.escape) {
-                return At::Opened;
-            }
-            if scan::meets(mode, b, d.sub) {
-                return At::Broken;
-            }
-            At::Plain
-        }
-        At::Opened => named(mode, b, d),
-        At::Named(_) => {
-            if scan::meets(mode, b, d.escape) {
-                return At::Plain;
-            }
-            At::Broken
-        }
-        At::Broken => At::Broken,
-    }
-}
-
-// The byte that a step into the text gives.
-fn given(at: At, b: u8) -> u8
-    ensures { λ r. ⌜ r ≡ byteAt at b ⌝ }
-{
-    match at {
-        At::Plain => b,
-        At::Opened => b,
-        At::Named(v) => v,
-        At::Broken => b,
-    }
-}
-
-// Keeps the byte v at k where the step to t gives one, as far as the buffer reaches.
-fn keep(buf: &mut [u8], k: usize, v: u8, t: At) -> usize
-    requires { ⌜ k + 1 < 18446744073709551616 ⌝ }
-    ensures { λ r. ⌜ (r ≡ keptLen t k) × (now (buf .exit) ≡ keptBuf t k v (now (buf .entry))) ⌝ }
-{
-    match t {
-        At::Plain => {
-            if k < buf.len() {
-                buf[k] = v;
-                return k + 1;
-            }
-            k + 1
-        }
-        At::Opened => k,
-        At::Named(_) => k,
-        At::Broken => k,
-    }
-}
-
-fn answer(at: At, k: usize, room: usize) -> Unescaped
-    ensures { λ r. ⌜ r ≡ answerOf at k room ⌝ }
-{
-    match at {
-        At::Plain => {
-            if k <= room {
-                return Unescaped::Got(k);
-            }
-            Unescaped::Over(k)
-        }
-        At::Opened => Unescaped::Faulty,
-        At::Named(_) => Unescaped::Faulty,
-        At::Broken => Unescaped::Faulty,
-    }
-}
-
-// A component without its escapes, as far as the buffer reaches.
-pub fn unescape_into(raw: &[u8], d: Delims, buf: &mut [u8]) -> Unescaped
-    ensures { λ r. ⌜ Fits r (unescape d (met (now (raw .entry)))) (now (buf .exit)) ⌝ }
-{
-    let mut at = At::Plain;
-    let mut mode = Mode::One;
-    let mut k: usize = 0;
-    let mut i = 0;
-    while i < raw.len() {
-        let b = raw[i];
-        let t = turn(at, mode, b, d);
-        k = keep(buf, k, given(at, b), t);
-        at = t;
-        mode = scan::step(mode, b, 0x0D);
-        i += 1;
-    }
-    answer(at, k, buf.len())
-}
+ghost use Rattle.judge.specs.Judge.{Small, Clean};
 
 // A component with escapes: 23, 20, 24, 25.
 fn judge_escaped(raw: &[u8], d: Delims, required: bool, rule: Rule) -> Fault
@@ -146,7 +17,7 @@ fn judge_escaped(raw: &[u8], d: Delims, required: bool, rule: Rule) -> Fault
     ensures { λ r. ⌜ faultNo r ≡ faultOr23 required (ruleOf rule) (unescape d (met (now (raw .entry)))) ⌝ }
 {
     let mut buf = [0u8; 256];
-    match unescape_into(raw, d, &mut buf) {
+    match unescape::unescape_into(raw, d, &mut buf) {
         Unescaped::Got(n) => value::fault_of(required, rule, &buf[..n]),
         Unescaped::Faulty => Fault::Escape,
         Unescaped::Over(n) => {
@@ -163,7 +34,7 @@ pub fn judge(raw: &[u8], d: Delims, required: bool, rule: Rule) -> Fault
     requires { ⌜ Small rule ⌝ }
     ensures { λ r. ⌜ faultNo r ≡ J.judge d required (ruleOf rule) (met (now (raw .entry))) ⌝ }
 {
-    if value::equal(raw, b"\"\"") {
+    if bytes::equal(raw, b"\"\"") {
         return Fault::Null;
     }
     judge_escaped(raw, d, required, rule)
@@ -173,7 +44,7 @@ pub fn judge(raw: &[u8], d: Delims, required: bool, rule: Rule) -> Fault
 pub fn judge_clean(raw: &[u8], required: bool, rule: Rule) -> Fault
     ensures { λ r. ⌜ ((d : Delims) → Clean d (now (raw .entry)) → faultNo r ≡ J.judge d required (ruleOf rule) (met (now (raw .entry)))) ⌝ }
 {
-    if value::equal(raw, b"\"\"") {
+    if bytes::equal(raw, b"\"\"") {
         return Fault::Null;
     }
     value::fault_of(required, rule, raw)

@@ -9,10 +9,10 @@ use Rattle.rules.specs.declared.Kind.the-variants.{NoOrdinal}
 use Rattle.rules.specs.Shift.{met}
 use Rattle.rules.specs.Frame.{Known}
 use Rattle.rules.proofs.Modes.{length-met}
-use Rattle.fetch.specs.declared.Segment.{Segment}
-use Rattle.fetch.specs.declared.Found.{Found}
-use Rattle.fetch.specs.declared.Found.the-variants as Found
-use Rattle.fetch.specs.Place.{foundTold}
+use Rattle.rules.specs.declared.KnownSegment.{KnownSegment}
+use Rattle.rules.specs.declared.Found.{Found}
+use Rattle.rules.specs.declared.Found.the-variants as Found
+use Rattle.rules.specs.Fetch.{foundTold}
 use Rattle.spot.specs.declared.Spot.{Spot}
 use Rattle.rules.specs.declared.Counts.{Counts}
 use Rattle.rules.specs.declared.Refusal.{Refusal}
@@ -67,10 +67,10 @@ part-met : (m : List ℕ) (a n : ℕ) → a + n ≤ length m → length (met (ta
 part-met m a n h = length-met (take n (drop a m)) ∙ length-take-le n (drop a m) (omega (arith, length-drop a m))
 
 module _ (m : List ℕ) (t : Told Known) (a : Found) (e : foundTold m a ≡ t) where
-  pub found-number : (s : Segment) → a ≡ Found.At s → 0 ≡ numberOf t
+  pub found-number : (s : KnownSegment) → a ≡ Found.At s → 0 ≡ numberOf t
   found-number s h = rw (← e, h)
 
-  pub found-segment : (s : Segment) → a ≡ Found.At s → s .start + s .len ≤ length m → (s .start ∷ s .len ∷ 0 ∷ []) ≡ segmentOf t
+  pub found-segment : (s : KnownSegment) → a ≡ Found.At s → s .start + s .len ≤ length m → (s .start ∷ s .len ∷ 0 ∷ []) ≡ segmentOf t
   found-segment s h w = rw (← e, h) (ap (λ n. s .start ∷ n ∷ 0 ∷ []) (sym (part-met m (s .start) (s .len) w)))
 
   pub absent-number : (n : ℕ) → a ≡ Found.Nothing → n ≡ number NoOrdinal → n ≡ numberOf t

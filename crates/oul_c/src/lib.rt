@@ -3,9 +3,9 @@
 use csv_rules::Counted;
 use csv_rules::Fault;
 use csv_rules::Made;
-use fetch::Found;
 use rules::Answer;
 use rules::Fetched;
+use rules::Found;
 use rules::Kind;
 use rules::Refusal;
 use rules::Written;
@@ -15,7 +15,7 @@ ghost use lib.ListN.{length};
 ghost use Rattle.rules.specs.Told.{number, lengthOf, over};
 ghost use Rattle.rules.specs.Frame.{known};
 ghost use Rattle.rules.specs.Check.{checkTold};
-ghost use Rattle.rules.specs.Fetch.{fetchTold, ordinal};
+ghost use Rattle.rules.specs.Fetch.{fetchTold, ordinal, textTold};
 ghost use Rattle.rules.specs.Sheet.{toSheet};
 ghost use Rattle.rules.specs.Message.{toMessage};
 ghost use Rattle.csv_rules.specs.Answers.{faultNumber};
@@ -58,6 +58,23 @@ pub extern "C" fn oul_locate(
         }
         Fetched::NotFetched(r) => refuse(r, told),
     }
+}
+
+// Writes the text of a part, without its escapes, into the lent buffer: how many bytes it has.
+#[no_mangle]
+pub extern "C" fn oul_part_text(
+    m: &[u8],
+    ordinal: usize,
+    field: usize,
+    component: usize,
+    out: &mut [u8],
+    told: &mut [usize; 3],
+) -> usize
+    ensures { λ r. ⌜ r ≡ numberOf (lengthOf (textTold (now (m .entry)) ordinal field component (length (now (out .entry))))) ⌝ }
+    ensures { λ _. ⌜ now (told .exit) ≡ writtenOf (lengthOf (textTold (now (m .entry)) ordinal field component (length (now (out .entry))))) ⌝ }
+    ensures buffer { λ _. ⌜ now (out .exit) ≡ over (textTold (now (m .entry)) ordinal field component (length (now (out .entry)))) (now (out .entry)) ⌝ }
+{
+    written(oul::part_text(m, ordinal, field, component, out), told)
 }
 
 // Writes the sheet of a message into the lent buffer: how many bytes it has.

@@ -8,7 +8,7 @@ ghost use mathlib.Core.Path.{_≡_};
 ghost use Prim.Native.Nat.{_≤_};
 ghost use lib.ListN.{length};
 ghost use Rattle.rules.specs.Lists.{bytes};
-ghost use Rattle.told.specs.Told.{refusalText, faultText};
+ghost use Rattle.printed.specs.Printed.{refusalText, faultText};
 ghost use Rattle.program.specs.Reading.{Within};
 
 // Reads the file in the way of `read_input`, into a buffer that is longer by one byte than the longest file.
@@ -39,7 +39,7 @@ pub fn refuse(program: &[u8], before: &[u8], file: &[u8], fault: Fault) -> usize
     ensures { λ r. ⌜ r ≡ length (faultText fault) ⌝ }
 {
     let mut lines = [0u8; 96];
-    let n = told::of_fault(&mut lines, fault);
+    let n = printed::of_fault(&mut lines, fault);
     crate::output(program, before, &lines[..n]);
     let mut words = [0u8; 192];
     let k = words::fault_in_words(&mut words, fault, oul::csv_spot(file));
@@ -61,7 +61,7 @@ pub fn refuse_one(program: &[u8], k: usize, refusal: Refusal) -> usize
     ensures { λ r. ⌜ r ≡ length (refusalText (bytes "line=") refusal) ⌝ }
 {
     let mut before = [0u8; 96];
-    let named = told::of_number(&mut before, b"sheet=", k);
+    let named = printed::of_number(&mut before, b"sheet=", k);
     let n = three(program, &before[..named], refusal);
     io::write_all(2, b"sheet ");
     io::print_decimal(2, k as u64);
@@ -74,7 +74,7 @@ fn three(program: &[u8], before: &[u8], refusal: Refusal) -> usize
     ensures { λ r. ⌜ r ≡ length (refusalText (bytes "line=") refusal) ⌝ }
 {
     let mut lines = [0u8; 96];
-    let n = told::of_sheet(&mut lines, refusal);
+    let n = printed::of_sheet(&mut lines, refusal);
     crate::output(program, before, &lines[..n]);
     n
 }

@@ -2,13 +2,13 @@
 // is called. No contract can say what is read or written; what fails is told on standard error, with the system's reason.
 pub mod file;
 
-use fetch::Found;
+use rules::Found;
 use rules::Name;
 use rules::Refusal;
 ghost use mathlib.Core.Path.{_≡_};
 ghost use lib.ListN.{length, take};
 ghost use Rattle.rules.specs.Lists.{bytes};
-ghost use Rattle.told.specs.Told.{refusalText};
+ghost use Rattle.printed.specs.Printed.{refusalText};
 ghost use Rattle.program.specs.Reading.{endingOf, Within, NineDigits};
 
 // ---- input
@@ -188,7 +188,7 @@ pub fn refuse_message(program: &[u8], m: &[u8], refusal: Refusal) -> usize
     ensures { λ r. ⌜ r ≡ length (refusalText (bytes "segment=") refusal) ⌝ }
 {
     let mut lines = [0u8; 96];
-    let n = told::of_message(&mut lines, refusal);
+    let n = printed::of_message(&mut lines, refusal);
     output(program, &lines[..n], b"");
     say_in_words(m, refusal, segment_name(m, refusal.segment));
     n
@@ -198,7 +198,7 @@ pub fn refuse_sheet(program: &[u8], sheet: &[u8], refusal: Refusal) -> usize
     ensures { λ r. ⌜ r ≡ length (refusalText (bytes "line=") refusal) ⌝ }
 {
     let mut lines = [0u8; 96];
-    let n = told::of_sheet(&mut lines, refusal);
+    let n = printed::of_sheet(&mut lines, refusal);
     output(program, &lines[..n], b"");
     say_in_words(sheet, refusal, Name::Other);
     n

@@ -7,10 +7,10 @@ use native.Mathlib.Omega.{arith}
 use lib.ListN.{length, take, drop, set, length-append}
 use lib.Seq.{set-out}
 use Rattle.rules.proofs.Lists.{rest-length}
-use Rattle.judge.specs.Judge.{fill}
+use Rattle.unescape.specs.Unescaped.{fill}
 use Rattle.writer.specs.Over.{Wrote}
-use Rattle.report.specs.Fill.{least, fillAt}
-use Rattle.report.proofs.Filling.{least-second, fill-nil, length-fill, add-twice, put-fills, prefix-room, back}
+use Rattle.fill.specs.Fill.{least, fillAt}
+use Rattle.fill.proofs.Laws.{least-second, fill-nil, length-fill, add-twice, put-fills, prefix-room, back}
 use Rattle.reach.specs.Reach.{Adds}
 
 -- ---- the lesser of two numbers
@@ -91,9 +91,6 @@ adds-then {at} {r} {k} {x} {y} {z} {b} {c} p q =
     (q .ends ∙ rw (p .same, p .ends, length-append) (least-again n (length c) (length x) ∙ ap (λ (n : ℕ). least n (length x)) (omega arith)))
     (q .is ∙ ap (λ (i : ℕ). fillAt i c y) e ∙ fill-cut n c y ∙ ap (fillAt n c) (p .is) ∙ add-twice at b c x)
 
-pub adds-as : {at r : ℕ} {x y b c : List ℕ} → b ≡ c → Adds at x b r y → Adds at x c r y
-adds-as e p = rw (← e) p
-
 -- ---- what a loop that writes keeps: what it has written, and that `left` completes the whole
 pub record Writing (whole left old x : List ℕ) (at k : ℕ) : Type 0 where
   pub done : List ℕ
@@ -121,7 +118,7 @@ module _ {x w y : List ℕ} {r : ℕ} (p : Adds 0 x w r y) where
   pub front-ends : r ≡ least (length w) (length x)
   front-ends = p .ends ∙ ap (λ (n : ℕ). least n (length x)) (zero-add (length w))
 
-  pub front-whole : length w ≤ length x → r ≡ length w
+  front-whole : length w ≤ length x → r ≡ length w
   front-whole h = front-ends ∙ least-all (length w) (length x) h
 
   pub front-cut : r < length x → length w ≡ r

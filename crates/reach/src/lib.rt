@@ -19,7 +19,7 @@ pub fn put(out: &mut [u8], at: usize, bytes: &[u8]) -> usize
     requires { ⌜ at ≤ length (now out) ⌝ }
     ensures { λ r. ⌜ Adds at (now (out .entry)) (now (bytes .entry)) r (now (out .exit)) ⌝ }
 {
-    let n = report::fill::lesser(bytes.len(), out.len() - at);
+    let n = fill::lesser(bytes.len(), out.len() - at);
     writer::put(&mut out[at..], &bytes[..n]);
     at + n
 }

@@ -17,7 +17,7 @@ use Rattle.rules.specs.Proper.{Proper}
 use Rattle.rules.specs.Places.{Place, Field, reads, closed, places, entryIn, entryOf}
 use Rattle.rules.specs.View.{pieceOf, fieldOf, componentOf, firstRepetition, seenIn, partOf, Segment, segmentOf, Part, whole, seenAt, partAt}
 use Rattle.rules.specs.Judge.{plainOf, judge, judgeAll}
-use Rattle.rules.specs.Check.{ownFault, laterFault, partFault, numberOf, faultTold, partsTold}
+use Rattle.rules.specs.Check.{Context, ownFault, laterFault, partFault, partNo, faultTold, partsTold}
 use Rattle.rules.specs.Row.{Line, line, lines, fourAt}
 use Rattle.rules.specs.Sheet.{keyOf, linesText}
 use Rattle.rules.proofs.Logic.{then-none, not-given}
@@ -33,11 +33,11 @@ abbrev pub Fairs : Delims → List ℕ → List Place → Type 0
 Fairs d r [] = Unit
 Fairs d r (q ∷ qs) = Fair (q .required) (q .rule) (componentOf d r (q .component)) (plainOf d (componentOf d r (q .component))) × Fairs d r qs
 
-abbrev pub Zeros : Delims → List ℕ → Known → List Field → Type 0
-Zeros d ord k [] = Unit
-Zeros d ord k (reads n qs ∷ fs) = Fairs d (firstRepetition d (fieldOf d k n)) qs × (laterFault d ord (segmentOf d k) n ≡ 0) × Zeros d ord k fs
-Zeros d ord k (closed n form ∷ fs) =
-    (ownFault d (segmentOf d k) (whole n form (fieldOf d k n)) ≡ 0) × (laterFault d ord (segmentOf d k) n ≡ 0) × Zeros d ord k fs
+abbrev pub Zeros : Delims → Context → Known → List Field → Type 0
+Zeros d ctx k [] = Unit
+Zeros d ctx k (reads n qs ∷ fs) = Fairs d (firstRepetition d (fieldOf d k n)) qs × (laterFault d ctx (segmentOf d k) n ≡ 0) × Zeros d ctx k fs
+Zeros d ctx k (closed n form ∷ fs) =
+    (ownFault d (segmentOf d k) (whole n form (fieldOf d k n)) ≡ 0) × (laterFault d ctx (segmentOf d k) n ≡ 0) × Zeros d ctx k fs
 
 told-zero : (i f n : ℕ) (t : Told (Unit {0})) → (faultTold i f n >> t) ≡ gives tt → (n ≡ 0) × (t ≡ gives tt)
 unfolding faultTold
@@ -64,12 +64,12 @@ module _ (d : Delims) (p : Proper d) where
       let z = then-none (judge d (q .required) (q .rule) (componentOf d r (q .component))) (judgeAll d (map (seenIn d r) qs)) h in
       (fair d p (q .required) (q .rule) (componentOf d r (q .component)) (whole-component r W (q .component)) (z .0), fairs r W qs (z .1))
 
-  part-zero : (ord : List ℕ) (i : ℕ) (s : Segment) (q : Part) (qs : List Part) → partsTold d ord i s (q ∷ qs) ≡ gives tt
-      → (ownFault d s q ≡ 0) × (laterFault d ord s (numberOf q) ≡ 0) × (partsTold d ord i s qs ≡ gives tt)
+  part-zero : (ctx : Context) (i : ℕ) (s : Segment) (q : Part) (qs : List Part) → partsTold d ctx i s (q ∷ qs) ≡ gives tt
+      → (ownFault d s q ≡ 0) × (laterFault d ctx s (partNo q) ≡ 0) × (partsTold d ctx i s qs ≡ gives tt)
   unfolding partsTold partFault
-  part-zero ord i s q qs h =
-      let z = told-zero i (numberOf q) (partFault d ord s q) (partsTold d ord i s qs) h in
-      let y = then-none (ownFault d s q) (laterFault d ord s (numberOf q)) (z .0) in
+  part-zero ctx i s q qs h =
+      let z = told-zero i (partNo q) (partFault d ctx s q) (partsTold d ctx i s qs) h in
+      let y = then-none (ownFault d s q) (laterFault d ctx s (partNo q)) (z .0) in
       (y .0, y .1, z .1)
 
   own-fairs : (k : Known) (s : Segment) (n : ℕ) (qs : List Place) → Whole (k .body) → ownFault d s (partOf d k (reads n qs)) ≡ 0 → Fairs d (firstRepetition d (fieldOf d k n)) qs
@@ -78,15 +78,15 @@ module _ (d : Delims) (p : Proper d) where
       fairs (firstRepetition d (fieldOf d k n)) (whole-first (fieldOf d k n) (whole-field k W n)) qs
       (then-none (22 when has (d .repetition) (fieldOf d k n)) (judgeAll d (map (seenIn d (firstRepetition d (fieldOf d k n))) qs)) h .1)
 
-  pub zeros : (ord : List ℕ) (i : ℕ) (k : Known) (fs : List Field) → Whole (k .body) → partsTold d ord i (segmentOf d k) (map (partOf d k) fs) ≡ gives tt → Zeros d ord k fs
-  unfolding partOf numberOf
-  zeros ord i k [] W h = tt
-  zeros ord i k (reads n qs ∷ fs) W h =
-      let z = part-zero ord i (segmentOf d k) (partOf d k (reads n qs)) (map (partOf d k) fs) h in
-      (own-fairs k (segmentOf d k) n qs W (z .0), z .1, zeros ord i k fs W (z .2))
-  zeros ord i k (closed n form ∷ fs) W h =
-      let z = part-zero ord i (segmentOf d k) (partOf d k (closed n form)) (map (partOf d k) fs) h in
-      (z .0, z .1, zeros ord i k fs W (z .2))
+  pub zeros : (ctx : Context) (i : ℕ) (k : Known) (fs : List Field) → Whole (k .body) → partsTold d ctx i (segmentOf d k) (map (partOf d k) fs) ≡ gives tt → Zeros d ctx k fs
+  unfolding partOf partNo
+  zeros ctx i k [] W h = tt
+  zeros ctx i k (reads n qs ∷ fs) W h =
+      let z = part-zero ctx i (segmentOf d k) (partOf d k (reads n qs)) (map (partOf d k) fs) h in
+      (own-fairs k (segmentOf d k) n qs W (z .0), z .1, zeros ctx i k fs W (z .2))
+  zeros ctx i k (closed n form ∷ fs) W h =
+      let z = part-zero ctx i (segmentOf d k) (partOf d k (closed n form)) (map (partOf d k) fs) h in
+      (z .0, z .1, zeros ctx i k fs W (z .2))
 
 -- ---- each segment
 pub record GoodSeg (k : Known) (vs : List (List ℕ)) : Type 0 where
@@ -111,8 +111,8 @@ module _ (d : Delims) where
   unfolding componentOf firstRepetition
   component-short r c = omega (arith, nth-short (d .component) (nth (split (d .repetition) r) 0) (c - 1), nth-short (d .repetition) r 0)
 
-  module _ (ord : List ℕ) (at : ℕ) (body : List ℕ) where
-    pub spm-good : Zeros d ord (seg Spm at body) (places Spm) → GoodSeg (seg Spm at body) (sources d (seg Spm at body))
+  module _ (ctx : Context) (at : ℕ) (body : List ℕ) where
+    pub spm-good : Zeros d ctx (seg Spm at body) (places Spm) → GoodSeg (seg Spm at body) (sources d (seg Spm at body))
     unfolding readings
     spm-good Z =
         let k = seg Spm at body in
@@ -125,7 +125,7 @@ module _ (d : Delims) where
               (omega (arith, pieces-fit (d .field) body 18, f4 .size, f17 .size, component-short (fieldOf d k 4) 1, component-short (fieldOf d k 17) 1));
         }
 
-    pub pv1-good : Zeros d ord (seg Pv1 at body) (places Pv1) → GoodSeg (seg Pv1 at body) (sources d (seg Pv1 at body))
+    pub pv1-good : Zeros d ctx (seg Pv1 at body) (places Pv1) → GoodSeg (seg Pv1 at body) (sources d (seg Pv1 at body))
     unfolding readings
     pv1-good Z =
         let k = seg Pv1 at body in
@@ -136,7 +136,7 @@ module _ (d : Delims) where
           size = rw (lines-size (lines Pv1) (sources d k)) (omega (arith, pieces-fit (d .field) body 3, f2 .size, component-short (fieldOf d k 2) 1));
         }
 
-    pub obr-good : Zeros d ord (seg Obr at body) (places Obr) → GoodSeg (seg Obr at body) (sources d (seg Obr at body))
+    pub obr-good : Zeros d ctx (seg Obr at body) (places Obr) → GoodSeg (seg Obr at body) (sources d (seg Obr at body))
     unfolding readings
     obr-good Z =
         let k = seg Obr at body in
@@ -149,7 +149,7 @@ module _ (d : Delims) where
               (omega (arith, pieces-fit (d .field) body 5, f2 .size, f4 .size, component-short (fieldOf d k 2) 1, component-short (fieldOf d k 4) 1));
         }
 
-    pub msh-good : Zeros d ord (seg Msh at body) (places Msh) → GoodSeg (seg Msh at body) (sources d (seg Msh at body))
+    pub msh-good : Zeros d ctx (seg Msh at body) (places Msh) → GoodSeg (seg Msh at body) (sources d (seg Msh at body))
     unfolding readings same fault empty tooLong holds isOneOf any split onto
     msh-good Z =
         let k = seg Msh at body in

@@ -1,7 +1,8 @@
 -- PID and OBX of an accepted message. Assumes nothing.
-use mathlib.Core.Path.{_≡_, refl, ap}
+use mathlib.Core.Path.{_≡_, refl, ap, _∙_}
 use mathlib.Core.Bool.{Bool, true, false, cond, not, _&&_, _||_}
 use mathlib.Core.List.{List, [], _∷_}
+use mathlib.Core.Option.{Option, none, some}
 use Prim.Native.Nat.{ℕ, suc, _+_, _≤_}
 use native.Mathlib.Omega.{arith}
 use lib.Dec.{ltb}
@@ -9,19 +10,20 @@ use lib.ListN.{length}
 use Rattle.rules.specs.declared.Delims.{Delims}
 use Rattle.rules.specs.declared.Name.the-variants.{Pid, Obx}
 use Rattle.rules.specs.Told.{_when_}
-use Rattle.rules.specs.Lists.{bytes, empty, filled, same, has, split, onto, nth, isOneOf}
+use Rattle.rules.specs.Lists.{bytes, empty, filled, orEmpty, same, has, split, onto, nth, isOneOf}
 use Rattle.rules.specs.Proper.{Proper}
 use Rattle.rules.specs.Value.{Rule, fault, holds, words, text, fits}
 use Rattle.rules.specs.Escape.{unescape, unescapeAt}
 use Rattle.rules.specs.Places.{places, Four, valueRules}
 use Rattle.rules.specs.View.{fieldOf, componentOf, firstRepetition}
-use Rattle.rules.specs.Judge.{faultOr23, unescapedOr, plainOf, judge, firstMarked, kanji, kana, nameFault, namesFault, isSN, rawFour, beside, unjoined, partsFault, valueFault, agrees}
+use Rattle.rules.specs.Judge.{faultOr23, plainOf, judge, firstMarked, kanji, kana, nameFault, markedFault, namesFault, isSN, rawFour, beside, unjoined, partsFault, valueFault, agrees}
+use Rattle.rules.specs.Check.{Context}
 use Rattle.rules.specs.Row.{lines}
 use Rattle.rules.proofs.Logic.{cases, never, not-false, then-none, when-none}
-use Rattle.rules.proofs.Lists.{empty-is, same-eq, from, one-word}
+use Rattle.rules.proofs.Lists.{same-eq, from, one-word}
 use Rattle.rules.proofs.Measures.{sum, pieces-fit, piece-there, nth-short, split-sum}
 use Rattle.returns.proofs.Groups.{must-may, must-filled, meets-rule}
-use Rattle.returns.proofs.Closed.{fourOf}
+use Rattle.returns.proofs.Closed.{first-cons, fourOf}
 use Rattle.returns.proofs.Whole.{Whole, whole-nth, whole-nil, Fair, fair}
 use Rattle.returns.proofs.Measures.{lines-size}
 use Rattle.returns.proofs.Accepted.{Zeros, whole-field, whole-component, GoodSeg, sources, seg, readings, component-short}
@@ -37,36 +39,46 @@ there : {r : Rule} {raw v : List ℕ} → Fair true r raw v → 1 ≤ length raw
 there {r} {raw} {v} f = omega (arith, f .size, long-one v (must-filled r v (f .keeps .1)))
 
 -- ---- PID-5
--- a marked repetition is one of them
+-- a marked repetition is one of them; blank where there is none
+abbrev marked : Delims → List ℕ → List (List ℕ) → List ℕ
+marked d m rs = orEmpty (firstMarked d m rs)
+
 record Found (d : Delims) (m : List ℕ) (rs : List (List ℕ)) : Type 0 where
   i : ℕ
-  is : firstMarked d m rs ≡ nth rs i
+  is : marked d m rs ≡ nth rs i
+
+marked-cons : (d : Delims) (m r : List ℕ) (rs : List (List ℕ)) → marked d m (r ∷ rs) ≡ cond (same (componentOf d r 8) m) r (marked d m rs)
+unfolding orEmpty
+marked-cons d m r rs = ap orEmpty (first-cons d m r rs) ∙ cases (same (componentOf d r 8) m) (λ e. rw e) (λ e. rw e)
 
 found : (d : Delims) (m : List ℕ) (rs : List (List ℕ)) → Found d m rs
-unfolding firstMarked
-found d m [] = record { i = 0; is = refl }
+found d m [] = record { i = 0; is = unfold firstMarked orEmpty in refl }
 found d m (r ∷ rs) =
     let f = found d m rs in
-    cases (same (componentOf d r 8) m) (λ e. record { i = 0; is = rw e }) (λ e. record { i = suc (f .i); is = rw e (f .is) })
+    cases (same (componentOf d r 8) m)
+    (λ e. record { i = 0; is = rw (marked-cons d m r rs, e) })
+    (λ e. record { i = suc (f .i); is = rw (marked-cons d m r rs, e) (f .is) })
 
-marked-short : (d : Delims) (m : List ℕ) (rs : List (List ℕ)) → length (firstMarked d m rs) ≤ sum rs
-unfolding firstMarked sum
-marked-short d m [] = omega arith
+marked-short : (d : Delims) (m : List ℕ) (rs : List (List ℕ)) → length (marked d m rs) ≤ sum rs
+unfolding sum
+marked-short d m [] = unfold firstMarked orEmpty in omega arith
 marked-short d m (r ∷ rs) =
-    cases (same (componentOf d r 8) m) (λ e. rw e (omega arith)) (λ e. rw e (omega (arith, marked-short d m rs)))
+    rw (marked-cons d m r rs)
+    (cases (same (componentOf d r 8) m) (λ e. rw e (omega arith)) (λ e. rw e (omega (arith, marked-short d m rs))))
 
 -- two marks, two repetitions
-marked-both : (d : Delims) (a b : List ℕ) → same a b ≡ false → (rs : List (List ℕ)) → length (firstMarked d a rs) + length (firstMarked d b rs) ≤ sum rs
-unfolding firstMarked sum
-marked-both d a b n [] = omega arith
+marked-both : (d : Delims) (a b : List ℕ) → same a b ≡ false → (rs : List (List ℕ)) → length (marked d a rs) + length (marked d b rs) ≤ sum rs
+unfolding sum
+marked-both d a b n [] = unfold firstMarked orEmpty in omega arith
 marked-both d a b n (r ∷ rs) =
-    cases (same (componentOf d r 8) a)
+    rw (marked-cons d a r rs, marked-cons d b r rs)
+    (cases (same (componentOf d r 8) a)
     (λ e.
     let q : same (componentOf d r 8) b ≡ false = rw (same-eq (componentOf d r 8) a e) n in
     rw (e, q) (omega (arith, marked-short d b rs)))
     (λ e. cases (same (componentOf d r 8) b)
     (λ f. rw (e, f) (omega (arith, marked-short d a rs)))
-    (λ f. rw (e, f) (omega (arith, marked-both d a b n rs))))
+    (λ f. rw (e, f) (omega (arith, marked-both d a b n rs)))))
 
 abbrev part : Delims → ℕ → List ℕ → List ℕ
 part d c r = plainOf d (componentOf d r c)
@@ -74,13 +86,23 @@ part d c r = plainOf d (componentOf d r c)
 abbrev NameFair : Delims → Bool → ℕ → List ℕ → Type 0
 NameFair d q c r = Fair q (text 48) (componentOf d r c) (part d c r)
 
+-- a kana name: blank where there is none
+record KanaGood (d : Delims) (r : List ℕ) : Type 0 where
+  f : NameFair d false 1 r
+  g : NameFair d false 2 r
+  blanks : (filled (part d 1 r) || empty (part d 2 r)) ≡ true
+
+abbrev kanjiOf : Delims → List ℕ → List ℕ
+kanjiOf d raw = orEmpty (kanji d raw)
+
+abbrev kanaOf : Delims → List ℕ → List ℕ
+kanaOf d raw = orEmpty (kana d raw)
+
 record NamesGood (d : Delims) (raw : List ℕ) : Type 0 where
-  f : NameFair d true 1 (kanji d raw)
-  g : NameFair d false 2 (kanji d raw)
-  kf : NameFair d false 1 (kana d raw)
-  kg : NameFair d false 2 (kana d raw)
-  blanks : (filled (part d 1 (kana d raw)) || empty (part d 2 (kana d raw))) ≡ true
-  size : length (part d 1 (kanji d raw)) + length (part d 2 (kanji d raw)) + length (part d 1 (kana d raw)) + length (part d 2 (kana d raw)) ≤ length raw
+  f : NameFair d true 1 (kanjiOf d raw)
+  g : NameFair d false 2 (kanjiOf d raw)
+  k : KanaGood d (kanaOf d raw)
+  size : length (part d 1 (kanjiOf d raw)) + length (part d 2 (kanjiOf d raw)) + length (part d 1 (kanaOf d raw)) + length (part d 2 (kanaOf d raw)) ≤ length raw
 
 module _ (d : Delims) (p : Proper d) where
   name-good : (r : List ℕ) → Whole r → nameFault d r ≡ 0 → NameFair d true 1 r × NameFair d false 2 r
@@ -89,7 +111,7 @@ module _ (d : Delims) (p : Proper d) where
       let z = then-none (judge d true (text 48) (componentOf d r 1)) (judge d false (text 48) (componentOf d r 2)) h in
       (fair d p true (text 48) (componentOf d r 1) (whole-component d p r W 1) (z .0), fair d p false (text 48) (componentOf d r 2) (whole-component d p r W 2) (z .1))
 
-  marked-whole : (m raw : List ℕ) → Whole raw → Whole (firstMarked d m (split (d .repetition) raw))
+  marked-whole : (m raw : List ℕ) → Whole raw → Whole (marked d m (split (d .repetition) raw))
   marked-whole m raw W = let f = found d m (split (d .repetition) raw) in rw (f .is) (whole-nth (d .repetition) (p .repetition) raw W (f .i))
 
   two-short : (r : List ℕ) → length (componentOf d r 1) + length (componentOf d r 2) ≤ length r
@@ -99,58 +121,60 @@ module _ (d : Delims) (p : Proper d) where
   nil-fair : (c : ℕ) → componentOf d [] c ≡ [] → NameFair d false c []
   nil-fair c e = rw e (fair d p false (text 48) [] whole-nil (unfold judge same unescape unescapeAt faultOr23 fault empty bytes in refl))
 
+  kanji-good : (o : Option (List ℕ)) → Whole (orEmpty o) → markedFault d 20 o ≡ 0 → NameFair d true 1 (orEmpty o) × NameFair d false 2 (orEmpty o)
+  unfolding orEmpty markedFault
+  kanji-good none W h = absurd (omega arith)
+  kanji-good (some r) W h = name-good r W h
+
+  kana-good : (o : Option (List ℕ)) → Whole (orEmpty o) → markedFault d 0 o ≡ 0 → KanaGood d (orEmpty o)
+  unfolding orEmpty markedFault
+  kana-good none W h =
+      record {
+        f = nil-fair 1 (unfold componentOf split in refl);
+        g = nil-fair 2 (unfold componentOf split in refl);
+        blanks = unfold componentOf split unescape unescapeAt empty in refl;
+      }
+  kana-good (some r) W h =
+      let k = name-good r W h in
+      let k1 = k .0 in
+      record {
+        f = record { keeps = (k1 .keeps .0, must-may true (text 48) _ (k1 .keeps .1)); clean = k1 .clean; size = k1 .size; blank = k1 .blank };
+        g = k .1;
+        blanks = rw (must-filled (text 48) (part d 1 r) (k1 .keeps .1));
+      }
+
   names-good : (raw : List ℕ) → Whole raw → namesFault d raw ≡ 0 → NamesGood d raw
   unfolding namesFault
   names-good raw W h =
-      let z = then-none (nameFault d (kanji d raw)) (cond (empty (kana d raw)) 0 (nameFault d (kana d raw))) h in
-      let a = name-good (kanji d raw) (marked-whole (bytes "I") raw W) (z .0) in
+      let z = then-none (markedFault d 20 (kanji d raw)) (markedFault d 0 (kana d raw)) h in
+      let a = kanji-good (kanji d raw) (marked-whole (bytes "I") raw W) (z .0) in
+      let b = kana-good (kana d raw) (marked-whole (bytes "P") raw W) (z .1) in
       let s = marked-both d (bytes "I") (bytes "P") (unfold same bytes in refl) (split (d .repetition) raw) in
-      let t = split-sum (d .repetition) raw in
-      let u = two-short (kanji d raw) in
-      let w = two-short (kana d raw) in
-      cases (empty (kana d raw))
-      (λ e.
-      let n : kana d raw ≡ [] = empty-is (kana d raw) e in
-      let k1 : NameFair d false 1 (kana d raw) = rw n (nil-fair 1 (unfold componentOf split in refl)) in
-      let k2 : NameFair d false 2 (kana d raw) = rw n (nil-fair 2 (unfold componentOf split in refl)) in
       record {
         f = a .0;
         g = a .1;
-        kf = k1;
-        kg = k2;
-        blanks = rw n (unfold componentOf split unescape unescapeAt unescapedOr empty in refl);
-        size = omega (arith, a .0 .size, a .1 .size, k1 .size, k2 .size);
-      })
-      (λ e.
-      let k = name-good (kana d raw) (marked-whole (bytes "P") raw W) (rw e at (z .1)) in
-      let k1 = k .0 in
-      record {
-        f = a .0;
-        g = a .1;
-        kf = record { keeps = (k1 .keeps .0, must-may true (text 48) _ (k1 .keeps .1)); clean = k1 .clean; size = k1 .size; blank = k1 .blank };
-        kg = k .1;
-        blanks = rw (must-filled (text 48) (part d 1 (kana d raw)) (k1 .keeps .1));
-        size = omega (arith, a .0 .size, a .1 .size, k1 .size, k .1 .size);
-      })
+        k = b;
+        size = omega (arith, s, split-sum (d .repetition) raw, two-short (kanjiOf d raw), two-short (kanaOf d raw), a .0 .size, a .1 .size, b .f .size, b .g .size);
+      }
 
   -- ---- PID: its name has three bytes
-  pub pid-good : (ord : List ℕ) (at : ℕ) (body : List ℕ) → Whole body → 3 ≤ length (nth (split (d .field) body) 0) → Zeros d ord (seg Pid at body) (places Pid)
+  pub pid-good : (ctx : Context) (at : ℕ) (body : List ℕ) → Whole body → 3 ≤ length (nth (split (d .field) body) 0) → Zeros d ctx (seg Pid at body) (places Pid)
       → GoodSeg (seg Pid at body) (sources d (seg Pid at body))
   unfolding readings
-  pid-good ord at body W named Z =
+  pid-good ctx at body W named Z =
       let k = seg Pid at body in
       let f3 = Z .0 .0 in
       let N = names-good (fieldOf d k 5) (whole-field d p k W 5) (Z .2 .0) in
       let f7 = Z .2 .2 .0 .0 in
       let f8 = Z .2 .2 .2 .0 .0 in
-      let kg : (same (part d 2 (kana d (fieldOf d k 5))) (bytes "\"\"") ≡ false)
-      × ((fits false (text 48) (part d 2 (kana d (fieldOf d k 5))) && (filled (part d 1 (kana d (fieldOf d k 5))) || empty (part d 2 (kana d (fieldOf d k 5))))) ≡ true) =
-      (N .kg .keeps .0, rw (N .kg .keeps .1) (N .blanks)) in
+      let kg : (same (part d 2 (kanaOf d (fieldOf d k 5))) (bytes "\"\"") ≡ false)
+      × ((fits false (text 48) (part d 2 (kanaOf d (fieldOf d k 5))) && (filled (part d 1 (kanaOf d (fieldOf d k 5))) || empty (part d 2 (kanaOf d (fieldOf d k 5))))) ≡ true) =
+      (N .k .g .keeps .0, rw (N .k .g .keeps .1) (N .k .blanks)) in
       let c8 = component-short d (fieldOf d k 8) 1 in
       let l8 : 1 ≤ length (nth (split (d .field) body) 8) = omega (arith, there f8) in
       record {
-        ok = (f3 .keeps, (N .f .keeps, (N .g .keeps, (N .kf .keeps, (kg, (f7 .keeps, (f8 .keeps, tt)))))));
-        tidy = (f3 .clean, (N .f .clean, (N .g .clean, (N .kf .clean, (N .kg .clean, (f7 .clean, (f8 .clean, tt)))))));
+        ok = (f3 .keeps, (N .f .keeps, (N .g .keeps, (N .k .f .keeps, (kg, (f7 .keeps, (f8 .keeps, tt)))))));
+        tidy = (f3 .clean, (N .f .clean, (N .g .clean, (N .k .f .clean, (N .k .g .clean, (f7 .clean, (f8 .clean, tt)))))));
         size = rw (lines-size (lines Pid) (sources d k))
             (omega (
               arith,
@@ -238,10 +262,10 @@ module _ (d : Delims) (p : Proper d) where
       let t = piece-there (d .component) (firstRepetition d r) 2 (omega (arith, f .size)) in
       omega (arith, f .size, pieces-fit (d .component) (firstRepetition d r) 3)
 
-  pub obx-good : (ord : List ℕ) (at : ℕ) (body : List ℕ) → Whole body → 3 ≤ length (nth (split (d .field) body) 0) → Zeros d ord (seg Obx at body) (places Obx)
+  pub obx-good : (ctx : Context) (at : ℕ) (body : List ℕ) → Whole body → 3 ≤ length (nth (split (d .field) body) 0) → Zeros d ctx (seg Obx at body) (places Obx)
       → GoodSeg (seg Obx at body) (sources d (seg Obx at body))
   unfolding readings
-  obx-good ord at body W named Z =
+  obx-good ctx at body W named Z =
       let k = seg Obx at body in
       let f2 = Z .0 .0 in
       let fi = Z .2 .0 .0 in

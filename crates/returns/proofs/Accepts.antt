@@ -8,15 +8,15 @@ use borrow.Author.Tests.{ltb-false, le-ltb, le-leb, lt-ltb}
 use lib.Dec.{ltb, leb}
 use lib.ListN.{length, length-map}
 use Rattle.rules.specs.declared.Delims.{Delims}
-use Rattle.rules.specs.declared.Name.the-variants.{Spm, Obr, Obx, Other}
+use Rattle.rules.specs.declared.Name.the-variants.{Spm, Obr, Obx}
 use Rattle.rules.specs.Told.{gives, accepted}
 use Rattle.rules.specs.Lists.{empty, all, split, last}
 use Rattle.rules.specs.Shift.{keeps}
-use Rattle.rules.specs.Frame.{delimsOk, segments, segmentsOk, nameOk}
-use Rattle.rules.specs.Check.{frameTold, checkTold}
+use Rattle.rules.specs.Frame.{delimsOk, segments, segmentsOk, nameOk, start}
+use Rattle.rules.specs.Check.{Context, unsaid, frameTold, checkTold}
 use Rattle.rules.specs.Row.{Row}
 use Rattle.rules.specs.Sheet.{valid}
-use Rattle.rules.specs.Message.{Piece, pieces, segmentText, written, messageOf, messageTold}
+use Rattle.rules.specs.Message.{Piece, zeros, pieces, segmentText, written, messageOf, messageTold}
 use Rattle.rules.proofs.Logic.{neither, guard}
 use Rattle.rules.proofs.Lists.{all-cons}
 use Rattle.rules.proofs.Header.{proper}
@@ -44,7 +44,7 @@ wrote d rows room m h =
     }
 
 -- ---- 13: every segment is short and has a good name
-all-fine : (d : Delims) {ord : List ℕ} {qs : List Piece} {rows : List Row} → Said d ord qs rows → Short d qs
+all-fine : (d : Delims) {c : Context} {qs : List Piece} {rows : List Row} → Said d c qs rows → Short d qs
     → all (λ (s : List ℕ). leb (length s) 4096 && nameOk (d .field) s) (map (segmentText d) qs) ≡ true
 all-fine d none h = unfold all in refl
 all-fine d (more {q} {qs} x y) h =
@@ -56,23 +56,23 @@ all-short d [] h = unfold all in refl
 all-short d (q ∷ qs) h =
     rw (all-cons (λ (s : List ℕ). ltb (length s) 850) (segmentText d q) (map (segmentText d) qs), lt-ltb (length (segmentText d q)) 850 (h .0)) (all-short d qs (h .1))
 
-module _ (d : Delims) (ok : delimsOk d ≡ true) (rows : List Row) (v : valid Other rows ≡ true) (t : Tidy rows)
+module _ (d : Delims) (ok : delimsOk d ≡ true) (rows : List Row) (v : valid start rows ≡ true) (t : Tidy rows)
     (bytes-fit : length (messageOf d rows) ≤ 32768) (segments-fit : length (written d rows) ≤ 512) where
-  few : length (pieces d 0 0 rows) ≤ 512
+  few : length (pieces d zeros rows) ≤ 512
   few =
-      let e : length (written d rows) ≡ length (pieces d 0 0 rows) = unfold written in length-map (pieces d 0 0 rows) (segmentText d) in
+      let e : length (written d rows) ≡ length (pieces d zeros rows) = unfold written in length-map (pieces d zeros rows) (segmentText d) in
       omega arith
 
-  shorts : Short d (pieces d 0 0 rows)
-  shorts = short d (proper d ok) Other 0 0 rows v (omega (arith, few)) (omega (arith, few))
+  shorts : Short d (pieces d zeros rows)
+  shorts = short d (proper d ok) start 0 zeros rows v (omega arith, omega arith) (omega (arith, few))
 
   segments-is : segments (messageOf d rows) ≡ written d rows
   unfolding messageOf written
-  segments-is = segments-are d (proper d ok) [] (pieces d 0 0 rows) rows (all-said d ok rows v t)
+  segments-is = segments-are d (proper d ok) unsaid (pieces d zeros rows) rows (all-said d ok rows v t)
 
   pub segments-short : all (λ (s : List ℕ). ltb (length s) 850) (segments (messageOf d rows)) ≡ true
   unfolding written
-  segments-short = rw segments-is (all-short d (pieces d 0 0 rows) shorts)
+  segments-short = rw segments-is (all-short d (pieces d zeros rows) shorts)
 
   -- ---- 10 to 14
   frame-passes : frameTold (messageOf d rows) ≡ gives tt
@@ -80,10 +80,10 @@ module _ (d : Delims) (ok : delimsOk d ≡ true) (rows : List Row) (v : valid Ot
   frame-passes =
       let S = all-said d ok rows v t in
       let p = proper d ok in
-      let qs = pieces d 0 0 rows in
+      let qs = pieces d zeros rows in
       let f = front d rows v in
-      let k12 : keeps 0x0D (messageOf d rows) ≡ true = unfold messageOf written in message-keeps d p [] qs rows S in
-      let l13 : empty (last (split 0x0D (messageOf d rows))) ≡ true = unfold messageOf written in all-ended d p [] qs rows S in
+      let k12 : keeps 0x0D (messageOf d rows) ≡ true = unfold messageOf written in message-keeps d p unsaid qs rows S in
+      let l13 : empty (last (split 0x0D (messageOf d rows))) ≡ true = unfold messageOf written in all-ended d p unsaid qs rows S in
       let a13 : all (λ (s : List ℕ). leb (length s) 4096 && nameOk (d .field) s) (written d rows) ≡ true = unfold written in all-fine d S shorts in
       rw (
         le-ltb 32768 (length (messageOf d rows)) bytes-fit,

@@ -2,21 +2,23 @@
 use mathlib.Core.Path.{_≡_, refl, sym, _∙_}
 use mathlib.Core.Bool.{Bool, true, false, cond, not, _&&_, _||_}
 use mathlib.Core.List.{List, [], _∷_, _++_, append-nil}
+use mathlib.Core.Option.{Option, none, some}
 use Prim.Native.Nat.{ℕ}
 use lib.Dec.{ltb}
 use lib.ListN.{length}
 use Rattle.rules.specs.declared.Delims.{Delims}
 use Rattle.rules.specs.declared.Name.the-variants.{Pid, Obx}
-use Rattle.rules.specs.Lists.{bytes, empty, filled, same, has, any, all, split, isOneOf}
+use Rattle.rules.specs.Lists.{bytes, empty, filled, orEmpty, same, has, any, all, split, isOneOf}
 use Rattle.rules.specs.Shift.{marks, mark, met, isOne, step}
 use Rattle.rules.specs.Proper.{Proper}
 use Rattle.rules.specs.Escape.{unescape, escape, escapeMet, unescapeAt}
 use Rattle.rules.specs.Value.{Rule, fault, tooLong, holds, words, text, fits}
 use Rattle.rules.specs.Places.{Four, valueRules}
 use Rattle.rules.specs.View.{componentOf}
-use Rattle.rules.specs.Judge.{unescapedOr, plainOf, faultOr23, judge, firstMarked, kanji, kana, nameFault, namesFault, isSN, rawFour, beside, unjoined, partsFault, valueFault, agrees}
+use Rattle.rules.specs.Judge.{plainOf, faultOr23, judge, firstMarked, kanji, kana, nameFault, markedFault, namesFault, isSN, rawFour, beside, unjoined, partsFault, valueFault, agrees}
+use Rattle.rules.specs.Check.{Context}
 use Rattle.rules.specs.Row.{lines, patient, result}
-use Rattle.rules.specs.Message.{nameText, namesText, valueText, piecesOf}
+use Rattle.rules.specs.Message.{nameText, namesText, valueText, Numbers, piecesOf}
 use Rattle.rules.proofs.Logic.{cases, never, both, neither, not-true, not-false}
 use Rattle.rules.proofs.Lists.{empty-is, has-neither}
 use Rattle.rules.proofs.Split.{split-none, split-next}
@@ -28,6 +30,11 @@ use Rattle.returns.proofs.Groups.{Keeps, no-fault, filled-must, Facts}
 use Rattle.returns.proofs.Segments.{tables, Says, seen, pieceAt, read-value, wordOk, countOk, blankOk}
 
 -- ---- PID-5
+-- the first of some repetitions is marked, or another one is
+pub first-cons : (d : Delims) (m r : List ℕ) (rs : List (List ℕ)) → firstMarked d m (r ∷ rs) ≡ cond (same (componentOf d r 8) m) (some r) (firstMarked d m rs)
+unfolding firstMarked
+first-cons d m r rs = cases (same (componentOf d r 8) m) (λ e. rw (e, firstMarked)) (λ e. rw (e, firstMarked))
+
 abbrev nameParts : Delims → List ℕ → List ℕ → List ℕ → List (List ℕ)
 nameParts d f g mark = escape d f ∷ escape d g ∷ [] ∷ [] ∷ [] ∷ [] ∷ bytes "L" ∷ mark ∷ []
 
@@ -39,10 +46,10 @@ NameIs d f g mark = FieldIs d (nameText d f g mark) (nameParts d f g mark) (name
 
 pub record NamesAre (d : Delims) (n f g kf kg : List ℕ) : Type 0 where
   pub ok : Ok d n
-  pub family : plainOf d (componentOf d (kanji d (met n)) 1) ≡ f
-  pub given : plainOf d (componentOf d (kanji d (met n)) 2) ≡ g
-  pub kanafamily : plainOf d (componentOf d (kana d (met n)) 1) ≡ kf
-  pub kanagiven : plainOf d (componentOf d (kana d (met n)) 2) ≡ kg
+  pub family : plainOf d (componentOf d (orEmpty (kanji d (met n))) 1) ≡ f
+  pub given : plainOf d (componentOf d (orEmpty (kanji d (met n))) 2) ≡ g
+  pub kanafamily : plainOf d (componentOf d (orEmpty (kana d (met n))) 1) ≡ kf
+  pub kanagiven : plainOf d (componentOf d (orEmpty (kana d (met n))) 2) ≡ kg
   pub fine : namesFault d (met n) ≡ 0
 
 module _ (d : Delims) (p : Proper d) where
@@ -64,9 +71,8 @@ module _ (d : Delims) (p : Proper d) where
       )
 
   marked : (f g mark m : List ℕ) (rs : List (List ℕ)) → NameIs d f g mark
-      → firstMarked d m (met (nameText d f g mark) ∷ rs) ≡ cond (same (met mark) m) (met (nameText d f g mark)) (firstMarked d m rs)
-  unfolding firstMarked
-  marked f g mark m rs x = rw (component-is d p (nameText d f g mark) _ _ x 8)
+      → firstMarked d m (met (nameText d f g mark) ∷ rs) ≡ cond (same (met mark) m) (some (met (nameText d f g mark))) (firstMarked d m rs)
+  marked f g mark m rs x = rw (first-cons d m (met (nameText d f g mark)) rs, component-is d p (nameText d f g mark) _ _ x 8)
 
   module _ (f g kf kg : List ℕ) (hf : Clean f) (hg : Clean g) (hkf : Clean kf) (hkg : Clean kg)
       (qf : Keeps true (text 48) f) (qg : Keeps false (text 48) g) (qkf : Keeps false (text 48) kf) (qkg : Keeps false (text 48) kg)
@@ -78,13 +84,13 @@ module _ (d : Delims) (p : Proper d) where
     kana-field = name-field kf kg (bytes "P") hkf hkg (unfold all plainByte has any isOne step bytes in refl)
 
     -- the kanji name first, and what is then taken for the kana name
-    names-of : (n k : List ℕ) (rest : List (List ℕ)) → Ok d n → split (d .repetition) (met n) ≡ met (nameText d f g (bytes "I")) ∷ rest
-        → firstMarked d (bytes "P") rest ≡ k → plainOf d (componentOf d k 1) ≡ kf → plainOf d (componentOf d k 2) ≡ kg
-        → cond (empty k) 0 (nameFault d k) ≡ 0 → NamesAre d n f g kf kg
-    unfolding namesFault
+    names-of : (n : List ℕ) (k : Option (List ℕ)) (rest : List (List ℕ)) → Ok d n → split (d .repetition) (met n) ≡ met (nameText d f g (bytes "I")) ∷ rest
+        → firstMarked d (bytes "P") rest ≡ k → plainOf d (componentOf d (orEmpty k) 1) ≡ kf → plainOf d (componentOf d (orEmpty k) 2) ≡ kg
+        → markedFault d 0 k ≡ 0 → NamesAre d n f g kf kg
+    unfolding namesFault markedFault orEmpty
     names-of n k rest o c m k1 k2 kz =
         let x = kanji-field in
-        let ki : kanji d (met n) ≡ met (nameText d f g (bytes "I")) =
+        let ki : kanji d (met n) ≡ some (met (nameText d f g (bytes "I"))) =
         (rw (c, marked f g (bytes "I") (bytes "I") rest x) (unfold met marks mark isOne step bytes same in refl)) in
         let ka : kana d (met n) ≡ k = (rw (c, marked f g (bytes "I") (bytes "P") rest x) (unfold met marks mark isOne step bytes same in m)) in
         record {
@@ -103,8 +109,8 @@ module _ (d : Delims) (p : Proper d) where
         let ekf : kf ≡ [] = empty-is kf e in
         let ekg : kg ≡ [] = empty-is kg (rw e at blank) in
         rw (e, append-nil)
-        (names-of (nameText d f g (bytes "I")) [] [] (x .ok) (split-none (d .repetition) _ (x .once)) (unfold firstMarked in refl)
-        (rw ekf (unfold componentOf split unescape unescapeAt unescapedOr in refl)) (rw ekg (unfold componentOf split unescape unescapeAt unescapedOr in refl)) (unfold empty in refl))
+        (names-of (nameText d f g (bytes "I")) none [] (x .ok) (split-none (d .repetition) _ (x .once)) (unfold firstMarked in refl)
+        (rw ekf (unfold componentOf split unescape unescapeAt orEmpty in refl)) (rw ekg (unfold componentOf split unescape unescapeAt orEmpty in refl)) (unfold markedFault in refl))
 
     with-kana : empty kf ≡ false → NamesAre d (namesText d f g kf kg) f g kf kg
     unfolding namesText
@@ -122,21 +128,21 @@ module _ (d : Delims) (p : Proper d) where
         } in
         let c : split (d .repetition) (met (A ++ (d .repetition ∷ B))) ≡ met A ∷ met B ∷ [] =
         (rw (a, oB .1, split-next (d .repetition) (met A) (met B) (x .once), split-none (d .repetition) (met B) (y .once))) in
-        let k : firstMarked d (bytes "P") (met B ∷ []) ≡ met B = marked kf kg (bytes "P") (bytes "P") [] y ∙ (unfold met marks mark isOne step bytes same in refl) in
+        let k : firstMarked d (bytes "P") (met B ∷ []) ≡ some (met B) = marked kf kg (bytes "P") (bytes "P") [] y ∙ (unfold met marks mark isOne step bytes same in refl) in
         let z = name-fine kf kg (bytes "P") y (qkf .0, filled-must true (text 48) kf (rw e) (qkf .1)) qkg in
         rw e
-        (names-of (A ++ (d .repetition ∷ B)) (met B) (met B ∷ []) o c k
-        (value-in d p _ _ _ y 1) (value-in d p _ _ _ y 2) (cases (empty (met B)) (λ t. rw t) (λ t. rw (t, z))))
+        (names-of (A ++ (d .repetition ∷ B)) (some (met B)) (met B ∷ []) o c k
+        (unfold orEmpty in (value-in d p _ _ _ y 1)) (unfold orEmpty in (value-in d p _ _ _ y 2)) (unfold markedFault in z))
 
     names : NamesAre d (namesText d f g kf kg) f g kf kg
     names = cases (empty kf) no-kana with-kana
 
   -- ---- PID
-  pub pid : (i j : ℕ) (id f g kf kg birth sex ord : List ℕ) → Facts (lines Pid) [] (id ∷ f ∷ g ∷ kf ∷ kg ∷ birth ∷ sex ∷ [])
+  pub pid : (n : Numbers) (id f g kf kg birth sex : List ℕ) (ctx : Context) → Facts (lines Pid) [] (id ∷ f ∷ g ∷ kf ∷ kg ∷ birth ∷ sex ∷ [])
       → Cleans (id ∷ f ∷ g ∷ kf ∷ kg ∷ birth ∷ sex ∷ [])
-      → Says d (pieceAt (piecesOf d i j (patient id f g kf kg birth sex)) 0) ord ord (patient id f g kf kg birth sex ∷ [])
+      → Says d (pieceAt (piecesOf d n (patient id f g kf kg birth sex)) 0) ctx ctx (patient id f g kf kg birth sex ∷ [])
   unfolding tables
-  pid i j id f g kf kg birth sex ord F C =
+  pid n id f g kf kg birth sex ctx F C =
       let Ff = F .1 in
       let Fk = Ff .1 .1 in
       let Fb = Fk .1 .1 in
@@ -168,7 +174,7 @@ module _ (d : Delims) (p : Proper d) where
           refl,
           (rw (e at 5) (N .fine), refl, (seen x7 (e at 7) (Fb .0, tt), refl, (seen x8 (e at 8) (Fb .1 .0, tt), refl, tt))),
         );
-        order = λ at. refl;
+        context = λ at. refl;
       }
 
 -- ---- OBX-5
@@ -196,7 +202,7 @@ module _ (d : Delims) (p : Proper d) where
   nil = refl
 
   plain-back : (v : List ℕ) → Clean v → plainOf d (met (escape d v)) ≡ v
-  unfolding unescapedOr
+  unfolding orEmpty
   plain-back v h = rw (escaped-back d p v h)
 
   judged : (q : Bool) (r : Rule) (v : List ℕ) → Clean v → Keeps q r v → judge d q r (met (escape d v)) ≡ 0
@@ -269,12 +275,12 @@ module _ (d : Delims) (p : Proper d) where
         )
 
   -- ---- OBX
-  pub obx : (i n : ℕ) (item name type c v j s unit flag status ord : List ℕ)
+  pub obx : (n : Numbers) (item name type c v j s unit flag status : List ℕ) (ctx : Context)
       → Facts (lines Obx) [] (item ∷ name ∷ type ∷ c ∷ v ∷ j ∷ s ∷ unit ∷ flag ∷ status ∷ [])
       → Cleans (item ∷ name ∷ type ∷ c ∷ v ∷ j ∷ s ∷ unit ∷ flag ∷ status ∷ [])
-      → Says d (pieceAt (piecesOf d i n (result item name type c v j s unit flag status)) 0) ord ord (result item name type c v j s unit flag status ∷ [])
+      → Says d (pieceAt (piecesOf d n (result item name type c v j s unit flag status)) 0) ctx ctx (result item name type c v j s unit flag status ∷ [])
   unfolding tables valueFault
-  obx i n item name type c v j s unit flag status ord F C =
+  obx n item name type c v j s unit flag status ctx F C =
       let Ft = F .1 .1 in
       let Fv = Ft .1 in
       let Fs = Fv .1 .1 .1 in
@@ -297,7 +303,7 @@ module _ (d : Delims) (p : Proper d) where
       let x11 = single d p (escaped d p status (Cu .1 .1 .0)) in
       let b = blankOk d p in
       let o =
-      next (wordOk d p (bytes "OBX") refl) (next (countOk d p n) (next (x2 .ok) (next (x3 .ok) (next b (next (X .ok) (next (x6 .ok) (next b (next (x8 .ok)
+      next (wordOk d p (bytes "OBX") refl) (next (countOk d p (n .result)) (next (x2 .ok) (next (x3 .ok) (next b (next (X .ok) (next (x6 .ok) (next b (next (x8 .ok)
       (next b (next b (next (x11 .ok) last))))))))))) in
       let e = field-at d p o Obx in
       record {
@@ -351,5 +357,5 @@ module _ (d : Delims) (p : Proper d) where
             ),
           ),
         );
-        order = λ at. refl;
+        context = λ at. refl;
       }

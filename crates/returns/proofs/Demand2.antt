@@ -23,7 +23,7 @@ use Rattle.rules.specs.Message.{base, written, messageOf, messageTold, toMessag
 use Rattle.rules.proofs.Logic.{cases, toldCases, guard, not-given}
 use Rattle.rules.proofs.Lists.{take-own}
 use Rattle.rules.proofs.Unique.{length-unique}
-use Rattle.returns.specs.Demand2.{toMessageBy, linesWith, countsOf, Only44Or45, given, overflow, short, SheetIsWritten, SheetReturns, MessageReturns, SheetCalls, MessageCalls}
+use Rattle.returns.specs.Demand2.{toMessageBy, linesWith, lineCounts, Only44Or45, given, overflow, short, SheetIsWritten, SheetReturns, MessageReturns, SheetCalls, MessageCalls}
 use Rattle.returns.proofs.Messages.{counted, rows-return}
 use Rattle.returns.proofs.Sheets.{SheetIs, sheet-is, sheet-read}
 use Rattle.returns.proofs.Accepts.{wrote, segments-short, message-accepted}
@@ -51,8 +51,8 @@ unfolding rowLines count
 lines-counted key g h [] = refl
 lines-counted key g h (r ∷ rs) = rw (h r (rowLines rs), lines-counted key g h rs)
 
-counts-of : (s : List ℕ) (rows : List Row) → SheetIs s rows → countsOf s ≡ accepted (counted Spm rows) (counted Obr rows) (counted Obx rows)
-unfolding countsOf linesWith
+counts-of : (s : List ℕ) (rows : List Row) → SheetIs s rows → lineCounts s ≡ accepted (counted Spm rows) (counted Obr rows) (counted Obx rows)
+unfolding lineCounts linesWith
 counts-of s rows S =
     rw (
       S .lines,

@@ -7,13 +7,13 @@ use Prim.Native.Nat.{ℕ, zero, suc, _-_}
 use lib.Dec.{eqb}
 use Rattle.rules.specs.declared.Delims.{Delims}
 use Rattle.rules.specs.declared.Name.{Name}
-use Rattle.rules.specs.Lists.{bytes, empty, same, has, all, split, join, nth}
+use Rattle.rules.specs.Lists.{bytes, empty, orEmpty, same, has, all, split, join, nth}
 use Rattle.rules.specs.Shift.{met}
 use Rattle.rules.specs.Proper.{Delim, Proper}
 use Rattle.rules.specs.Escape.{unescape, escape}
 use Rattle.rules.specs.Value.{Rule, fault}
 use Rattle.rules.specs.View.{pieceOf, fieldOf, componentOf, firstRepetition}
-use Rattle.rules.specs.Judge.{unescapedOr, plainOf, faultOr23, judge}
+use Rattle.rules.specs.Judge.{plainOf, faultOr23, judge}
 use Rattle.rules.specs.Message.{composed, blanks}
 use Rattle.rules.proofs.Lists.{has-there}
 use Rattle.rules.proofs.Split.{frees, split-none, split-join, has-join}
@@ -120,7 +120,7 @@ module _ (d : Delims) (p : Proper d) where
     component-is c = rw (x .cut) (nth-met cs (c - 1))
 
     pub value-in : (c : ℕ) → plainOf d (componentOf d (met f) c) ≡ nth vs (c - 1)
-    unfolding unescapedOr
+    unfolding orEmpty
     value-in c = rw (component-is c, comp-nth (x .says) (c - 1) .back)
 
     pub judge-in : (q : Bool) (r : Rule) (c : ℕ) → same (nth vs (c - 1)) (bytes "\"\"") ≡ false → judge d q r (componentOf d (met f) c) ≡ fault q r (nth vs (c - 1))

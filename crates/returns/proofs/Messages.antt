@@ -1,5 +1,5 @@
 -- The written message as a whole: its segments, its view, its rows, its order and its counts. Assumes nothing.
-use mathlib.Core.Path.{_≡_, refl, sym, _∙_}
+use mathlib.Core.Path.{_≡_, refl, sym}
 use mathlib.Core.Bool.{true, false, cond, _&&_}
 use mathlib.Core.List.{List, [], _∷_, _++_, map}
 use Prim.Native.Nat.{ℕ, suc, _+_}
@@ -12,17 +12,18 @@ use Rattle.rules.specs.declared.Name.the-variants.{Spm, Obr, Orc, Obx, Other}
 use Rattle.rules.specs.Told.{gives, accepted}
 use Rattle.rules.specs.Lists.{bytes, empty, starts, any, count, split, last, led, join, ended}
 use Rattle.rules.specs.Shift.{keeps}
-use Rattle.rules.specs.Frame.{delimsOk, headerOk, delimsOf, segments, nameOk, capital, capitalOrDigit, knownNames, spelling, nameAmong, nameOf, is, knownFrom, known, after, orderFault}
+use Rattle.rules.specs.Frame.{delimsOk, headerOk, delimsOf, segments, nameOk, capital, capitalOrDigit, knownNames, spelling, nameAmong, nameOf, is, knownFrom, known, Reached, start, mayFollow, mayEnd}
 use Rattle.rules.specs.Proper.{Proper}
 use Rattle.rules.specs.Places.{places}
 use Rattle.rules.specs.View.{partOf, Segment, segmentOf, view}
-use Rattle.rules.specs.Check.{partsTold, placesTold, countsTold, viewTold}
+use Rattle.rules.specs.Check.{Context, unsaid, partsTold, placesTold, countsTold, viewTold}
 use Rattle.rules.specs.Row.{lines, Row, header, patient, visit, specimen, order, result, groupOf, values, rowsFrom, rowsOf}
-use Rattle.rules.specs.Sheet.{nextGroups, good, valid}
-use Rattle.rules.specs.Message.{blanks, encoding, Piece, piece, piecesOf, specimens, results, pieces, segmentText, written, messageOf}
+use Rattle.rules.specs.Sheet.{pastGroup, good, valid}
+use Rattle.rules.specs.Message.{blanks, encoding, Piece, piece, Numbers, zeros, counted as numbered, piecesOf, pieces, segmentText, written, messageOf}
 use Rattle.rules.proofs.Logic.{cases, never, both, or-true, eqb-self}
 use Rattle.rules.proofs.Split.{split-ended, butLast-snoc, last-snoc}
-use Rattle.rules.proofs.Names.{inNames, name-is}
+use Rattle.rules.proofs.Names.{inNames}
+use Rattle.rules.proofs.Ordered.{order-ok}
 use Rattle.rules.proofs.Header.{proper}
 use Rattle.rules.proofs.Clean.{Cleans, cleans-free, cleans-ended, end-0D}
 use Rattle.returns.proofs.Fields.{segment-clean}
@@ -31,16 +32,16 @@ use Rattle.returns.proofs.Segments.{Said, none, more, knownAs, meets, s
 use Rattle.returns.proofs.Closed.{pid, obx}
 
 -- ---- rows: the first of them and the rest
-pub record First (a : Name) (r : Row) (rs : List Row) : Type 0 where
-  pub follows : any (is (groupOf r)) (nextGroups a) ≡ true
+pub record First (a : Reached) (r : Row) (rs : List Row) : Type 0 where
+  pub follows : mayFollow a (groupOf r) ≡ true
   pub holds : good (lines (groupOf r)) [] (values r) ≡ true
-  pub rest : valid (groupOf r) rs ≡ true
+  pub rest : valid (pastGroup a (groupOf r)) rs ≡ true
 
-pub first : (a : Name) (r : Row) (rs : List Row) → valid a (r ∷ rs) ≡ true → First a r rs
+pub first : (a : Reached) (r : Row) (rs : List Row) → valid a (r ∷ rs) ≡ true → First a r rs
 unfolding valid
 first a r rs v =
-    let q = both (any (is (groupOf r)) (nextGroups a)) (good (lines (groupOf r)) [] (values r) && valid (groupOf r) rs) v in
-    let w = both (good (lines (groupOf r)) [] (values r)) (valid (groupOf r) rs) (q .1) in
+    let q = both (mayFollow a (groupOf r)) (good (lines (groupOf r)) [] (values r) && valid (pastGroup a (groupOf r)) rs) v in
+    let w = both (good (lines (groupOf r)) [] (values r)) (valid (pastGroup a (groupOf r)) rs) (q .1) in
     record { follows = q .0; holds = w .0; rest = w .1 }
 
 -- every value keeps the shift rule by itself
@@ -50,34 +51,34 @@ Tidy (r ∷ rs) = Cleans (values r) × Tidy rs
 
 -- ---- every row says itself
 module _ (d : Delims) (p : Proper d) where
-  row-said : (r : Row) (i j : ℕ) (rs : List Row) (qs : List Piece) → Facts (lines (groupOf r)) [] (values r) → Cleans (values r)
-      → ((ord : List ℕ) → Said d ord qs rs) → (ord : List ℕ) → Said d ord (piecesOf d i j r ++ qs) (r ∷ rs)
+  row-said : (r : Row) (n : Numbers) (rs : List Row) (qs : List Piece) → Facts (lines (groupOf r)) [] (values r) → Cleans (values r)
+      → ((c : Context) → Said d c qs rs) → (c : Context) → Said d c (piecesOf d n r ++ qs) (r ∷ rs)
   unfolding piecesOf values
-  row-said (header x1 x2 x3) i j rs qs F C D ord = more (msh d p i j x1 x2 x3 ord F C) (D ord)
-  row-said (patient x1 x2 x3 x4 x5 x6 x7) i j rs qs F C D ord = more (pid d p i j x1 x2 x3 x4 x5 x6 x7 ord F C) (D ord)
-  row-said (visit x1) i j rs qs F C D ord = more (pv1 d p i j x1 ord F C) (D ord)
-  row-said (specimen x1 x2) i j rs qs F C D ord = more (spm d p i j x1 x2 ord F C) (D ord)
-  row-said (order x1 x2) i j rs qs F C D ord = more (obr d p i j x1 x2 ord F C) (more (orc d p i j x1 x2 F C) (D x1))
-  row-said (result x1 x2 x3 x4 x5 x6 x7 x8 x9 x10) i j rs qs F C D ord = more (obx d p i j x1 x2 x3 x4 x5 x6 x7 x8 x9 x10 ord F C) (D ord)
+  row-said (header x1 x2 x3) n rs qs F C D c = more (msh d p n x1 x2 x3 c F C) (D c)
+  row-said (patient x1 x2 x3 x4 x5 x6 x7) n rs qs F C D c = more (pid d p n x1 x2 x3 x4 x5 x6 x7 c F C) (D c)
+  row-said (visit x1) n rs qs F C D c = more (pv1 d p n x1 c F C) (D c)
+  row-said (specimen x1 x2) n rs qs F C D c = more (spm d p n x1 x2 c F C) (D c)
+  row-said (order x1 x2) n rs qs F C D c = more (obr d p n x1 x2 c F C) (more (orc d p n x1 x2 F C) (D (record { order = x1 })))
+  row-said (result x1 x2 x3 x4 x5 x6 x7 x8 x9 x10) n rs qs F C D c = more (obx d p n x1 x2 x3 x4 x5 x6 x7 x8 x9 x10 c F C) (D c)
 
-  said : (a : Name) (i j : ℕ) (rows : List Row) → valid a rows ≡ true → Tidy rows → (ord : List ℕ) → Said d ord (pieces d i j rows) rows
+  said : (a : Reached) (n : Numbers) (rows : List Row) → valid a rows ≡ true → Tidy rows → (c : Context) → Said d c (pieces d n rows) rows
   unfolding pieces
-  said a i j [] v t ord = none
-  said a i j (r ∷ rs) v t ord =
+  said a n [] v t c = none
+  said a n (r ∷ rs) v t c =
       let f = first a r rs v in
-      row-said r (specimens i r) (results j r) rs _ (facts (lines (groupOf r)) [] (values r) (f .holds)) (t .0)
-      (said (groupOf r) (specimens i r) (results j r) rs (f .rest) (t .1)) ord
+      let m = numbered n (groupOf r) in
+      row-said r m rs (pieces d m rs) (facts (lines (groupOf r)) [] (values r) (f .holds)) (t .0) (said (pastGroup a (groupOf r)) m rs (f .rest) (t .1)) c
 
   -- ---- the segments
   abbrev texts : List Piece → List (List ℕ)
   texts qs = map (segmentText d) qs
 
-  said-cleans : {ord : List ℕ} {qs : List Piece} {rows : List Row} → Said d ord qs rows → Cleans (texts qs)
+  said-cleans : {c : Context} {qs : List Piece} {rows : List Row} → Said d c qs rows → Cleans (texts qs)
   unfolding segmentText
   said-cleans none = tt
   said-cleans (more x y) = (segment-clean d p (x .oks), said-cleans y)
 
-  module _ (ord : List ℕ) (qs : List Piece) (rows : List Row) (S : Said d ord qs rows) where
+  module _ (c : Context) (qs : List Piece) (rows : List Row) (S : Said d c qs rows) where
     cut : split 0x0D (ended 0x0D (texts qs)) ≡ texts qs ++ ([] ∷ [])
     cut = split-ended 0x0D (texts qs) (cleans-free 0x0D end-0D (texts qs) (said-cleans S))
 
@@ -124,88 +125,63 @@ segsFrom d at [] = []
 segsFrom d at (q ∷ qs) = segmentOf d (knownAs d at q) ∷ segsFrom d (at + suc (length (segmentText d q))) qs
 
 module _ (d : Delims) (p : Proper d) where
-  seen-segs : {ord : List ℕ} {qs : List Piece} {rows : List Row} → Said d ord qs rows → (at : ℕ) → map (segmentOf d) (knownFrom at (map (segmentText d) qs)) ≡ segsFrom d at qs
+  seen-segs : {c : Context} {qs : List Piece} {rows : List Row} → Said d c qs rows → (at : ℕ) → map (segmentOf d) (knownFrom at (map (segmentText d) qs)) ≡ segsFrom d at qs
   unfolding knownFrom segsFrom
   seen-segs none at = refl
   seen-segs (more {q} x y) at = rw (name-back d (q .name) (q .fields) (x .known), x .known, seen-segs y (at + suc (length (segmentText d q))))
 
-  seen-rows : {ord : List ℕ} {qs : List Piece} {rows : List Row} → Said d ord qs rows → (at : ℕ) → rowsFrom d (segsFrom d at qs) ≡ rows
+  seen-rows : {c : Context} {qs : List Piece} {rows : List Row} → Said d c qs rows → (at : ℕ) → rowsFrom d (segsFrom d at qs) ≡ rows
   unfolding segsFrom rowsFrom segmentOf
   seen-rows none at = refl
   seen-rows (more {q} x y) at = rw (x .row at, seen-rows y (at + suc (length (segmentText d q))))
 
-  seen-places : {ord : List ℕ} {qs : List Piece} {rows : List Row} → Said d ord qs rows → (at n : ℕ) → placesTold d ord n (segsFrom d at qs) ≡ gives tt
+  seen-places : {c : Context} {qs : List Piece} {rows : List Row} → Said d c qs rows → (at n : ℕ) → placesTold d c n (segsFrom d at qs) ≡ gives tt
   unfolding segsFrom placesTold segmentOf
   seen-places none at n = refl
-  seen-places (more {q} {qs} {before} x y) at n =
+  seen-places (more {q} {qs} {ctx} x y) at n =
       let k = knownAs d at q in
-      let m : partsTold d before n (segmentOf d k) (map (partOf d k) (places (q .name))) ≡ gives tt = meets d p before n k (places (q .name)) (x .faults at) in
-      rw (m, x .order at) (seen-places y (at + suc (length (segmentText d q))) (suc n))
+      let m : partsTold d ctx n (segmentOf d k) (map (partOf d k) (places (q .name))) ≡ gives tt = meets d p ctx n k (places (q .name)) (x .faults at) in
+      rw (m, x .context at) (seen-places y (at + suc (length (segmentText d q))) (suc n))
 
 segs-names : (d : Delims) (at : ℕ) (qs : List Piece) → map (λ (s : Segment). s .name) (segsFrom d at qs) ≡ map (λ (q : Piece). q .name) qs
 unfolding segsFrom segmentOf
 segs-names d at [] = refl
 segs-names d at (q ∷ qs) = rw (segs-names d (at + suc (length (segmentText d q))) qs)
 
--- ---- the order: an ORC stands after each OBR
+-- ---- the counts: an ORC stands after each OBR
 abbrev namesIn : List Piece → List Name
 namesIn qs = map (λ (q : Piece). q .name) qs
 
 abbrev orcAfter : Name → List Name
 orcAfter g = cond (is g Obr) (Orc ∷ []) []
 
-row-names : (d : Delims) (i j : ℕ) (r : Row) (qs : List Piece) → namesIn (piecesOf d i j r ++ qs) ≡ groupOf r ∷ (orcAfter (groupOf r) ++ namesIn qs)
+row-names : (d : Delims) (n : Numbers) (r : Row) (qs : List Piece) → namesIn (piecesOf d n r ++ qs) ≡ groupOf r ∷ (orcAfter (groupOf r) ++ namesIn qs)
 unfolding piecesOf
-row-names d i j (header x1 x2 x3) qs = refl
-row-names d i j (patient x1 x2 x3 x4 x5 x6 x7) qs = refl
-row-names d i j (visit x1) qs = refl
-row-names d i j (specimen x1 x2) qs = refl
-row-names d i j (order x1 x2) qs = refl
-row-names d i j (result x1 x2 x3 x4 x5 x6 x7 x8 x9 x10) qs = refl
+row-names d n (header x1 x2 x3) qs = refl
+row-names d n (patient x1 x2 x3 x4 x5 x6 x7) qs = refl
+row-names d n (visit x1) qs = refl
+row-names d n (specimen x1 x2) qs = refl
+row-names d n (order x1 x2) qs = refl
+row-names d n (result x1 x2 x3 x4 x5 x6 x7 x8 x9 x10) qs = refl
 
-abbrev standing : Name → Name
-standing a = cond (is a Obr) Orc a
-
-fault-step : (a g : Name) (n : ℕ) (gs : List Name) → any (is g) (after a) ≡ true → orderFault a n (g ∷ gs) ≡ orderFault g (suc n) gs
-unfolding orderFault
-fault-step a g n gs h = cc
-
--- a group, with its ORC
-group-step : (a g : Name) (gs : List Name) → any (is g) (nextGroups a) ≡ true → ((n : ℕ) → orderFault (standing g) n gs ≡ 0) → (n : ℕ) → orderFault (standing a) n (g ∷ (orcAfter g ++ gs)) ≡ 0
-group-step a g gs h ih n =
-    let f : any (is g) (after (standing a)) ≡ true = unfold nextGroups in cases (is a Obr) (λ e. rw e (rw e at h)) (λ e. rw e (rw e at h)) in
-    fault-step (standing a) g n (orcAfter g ++ gs) f
-    ∙ cases (is g Obr)
-    (λ e. rw (e, name-is g Obr e, fault-step Obr Orc (suc n) gs (unfold any in refl)) (rw e at (ih (suc (suc n)))))
-    (λ e. rw e (rw e at (ih (suc n))))
-
-order-ok : (d : Delims) (a : Name) (i j : ℕ) (rows : List Row) → valid a rows ≡ true → (n : ℕ) → orderFault (standing a) n (namesIn (pieces d i j rows)) ≡ 0
-unfolding valid pieces
-order-ok d a i j [] v n = unfold orderFault in rw (name-is a Obx v)
-order-ok d a i j (r ∷ rs) v n =
-    let f = first a r rs v in
-    rw (row-names d (specimens i r) (results j r) r (pieces d (specimens i r) (results j r) rs))
-    (group-step a (groupOf r) _ (f .follows) (order-ok d (groupOf r) (specimens i r) (results j r) rs (f .rest)) n)
-
--- ---- the counts
 abbrev pub counted : Name → List Row → ℕ
 counted g rows = count (λ (r : Row). is g (groupOf r)) rows
 
-counts-are : (d : Delims) (g : Name) → is g Orc ≡ false → (i j : ℕ) (rows : List Row) → count (is g) (namesIn (pieces d i j rows)) ≡ counted g rows
+counts-are : (d : Delims) (g : Name) → is g Orc ≡ false → (n : Numbers) (rows : List Row) → count (is g) (namesIn (pieces d n rows)) ≡ counted g rows
 unfolding count pieces
-counts-are d g o i j [] = refl
-counts-are d g o i j (r ∷ rs) =
-    let ih = counts-are d g o (specimens i r) (results j r) rs in
-    rw (row-names d (specimens i r) (results j r) r (pieces d (specimens i r) (results j r) rs))
-    (cases (is (groupOf r) Obr) (λ e. rw (e, o) (omega (arith, ih))) (λ e. rw (e, ih)))
+counts-are d g o n [] = refl
+counts-are d g o n (r ∷ rs) =
+    let m = numbered n (groupOf r) in
+    let ih = counts-are d g o m rs in
+    rw (row-names d m r (pieces d m rs)) (cases (is (groupOf r) Obr) (λ e. rw (e, o) (omega (arith, ih))) (λ e. rw (e, ih)))
 
 -- ---- the header
 pub record Front (d : Delims) (m : List ℕ) : Type 0 where
   pub tail : List ℕ
   pub is : m ≡ 77 ∷ 83 ∷ 72 ∷ d .field ∷ d .component ∷ d .repetition ∷ d .escape ∷ d .sub ∷ d .field ∷ tail
 
-pub front : (d : Delims) (rows : List Row) → valid Other rows ≡ true → Front d (messageOf d rows)
-unfolding valid any nextGroups messageOf written pieces piecesOf segmentText spelling bytes encoding blanks join led ended
+pub front : (d : Delims) (rows : List Row) → valid start rows ≡ true → Front d (messageOf d rows)
+unfolding valid any mayFollow mayEnd messageOf written pieces piecesOf segmentText spelling bytes encoding blanks join led ended
 front d [] v = never (sym v)
 front d (header x1 x2 x3 ∷ rs) v = record { tail = _; is = refl }
 front d (patient x1 x2 x3 x4 x5 x6 x7 ∷ rs) v = never (sym v)
@@ -226,14 +202,14 @@ module _ (d : Delims) (m : List ℕ) (f : Front d m) where
       (rw (le-leb 9 (length (77 ∷ 83 ∷ 72 ∷ d .field ∷ d .component ∷ d .repetition ∷ d .escape ∷ d .sub ∷ d .field ∷ f .tail)) (omega arith), eqb-self (d .field)))
 
 -- ---- THE VIEW of the written message
-module _ (d : Delims) (ok : delimsOk d ≡ true) (rows : List Row) (v : valid Other rows ≡ true) (t : Tidy rows) where
-  pub all-said : Said d [] (pieces d 0 0 rows) rows
-  all-said = said d (proper d ok) Other 0 0 rows v t []
+module _ (d : Delims) (ok : delimsOk d ≡ true) (rows : List Row) (v : valid start rows ≡ true) (t : Tidy rows) where
+  pub all-said : Said d unsaid (pieces d zeros rows) rows
+  all-said = said d (proper d ok) start zeros rows v t unsaid
 
-  view-is : view (messageOf d rows) ≡ record { delims = d; segs = segsFrom d 0 (pieces d 0 0 rows) }
+  view-is : view (messageOf d rows) ≡ record { delims = d; segs = segsFrom d 0 (pieces d zeros rows) }
   unfolding view known messageOf written
   view-is =
-      rw (delims-are d (messageOf d rows) (front d rows v), segments-are d (proper d ok) [] (pieces d 0 0 rows) rows all-said, seen-segs d (proper d ok) all-said 0)
+      rw (delims-are d (messageOf d rows) (front d rows v), segments-are d (proper d ok) unsaid (pieces d zeros rows) rows all-said, seen-segs d (proper d ok) all-said 0)
 
   -- it says the rows, is in order, and has no fault
   pub rows-return : rowsOf (view (messageOf d rows)) ≡ rows
@@ -245,10 +221,10 @@ module _ (d : Delims) (ok : delimsOk d ≡ true) (rows : List Row) (v : valid Ot
   view-accepted =
       rw (
         view-is,
-        segs-names d 0 (pieces d 0 0 rows),
-        order-ok d Other 0 0 rows v 1,
+        segs-names d 0 (pieces d zeros rows),
+        order-ok rows start v d zeros 1,
         seen-places d (proper d ok) all-said 0 1,
-        counts-are d Spm refl 0 0 rows,
-        counts-are d Obr refl 0 0 rows,
-        counts-are d Obx refl 0 0 rows,
+        counts-are d Spm refl zeros rows,
+        counts-are d Obr refl zeros rows,
+        counts-are d Obx refl zeros rows,
       )

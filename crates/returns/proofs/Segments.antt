@@ -11,7 +11,7 @@ use lib.ListN.{getD}
 use Rattle.rules.specs.declared.Delims.{Delims}
 use Rattle.rules.specs.declared.Name.the-variants.{Msh, Pv1, Spm, Obr, Orc, Other}
 use Rattle.rules.specs.Told.{gives}
-use Rattle.rules.specs.Lists.{bytes, empty, same, has, any, all, split, onto, nth, isOneOf}
+use Rattle.rules.specs.Lists.{bytes, empty, same, has, any, all, split, onto, nth, isOneOf, decimalTo, decimal}
 use Rattle.rules.specs.Shift.{step, isOne, mark, marks, met}
 use Rattle.rules.specs.Escape.{escape}
 use Rattle.rules.specs.Value.{fault, tooLong, holds}
@@ -20,9 +20,9 @@ use Rattle.rules.specs.Proper.{Proper}
 use Rattle.rules.specs.Places.{Place, Field, reads, closed, places, entryIn, entryOf}
 use Rattle.rules.specs.View.{pieceOf, fieldOf, componentOf, firstRepetition, seenIn, partOf, Segment, segmentOf, Part, whole, seenAt, partAt}
 use Rattle.rules.specs.Judge.{plainOf, judgeAll}
-use Rattle.rules.specs.Check.{ownFault, laterFault, partFault, numberOf, faultTold, partsTold, orderAfter}
+use Rattle.rules.specs.Check.{Context, ownFault, laterFault, partFault, partNo, faultTold, partsTold, contextAfter}
 use Rattle.rules.specs.Row.{Line, line, lines, fourAt, Row, header, visit, specimen, order, rowOf}
-use Rattle.rules.specs.Message.{blanks, decimal, decimalTo, encoding, Piece, piece, piecesOf, segmentText}
+use Rattle.rules.specs.Message.{blanks, encoding, Piece, Numbers, piece, piecesOf, segmentText}
 use Rattle.rules.proofs.Logic.{cases}
 use Rattle.rules.proofs.Lists.{same-self, in-range, all-append}
 use Rattle.rules.proofs.Clean.{Cleans}
@@ -40,11 +40,11 @@ pub data Read (d : Delims) (k : Known) (n : ℕ) (qs : List Place) : Type 0 wher
   seen : {f : List ℕ} {cs vs : List (List ℕ)} → FieldIs d f cs vs → fieldOf d k n ≡ met f → Kept vs qs → Read d k n qs
 
 -- the table of a segment's places, one by one
-abbrev pub Meets : Delims → List ℕ → Known → List Field → Type 0
-Meets d ord k [] = Unit
-Meets d ord k (reads n qs ∷ fs) = Read d k n qs × (laterFault d ord (segmentOf d k) n ≡ 0) × Meets d ord k fs
-Meets d ord k (closed n form ∷ fs) =
-    (ownFault d (segmentOf d k) (whole n form (fieldOf d k n)) ≡ 0) × (laterFault d ord (segmentOf d k) n ≡ 0) × Meets d ord k fs
+abbrev pub Meets : Delims → Context → Known → List Field → Type 0
+Meets d ctx k [] = Unit
+Meets d ctx k (reads n qs ∷ fs) = Read d k n qs × (laterFault d ctx (segmentOf d k) n ≡ 0) × Meets d ctx k fs
+Meets d ctx k (closed n form ∷ fs) =
+    (ownFault d (segmentOf d k) (whole n form (fieldOf d k n)) ≡ 0) × (laterFault d ctx (segmentOf d k) n ≡ 0) × Meets d ctx k fs
 
 module _ (d : Delims) (p : Proper d) where
   judge-kept : {f : List ℕ} {cs vs : List (List ℕ)} → FieldIs d f cs vs → (qs : List Place) → Kept vs qs
@@ -63,39 +63,39 @@ module _ (d : Delims) (p : Proper d) where
       → plainOf d (componentOf d (firstRepetition d (fieldOf d k n)) c) ≡ nth vs (c - 1)
   read-value {f} {cs} {vs} x k n c e = rw e (value-at d p f cs vs x c)
 
-  part-gives : (ord : List ℕ) (i : ℕ) (s : Segment) (q : Part) (qs : List Part) → ownFault d s q ≡ 0 → laterFault d ord s (numberOf q) ≡ 0
-      → partsTold d ord i s qs ≡ gives tt → partsTold d ord i s (q ∷ qs) ≡ gives tt
+  part-gives : (ctx : Context) (i : ℕ) (s : Segment) (q : Part) (qs : List Part) → ownFault d s q ≡ 0 → laterFault d ctx s (partNo q) ≡ 0
+      → partsTold d ctx i s qs ≡ gives tt → partsTold d ctx i s (q ∷ qs) ≡ gives tt
   unfolding partsTold partFault faultTold
-  part-gives ord i s q qs h k g = rw (h, k) g
+  part-gives ctx i s q qs h k g = rw (h, k) g
 
-  pub meets : (ord : List ℕ) (i : ℕ) (k : Known) (fs : List Field) → Meets d ord k fs → partsTold d ord i (segmentOf d k) (map (partOf d k) fs) ≡ gives tt
-  unfolding partOf numberOf
-  meets ord i k [] h = unfold partsTold in refl
-  meets ord i k (reads n qs ∷ fs) h = part-gives ord i (segmentOf d k) (partOf d k (reads n qs)) (map (partOf d k) fs) (read-own k n qs (h .0)) (h .1) (meets ord i k fs (h .2))
-  meets ord i k (closed n form ∷ fs) h = part-gives ord i (segmentOf d k) (partOf d k (closed n form)) (map (partOf d k) fs) (h .0) (h .1) (meets ord i k fs (h .2))
+  pub meets : (ctx : Context) (i : ℕ) (k : Known) (fs : List Field) → Meets d ctx k fs → partsTold d ctx i (segmentOf d k) (map (partOf d k) fs) ≡ gives tt
+  unfolding partOf partNo
+  meets ctx i k [] h = unfold partsTold in refl
+  meets ctx i k (reads n qs ∷ fs) h = part-gives ctx i (segmentOf d k) (partOf d k (reads n qs)) (map (partOf d k) fs) (read-own k n qs (h .0)) (h .1) (meets ctx i k fs (h .2))
+  meets ctx i k (closed n form ∷ fs) h = part-gives ctx i (segmentOf d k) (partOf d k (closed n form)) (map (partOf d k) fs) (h .0) (h .1) (meets ctx i k fs (h .2))
 
--- ---- what is shown of a segment: its fields, its row, that it has no fault, and the last OBR-2 before and after it
+-- ---- what is shown of a segment: its fields, its row, that it has no fault, and what is known before and after it
 abbrev pub knownAs : Delims → ℕ → Piece → Known
 knownAs d at q = record { name = q .name; start = at; body = met (segmentText d q) }
 
-pub record Says (d : Delims) (q : Piece) (before after : List ℕ) (rows : List Row) : Type 0 where
+pub record Says (d : Delims) (q : Piece) (before after : Context) (rows : List Row) : Type 0 where
   pub known : is (q .name) Other ≡ false
   pub oks : Oks d (spelling (q .name) ∷ q .fields)
   pub row : (at : ℕ) → let s = segmentOf d (knownAs d at q) in rowOf (q .name) (map (λ (l : Line). l .source d s) (lines (q .name))) ≡ rows
   pub faults : (at : ℕ) → Meets d before (knownAs d at q) (places (q .name))
-  pub order : (at : ℕ) → orderAfter d before (segmentOf d (knownAs d at q)) ≡ after
+  pub context : (at : ℕ) → contextAfter d before (segmentOf d (knownAs d at q)) ≡ after
 
 -- the pieces of a row, each with what it says
-pub data Said (d : Delims) : List ℕ → List Piece → List Row → Type 0 where
-  none : {ord : List ℕ} → Said d ord [] []
-  more : {q : Piece} {qs : List Piece} {before after : List ℕ} {new rows : List Row} → Says d q before after new → Said d after qs rows → Said d before (q ∷ qs) (new ++ rows)
+pub data Said (d : Delims) : Context → List Piece → List Row → Type 0 where
+  none : {ctx : Context} → Said d ctx [] []
+  more : {q : Piece} {qs : List Piece} {ctx next : Context} {new rows : List Row} → Says d q ctx next new → Said d next qs rows → Said d ctx (q ∷ qs) (new ++ rows)
 
 abbrev pub pieceAt : List Piece → ℕ → Piece
 pieceAt qs n = getD qs n (piece Other [])
 
 -- to unfold this name is to unfold the table of places, the lines and the writer, and what words and numbers are compared by
 unfoldable pub tables : Unit {0}
-unfolding piecesOf segmentText spelling blanks lines line rowOf segmentOf places partOf seenIn partAt seenAt pieceOf entryIn entryOf bytes laterFault orderAfter same fault empty tooLong holds isOneOf any split onto all plainByte ownFault encoding fourAt has isOne step
+unfolding piecesOf segmentText spelling blanks lines line rowOf segmentOf places partOf seenIn partAt seenAt pieceOf entryIn entryOf bytes laterFault contextAfter same fault empty tooLong holds isOneOf any split onto all plainByte ownFault encoding fourAt has isOne step
 tables = tt
 
 -- ---- a number's digits
@@ -123,26 +123,26 @@ module _ (d : Delims) (p : Proper d) where
   pub blankOk : Ok d []
   blankOk = comp-ok d p (nothing d p)
 
-  pub spm : (i j : ℕ) (kind collected ord : List ℕ) → Facts (lines Spm) [] (kind ∷ collected ∷ []) → Cleans (kind ∷ collected ∷ [])
-      → Says d (pieceAt (piecesOf d i j (specimen kind collected)) 0) ord ord (specimen kind collected ∷ [])
+  pub spm : (n : Numbers) (kind collected : List ℕ) (ctx : Context) → Facts (lines Spm) [] (kind ∷ collected ∷ []) → Cleans (kind ∷ collected ∷ [])
+      → Says d (pieceAt (piecesOf d n (specimen kind collected)) 0) ctx ctx (specimen kind collected ∷ [])
   unfolding tables
-  spm i j kind collected ord F C =
+  spm n kind collected ctx F C =
       let x4 = several d p (escaped d p kind (C .0)) (also (nothing d p) (also (plain d p (bytes "JC10") refl) end)) in
       let x17 = single d p (escaped d p collected (C .1 .0)) in
-      let o = next (wordOk (bytes "SPM") refl) (next (countOk i) (next blankOk (next blankOk (next (x4 .ok) (oks-blanks d p 12 (next (x17 .ok) last)))))) in
+      let o = next (wordOk (bytes "SPM") refl) (next (countOk (n .specimen)) (next blankOk (next blankOk (next (x4 .ok) (oks-blanks d p 12 (next (x17 .ok) last)))))) in
       let e = field-at d p o Spm in
       record {
         known = refl;
         oks = o;
         row = λ at. rw (read-value d p x4 _ 4 1 (e at 4), read-value d p x17 _ 17 1 (e at 17));
         faults = λ at. (seen x4 (e at 4) (F .0, ((refl, refl), tt)), refl, (seen x17 (e at 17) (F .1 .0, tt), refl, tt));
-        order = λ at. refl;
+        context = λ at. refl;
       }
 
-  pub pv1 : (i j : ℕ) (class ord : List ℕ) → Facts (lines Pv1) [] (class ∷ []) → Cleans (class ∷ [])
-      → Says d (pieceAt (piecesOf d i j (visit class)) 0) ord ord (visit class ∷ [])
+  pub pv1 : (n : Numbers) (class : List ℕ) (ctx : Context) → Facts (lines Pv1) [] (class ∷ []) → Cleans (class ∷ [])
+      → Says d (pieceAt (piecesOf d n (visit class)) 0) ctx ctx (visit class ∷ [])
   unfolding tables
-  pv1 i j class ord F C =
+  pv1 n class ctx F C =
       let x2 = single d p (escaped d p class (C .0)) in
       let o = next (wordOk (bytes "PV1") refl) (next blankOk (next (x2 .ok) last)) in
       let e = field-at d p o Pv1 in
@@ -151,13 +151,13 @@ module _ (d : Delims) (p : Proper d) where
         oks = o;
         row = λ at. rw (read-value d p x2 _ 2 1 (e at 2));
         faults = λ at. (seen x2 (e at 2) (F .0, tt), refl, tt);
-        order = λ at. refl;
+        context = λ at. refl;
       }
 
-  pub obr : (i j : ℕ) (id group ord : List ℕ) → Facts (lines Obr) [] (id ∷ group ∷ []) → Cleans (id ∷ group ∷ [])
-      → Says d (pieceAt (piecesOf d i j (order id group)) 0) ord id (order id group ∷ [])
+  pub obr : (n : Numbers) (id group : List ℕ) (ctx : Context) → Facts (lines Obr) [] (id ∷ group ∷ []) → Cleans (id ∷ group ∷ [])
+      → Says d (pieceAt (piecesOf d n (order id group)) 0) ctx (record { order = id }) (order id group ∷ [])
   unfolding tables
-  obr i j id group ord F C =
+  obr n id group ctx F C =
       let x2 = single d p (escaped d p id (C .0)) in
       let x4 = several d p (escaped d p group (C .1 .0)) (also (nothing d p) (also (plain d p (bytes "99003") refl) end)) in
       let o = next (wordOk (bytes "OBR") refl) (next blankOk (next (x2 .ok) (next blankOk (next (x4 .ok) last)))) in
@@ -167,13 +167,13 @@ module _ (d : Delims) (p : Proper d) where
         oks = o;
         row = λ at. rw (read-value d p x2 _ 2 1 (e at 2), read-value d p x4 _ 4 1 (e at 4));
         faults = λ at. (seen x2 (e at 2) (F .0, tt), refl, (seen x4 (e at 4) (F .1 .0, ((refl, refl), tt)), refl, tt));
-        order = λ at. rw (read-value d p x2 _ 2 1 (e at 2));
+        context = λ at. rw (read-value d p x2 _ 2 1 (e at 2));
       }
 
-  pub orc : (i j : ℕ) (id group : List ℕ) → Facts (lines Obr) [] (id ∷ group ∷ []) → Cleans (id ∷ group ∷ [])
-      → Says d (pieceAt (piecesOf d i j (order id group)) 1) id id []
+  pub orc : (n : Numbers) (id group : List ℕ) → Facts (lines Obr) [] (id ∷ group ∷ []) → Cleans (id ∷ group ∷ [])
+      → Says d (pieceAt (piecesOf d n (order id group)) 1) (record { order = id }) (record { order = id }) []
   unfolding tables
-  orc i j id group F C =
+  orc n id group F C =
       let x1 = single d p (plain d p (bytes "RE") refl) in
       let x2 = single d p (escaped d p id (C .0)) in
       let o = next (wordOk (bytes "ORC") refl) (next (x1 .ok) (next (x2 .ok) last)) in
@@ -187,14 +187,14 @@ module _ (d : Delims) (p : Proper d) where
           refl,
           (seen x2 (e at 2) (F .0, tt), rw (read-value d p x2 _ 2 1 (e at 2), same-self id), tt),
         );
-        order = λ at. refl;
+        context = λ at. refl;
       }
 
-  pub msh : (i j : ℕ) (mode sent control ord : List ℕ) → Facts (lines Msh) [] (bytes "1" ∷ mode ∷ sent ∷ control ∷ [])
+  pub msh : (n : Numbers) (mode sent control : List ℕ) (ctx : Context) → Facts (lines Msh) [] (bytes "1" ∷ mode ∷ sent ∷ control ∷ [])
       → Cleans (bytes "1" ∷ mode ∷ sent ∷ control ∷ [])
-      → Says d (pieceAt (piecesOf d i j (header mode sent control)) 0) ord ord (header mode sent control ∷ [])
+      → Says d (pieceAt (piecesOf d n (header mode sent control)) 0) ctx ctx (header mode sent control ∷ [])
   unfolding tables
-  msh i j mode sent control ord F C =
+  msh n mode sent control ctx F C =
       let x7 = single d p (escaped d p sent (C .1 .1 .0)) in
       let x9 = several d p (plain d p (bytes "OUL") refl) (also (plain d p (bytes "R22") refl) (also (plain d p (bytes "OUL_R22") refl) end)) in
       let x10 = single d p (escaped d p control (C .1 .1 .1 .0)) in
@@ -210,7 +210,7 @@ module _ (d : Delims) (p : Proper d) where
       (oks-blanks d p 5 (next (o18 .0) (next blankOk (next (wordOk (bytes "ISO 2022-1994") refl) last)))))))))))) in
       let e = field-at d p o Msh in
       let m : met (bytes "ISO IR87") ≡ bytes "ISO IR87" = unfold met marks mark in refl in
-      let e18 : (at : ℕ) → fieldOf d (knownAs d at (pieceAt (piecesOf d i j (header mode sent control)) 0)) 18 ≡ d .repetition ∷ bytes "ISO IR87" =
+      let e18 : (at : ℕ) → fieldOf d (knownAs d at (pieceAt (piecesOf d n (header mode sent control)) 0)) 18 ≡ d .repetition ∷ bytes "ISO IR87" =
       λ at. e at 18 ∙ (o18 .1 ∙ rw m) in
       record {
         known = refl;
@@ -237,5 +237,5 @@ module _ (d : Delims) (p : Proper d) where
             ),
           ),
         );
-        order = λ at. refl;
+        context = λ at. refl;
       }

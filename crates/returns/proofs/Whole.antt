@@ -13,13 +13,13 @@ use Rattle.rules.specs.declared.Delims.{Delims}
 use Rattle.rules.specs.declared.Mode.{Mode}
 use Rattle.rules.specs.declared.Mode.the-variants.{One, Bad}
 use Rattle.rules.specs.Told.{_when_}
-use Rattle.rules.specs.Lists.{bytes, empty, same, has, any, split, nth}
+use Rattle.rules.specs.Lists.{bytes, empty, orEmpty, same, has, any, split, nth}
 use Rattle.rules.specs.Shift.{walk, isOne, step, mark, marks, met, byteOf}
 use Rattle.rules.specs.Frame.{twelve}
 use Rattle.rules.specs.Proper.{Delim, Proper}
 use Rattle.rules.specs.Value.{Rule, fault}
 use Rattle.rules.specs.Escape.{Letter, letters, meaning, At, plain, opened, named, unescapeAt, unescape}
-use Rattle.rules.specs.Judge.{unescapedOr, plainOf, faultOr23, judge}
+use Rattle.rules.specs.Judge.{plainOf, faultOr23, judge}
 use Rattle.rules.proofs.Logic.{cases, optionCases, never, then-none, when-none, nothing-some}
 use Rattle.rules.proofs.Lists.{same-eq, same-self}
 use Rattle.rules.proofs.Modes.{one-is, length-marks, met-one}
@@ -207,7 +207,7 @@ module _ (d : Delims) (p : Proper d) where
   blank-of (b ∷ raw) (x ∷ v) u = refl
 
   pub fair : (q : Bool) (r : Rule) (raw : List ℕ) → Whole raw → judge d q r raw ≡ 0 → Fair q r raw (plainOf d raw)
-  unfolding judge faultOr23 unescapedOr
+  unfolding judge faultOr23 orEmpty
   fair q r raw W h =
       let z = then-none (21 when same raw (bytes "\"\"")) (faultOr23 q r (unescape d raw)) h in
       let n = when-none 20 (same raw (bytes "\"\"")) (z .0) in

@@ -11,13 +11,14 @@ use Rattle.rules.specs.declared.Delims.{Delims}
 use Rattle.rules.specs.declared.Counts.{Counts}
 use Rattle.rules.specs.declared.Written.{Written}
 use Rattle.rules.specs.declared.Written.the-variants.{Wrote}
-use Rattle.rules.specs.Told.{Told, gives, refused, accepted, refuse_if_else_, _>>=_, toldLength, Call}
+use Rattle.rules.specs.Told.{Told, gives, refused, accepted, refuse_if_else_, _>>=_, toldLength}
 use Rattle.rules.specs.Lists.{bytes, starts, all, count}
 use Rattle.rules.specs.Frame.{delimsOk, segments}
 use Rattle.rules.specs.Check.{checkTold}
 use Rattle.rules.specs.Row.{Row}
 use Rattle.rules.specs.Sheet.{linesOf, readSheet, toSheet}
-use Rattle.rules.specs.Message.{messageTold, toMessage}
+use Rattle.rules.specs.Message.{messageTold}
+use Rattle.rules.specs.Promises.{SheetWritten, MessageWritten}
 
 -- ---- the words of the claims
 -- the writer over any five delimiters that the header rule allows; `toMessage` is the one over |^~\&
@@ -28,8 +29,8 @@ toMessageBy d s room = readSheet s >>= λ rows. messageTold d rows room
 unfoldable pub linesWith : String → List ℕ → ℕ
 linesWith key s = count (starts (bytes key)) (linesOf s)
 
-unfoldable pub countsOf : List ℕ → Told Counts
-countsOf s = accepted (linesWith "specimen=" s) (linesWith "order=" s) (linesWith "item=" s)
+unfoldable pub lineCounts : List ℕ → Told Counts
+lineCounts s = accepted (linesWith "specimen=" s) (linesWith "order=" s) (linesWith "item=" s)
 
 -- an answer that only 44 ("message would pass 32,768 bytes or 512 segments") or 45 ("lent buffer too short") can refuse
 pub data Only44Or45 {A : Type 0} (t : Told A) : Type 0 where
@@ -45,7 +46,7 @@ SheetIsWritten = (d : Delims) (s : List ℕ) (rows : List Row) (room : ℕ) → 
 -- The message of a sheet is accepted with the right counts, stays far from the 4,096 bytes of a segment, and turned into a sheet gives the
 -- same bytes.
 pub record Returned (s m : List ℕ) : Type 0 where
-  pub counts : checkTold m ≡ countsOf s
+  pub counts : checkTold m ≡ lineCounts s
   pub under850 : all (λ (segment : List ℕ). ltb (length segment) 850) (segments m) ≡ true
   pub sheet : (room : ℕ) → length s ≤ room → toSheet m room ≡ gives s
 
@@ -67,18 +68,16 @@ pub record Turned (m : List ℕ) (c : Counts) : Type 0 where
 abbrev pub MessageReturns : Type 0
 MessageReturns = (m : List ℕ) (c : Counts) → checkTold m ≡ gives c → Turned m c
 
--- ---- the same of the calls `to_message` and `to_sheet`, by their promises alone, which `Call` holds
+-- ---- the same of the calls `to_message` and `to_sheet`, by their promises alone
 -- a sheet, written into `out` and read into `back`, is there byte for byte
 abbrev pub SheetCalls : Type 0
 SheetCalls = (s out out′ back back′ : List ℕ) (n : ℕ) (r : Written)
-    → Call (toMessage s (length out)) out (Wrote n) out′
-    → Call (toSheet (take n out′) (length back)) back r back′ → length s ≤ length back
-    → (checkTold (take n out′) ≡ countsOf s) × (r ≡ Wrote (length s)) × (back′ ≡ s ++ drop (length s) back)
+    → MessageWritten s out (Wrote n) out′ → SheetWritten (take n out′) back r back′ → length s ≤ length back
+    → (checkTold (take n out′) ≡ lineCounts s) × (r ≡ Wrote (length s)) × (back′ ≡ s ++ drop (length s) back)
 
 -- the sheet of a message is written again, unless 44 or 45 is given; and that message gives the same sheet and has the same counts
 abbrev pub MessageCalls : Type 0
 MessageCalls = (m out out′ back back′ : List ℕ) (n : ℕ) (r : Written)
-    → Call (toSheet m (length out)) out (Wrote n) out′
-    → Call (toMessage (take n out′) (length back)) back r back′
+    → SheetWritten m out (Wrote n) out′ → MessageWritten (take n out′) back r back′
     → Only44Or45 (toldLength r)
     × ((k : ℕ) → r ≡ Wrote k → (checkTold (take k back′) ≡ checkTold m) × ((room : ℕ) → toSheet (take k back′) room ≡ toSheet m room))

@@ -9,11 +9,12 @@ use lib.Dec.{eqb, leb}
 use lib.ListN.{List·getD-map}
 use Rattle.rules.specs.declared.Mode.{Mode}
 use Rattle.rules.specs.declared.Mode.the-variants.{One, Bad}
-use Rattle.rules.specs.Lists.{nth, same, all, has, split, allButLast, last, led, join, ended}
+use Rattle.rules.specs.Lists.{nth, same, all, has, split, allButLast, last, led, join, ended, since}
 use Rattle.rules.specs.Shift.{within, step, isOne, walk, keeps, mark, marks, met}
 use Rattle.rules.proofs.Logic.{cases, both, not-true}
 use Rattle.rules.proofs.Lists.{all-first, has-nil, has-first, has-there}
-use Rattle.rules.proofs.Split.{since, here, frees, ended-split}
+use Rattle.rules.specs.Frame.{here}
+use Rattle.rules.proofs.Split.{frees, ended-split}
 use Rattle.rules.proofs.Modes.{inModes, one-is, walk-append, walk-step, walk-bad, marks-cons, met-append, still-one}
 
 abbrev pub Clean : List ℕ → Type 0

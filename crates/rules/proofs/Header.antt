@@ -1,12 +1,12 @@
 -- The delimiters and the header: what the header rule says of them, and of the bytes after which it still holds. Assumes nothing.
-use mathlib.Core.Path.{_≡_, refl, sym, ap, _∙_}
+use mathlib.Core.Path.{_≡_, refl, ap, _∙_}
 use mathlib.Core.Bool.{Bool, true, false, not, _&&_}
 use mathlib.Core.List.{List, [], _∷_, _++_}
 use Prim.Native.Nat.{ℕ, zero, suc, _+_, _<_, _≤_}
 use native.Mathlib.Omega.{arith}
-use borrow.Author.Tests.{eqb-true, ne-eqb, leb-true, le-leb, ltb-true, ltb-false}
-use lib.Dec.{eqb, leb, ltb}
-use lib.ListN.{length, getD, take, drop, List·getD-append, length-append}
+use borrow.Author.Tests.{eqb-true, ne-eqb, leb-true}
+use lib.Dec.{eqb, leb}
+use lib.ListN.{length, getD, take, drop, List·getD-append}
 use lib.Seq.{drop-cons}
 use Rattle.rules.specs.declared.Delims.{Delims}
 use Rattle.rules.specs.declared.Mode.the-variants.{One}
@@ -14,8 +14,8 @@ use Rattle.rules.specs.Lists.{bytes, starts, all, has, distinct}
 use Rattle.rules.specs.Shift.{within, step}
 use Rattle.rules.specs.Frame.{delimsOf, fiveOf, twelve, delimsOk, headerOk}
 use Rattle.rules.specs.Proper.{Delim, Proper}
-use Rattle.rules.proofs.Logic.{cases, both, not-true, never, eqb-self, eqb-sym, or-true}
-use Rattle.rules.proofs.Lists.{starts-eq, starts-prefix, all-first, has-nil, has-cons, has-first, has-here, in-all}
+use Rattle.rules.proofs.Logic.{both, not-true, never, eqb-self, eqb-sym, or-true}
+use Rattle.rules.proofs.Lists.{starts-eq, all-first, has-cons, has-first, has-here, in-all}
 use Rattle.rules.proofs.Modes.{still-one}
 
 -- ---- a delimiter: "one of `! # % & * ; ? @ \\ ^ | ~`"
@@ -63,7 +63,10 @@ proper d h =
     let f0 = has-first (d .field) (d .component) _ (d0 .0) in
     let f1 = has-first (d .field) (d .repetition) _ (f0 .1) in
     let f2 = has-first (d .field) (d .escape) _ (f1 .1) in
+    let d3 = distinct-first (d .escape) _ (d2 .1) in
     let c0 = has-first (d .component) (d .repetition) _ (d1 .0) in
+    let c1 = has-first (d .component) (d .escape) _ (c0 .1) in
+    let r0 = has-first (d .repetition) (d .escape) _ (d2 .0) in
     record {
       field = a0 .0;
       component = a1 .0;
@@ -75,8 +78,11 @@ proper d h =
       escape-field = f2 .0;
       sub-field = has-first (d .field) (d .sub) _ (f2 .1) .0;
       component-repetition = eqb-sym (d .component) (d .repetition) ∙ c0 .0;
-      escape-component = has-first (d .component) (d .escape) _ (c0 .1) .0;
-      escape-repetition = has-first (d .repetition) (d .escape) _ (d2 .0) .0;
+      escape-component = c1 .0;
+      escape-repetition = r0 .0;
+      sub-component = has-first (d .component) (d .sub) _ (c1 .1) .0;
+      sub-repetition = has-first (d .repetition) (d .sub) _ (r0 .1) .0;
+      sub-escape = has-first (d .escape) (d .sub) _ (d3 .0) .0;
     }
 
 -- ---- the header
@@ -113,18 +119,6 @@ delims-stay p q h =
       List·getD-append p q 0 7 (omega arith),
     )
 
-pub header-stays : (p q : List ℕ) → 9 ≤ length p → headerOk (p ++ q) ≡ true → headerOk p ≡ true
-unfolding headerOk bytes
-header-stays p q l h =
-    cc (
-      h,
-      le-leb 9 (length p) l,
-      le-leb 9 (length (p ++ q)) (omega (arith, length-append p q)),
-      starts-prefix (bytes "MSH") p q (omega arith),
-      delims-stay p q (omega arith),
-      List·getD-append p q 0 8 (omega arith),
-    )
-
 -- the message begins with its name and its delimiters
 pub header-bytes : (m : List ℕ) → Header m
     → m ≡ bytes "MSH" ++ (delimsOf m .field ∷ delimsOf m .component ∷ delimsOf m .repetition ∷ delimsOf m .escape ∷ delimsOf m .sub ∷ delimsOf m .field ∷ drop 9 m)
@@ -149,24 +143,3 @@ has-take x (suc n) (b ∷ a) z h = rw (has-cons x b (take n (a ++ (x ∷ z))), h
 
 no-end : (x : ℕ) → Delim x → eqb x 0x0D ≡ false
 no-end x h = ne-eqb x 0x0D (λ e. omega (arith, printable x h .0))
-
-nine-free : (m : List ℕ) → Header m → has 0x0D (take 9 m) ≡ false
-unfolding bytes
-nine-free m g =
-    ap (λ (t : List ℕ). has 0x0D (take 9 t)) (header-bytes m g)
-    ∙ simp (
-      has-cons,
-      has-nil,
-      no-end (delimsOf m .field) (g .proper .field),
-      no-end (delimsOf m .component) (g .proper .component),
-      no-end (delimsOf m .repetition) (g .proper .repetition),
-      no-end (delimsOf m .escape) (g .proper .escape),
-      no-end (delimsOf m .sub) (g .proper .sub),
-    )
-
-pub nine : (m : List ℕ) → Header m → (a z : List ℕ) → m ≡ a ++ (0x0D ∷ z) → 9 ≤ length a
-nine m g a z e =
-    cases (ltb (length a) 9)
-    (λ t. let l = ltb-true (length a) 9 t in
-    never (sym (has-take 0x0D 9 a z l) ∙ ap (λ (t : List ℕ). has 0x0D (take 9 t)) (sym e) ∙ nine-free m g))
-    (λ t. ltb-false (length a) 9 t)

@@ -12,3 +12,5 @@ pub mod Plain
 pub mod Where
 pub mod Unique
 pub mod Rows
+pub mod Reading
+pub mod Ordered

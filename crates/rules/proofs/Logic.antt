@@ -1,16 +1,19 @@
 -- Going by cases, and the laws of tests: what every proof of the library stands on. Assumes nothing.
-use mathlib.Core.Path.{_≡_, refl, sym}
+use mathlib.Core.Path.{_≡_, refl, sym, ap}
 use mathlib.Core.Bool.{Bool, true, false, cond, _&&_, _||_, false≢true, and-assoc as and-right, or-assoc as or-right}
 pub use mathlib.Core.Bool.{and-true, and-false, or-true, or-false}
-use mathlib.Core.List.{List, [], _∷_}
+use mathlib.Core.List.{List, [], _∷_, _++_}
 use mathlib.Core.Option.{Option, none, some}
-use Prim.Native.Nat.{ℕ, zero, suc}
+use Prim.Native.Nat.{ℕ, zero, suc, _≤_}
 use borrow.Author.Tests.{eqb-true, eqb-false, eq-eqb, ne-eqb}
 pub use borrow.Author.Tests.{not-true, not-false}
 use native.Mathlib.Omega.{arith}
 use lib.Dec.{eqb}
+use lib.ListN.{length, drop}
+use Rattle.rules.specs.declared.Refusal.{Refusal}
 use Rattle.rules.specs.declared.Written.{Written}
-use Rattle.rules.specs.Told.{Told, gives, refused, Call, _>>_, _then_, _when_}
+use Rattle.rules.specs.declared.Written.the-variants.{Wrote, NotWritten}
+use Rattle.rules.specs.Told.{Told, gives, refused, refusal, Call, _>>_, _then_, _when_}
 
 -- ---- by cases, with the equation
 pub cases : {P : Type 0} (t : Bool) → (t ≡ true → P) → (t ≡ false → P) → P
@@ -61,17 +64,8 @@ either false y h f g = g h
 pub and-assoc : (a b c : Bool) → (a && (b && c)) ≡ ((a && b) && c)
 and-assoc a b c = sym (and-right a b c)
 
-pub and-swap : (a b c : Bool) → ((a && b) && c) ≡ ((a && c) && b)
-and-swap true true c = sym (and-true c)
-and-swap true false c = sym (and-false c)
-and-swap false b c = refl
-
 pub or-assoc : (a b c : Bool) → (a || (b || c)) ≡ ((a || b) || c)
 or-assoc a b c = sym (or-right a b c)
-
-pub cond-same : {A : Type 0} (t : Bool) (x : A) → cond t x x ≡ x
-cond-same true x = refl
-cond-same false x = refl
 
 -- a chain of early returns: the first test that holds decides
 pub cond-yes : {A : Type 0} (t u : Bool) (x y : A) → t ≡ u → t ≡ true → x ≡ cond u x y
@@ -97,10 +91,6 @@ pub then-zero : (n : ℕ) → (n then 0) ≡ n
 then-zero zero = refl
 then-zero (suc n) = refl
 
-pub then-assoc : (a b c : ℕ) → ((a then b) then c) ≡ (a then (b then c))
-then-assoc zero b c = refl
-then-assoc (suc a) b c = refl
-
 pub then-none : (a b : ℕ) → (a then b) ≡ 0 → (a ≡ 0) × (b ≡ 0)
 then-none zero b h = (refl, h)
 then-none (suc a) b h = absurd (omega arith)
@@ -117,6 +107,17 @@ then-gives (refused n s f) u a h = not-given h
 pub done : (t : Told (Unit {0})) → t >> gives tt ≡ t
 done (gives u) = refl
 done (refused n s f) = refl
+
+-- ---- what a call answers and leaves: of a refusal the buffer as it was, of a text its bytes over the front
+-- a refusal writes nothing
+pub never-wrote : {P : Type 0} {r : Refusal} {n : ℕ} → NotWritten r ≡ Wrote n → P
+never-wrote e = let z : _≡_ {A = ℕ} 0 1 = cc in absurd (omega arith)
+
+pub call-refused : (t : Told (List ℕ)) (old : List ℕ) (k : Refusal) (r : Written) → t ≡ refusal k → r ≡ NotWritten k → Call t old r old
+call-refused t old k r e g = rw (g, e) (record { told = refl; buffer = refl; within = λ n q. never-wrote q })
+
+pub call-wrote : (t : Told (List ℕ)) (old w y : List ℕ) (n : ℕ) → t ≡ gives w → n ≡ length w → length w ≤ length old → y ≡ w ++ drop (length w) old → Call t old (Wrote n) y
+call-wrote t old w y n e g l h = rw e (record { told = ap gives g; buffer = h; within = λ k q. let z : k ≡ n = cc in omega arith })
 
 -- a call that gives an answer gives what equals it
 pub called-as : {t u : Told (List ℕ)} {x : List ℕ} {r : Written} {y : List ℕ} → t ≡ u → Call u x r y → Call t x r y

@@ -8,11 +8,10 @@ use borrow.Author.Tests.{ltb-true, ltb-false}
 use lib.Dec.{ltb}
 use lib.ListN.{length, getD, drop, length-append, drop-of-length-le, List·getD-eq-default}
 use lib.Seq.{drop-cons}
-use Rattle.rules.specs.Lists.{nth, split, led, join}
-use Rattle.rules.specs.Message.{decimal, decimalTo}
+use Rattle.rules.specs.Lists.{nth, split, led, join, decimalTo, decimal, front, later}
 use Rattle.rules.proofs.Logic.{cases}
 use Rattle.rules.proofs.Lists.{from}
-use Rattle.rules.proofs.Split.{front, later, split-cons, join-split}
+use Rattle.rules.proofs.Split.{split-cons, join-split}
 
 -- ---- joined pieces: each with its separator
 unfoldable pub total : List (List ℕ) → ℕ

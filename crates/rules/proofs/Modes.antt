@@ -51,10 +51,6 @@ unfolding walk step
 walk-bad end [] = refl
 walk-bad end (b ∷ s) = walk-bad end s
 
-pub keeps-append : (end : ℕ) (a b : List ℕ) → keeps end a ≡ true → keeps end b ≡ true → keeps end (a ++ b) ≡ true
-unfolding keeps
-keeps-append end a b h k = rw (walk-append end One a b, one-is (walk end One a) h) k
-
 -- ---- a text as it is met
 pub marks-nil : (end : ℕ) (m : Mode) → marks end m [] ≡ []
 unfolding marks

@@ -9,13 +9,13 @@ use lib.Dec.{eqb}
 use lib.ListN.{length, getD, drop, length-append}
 use Rattle.rules.specs.declared.Name.{Name}
 use Rattle.rules.specs.declared.Name.the-variants.{Msh, Pid, Pv1, Spm, Obr, Orc, Obx, Other}
-use Rattle.rules.specs.Lists.{bytes, starts, all, any, has, split}
+use Rattle.rules.specs.Lists.{bytes, starts, all, any, has, split, front, later}
 use Rattle.rules.specs.Shift.{within, met}
 use Rattle.rules.specs.Frame.{knownNames, spelling, nameAmong, nameOf, rank, is, twelve}
 use Rattle.rules.specs.Proper.{Delim}
 use Rattle.rules.proofs.Logic.{cases, both, never, not-true}
 use Rattle.rules.proofs.Lists.{starts-eq, in-all}
-use Rattle.rules.proofs.Split.{front, later, split-free}
+use Rattle.rules.proofs.Split.{split-free}
 use Rattle.rules.proofs.Modes.{met-append}
 use Rattle.rules.proofs.Clean.{plain-met, plain-kept}
 

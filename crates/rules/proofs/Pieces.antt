@@ -2,22 +2,21 @@
 -- Assumes nothing.
 use mathlib.Core.Path.{_≡_, refl, sym, ap, _∙_}
 use mathlib.Core.Bool.{true, false}
-use mathlib.Core.Logic.{_⊎_, inl, inr}
 use mathlib.Core.List.{List, [], _∷_, _++_, append-nil, append-assoc}
 use Prim.Native.Nat.{ℕ, zero, suc, _+_, _<_, _≤_}
 use native.Mathlib.Omega.{arith}
 use borrow.Author.Tests.{ltb-true, ltb-false, lt-ltb, le-ltb}
 use lib.Dec.{eqb, ltb}
-use lib.ListN.{length, take, drop, length-append}
+use lib.ListN.{length, length-append}
 use Rattle.rules.specs.declared.Mode.{Mode}
 use Rattle.rules.specs.declared.Mode.the-variants.{One}
-use Rattle.rules.specs.Lists.{nth, has, split, allButLast, last}
+use Rattle.rules.specs.Lists.{nth, has, split, later, before, since}
 use Rattle.rules.specs.Shift.{step, isOne, walk, keeps, mark, marks, met}
 use Rattle.rules.specs.Fetch.{span, startOf}
 use Rattle.rules.proofs.Logic.{cases}
 use Rattle.rules.proofs.Lists.{has-nil, has-there, has-parts}
-use Rattle.rules.proofs.Split.{later, before, since, split-cons, split-none, split-next, before-next, since-next}
-use Rattle.rules.proofs.Modes.{one-is, walk-append, walk-step, marks-nil, marks-cons, met-append, length-met, met-one, still-one, met-three}
+use Rattle.rules.proofs.Split.{split-cons, split-none, split-next}
+use Rattle.rules.proofs.Modes.{one-is, walk-append, walk-step, marks-nil, marks-cons, met-append, length-met, met-one, still-one}
 use Rattle.rules.proofs.Clean.{met-cons}
 
 -- ---- one separator after another
@@ -65,12 +64,6 @@ pub start-over : (sep n : ℕ) (s : List ℕ) → has sep s ≡ false → startO
 unfolding startOf
 start-over sep n s h = rw (split-none sep s h, le-ltb (suc n) 1 (omega arith))
 
--- the n-th begins after those before it
-pub start-past : (sep n : ℕ) (s x : List ℕ) (ps : List (List ℕ)) → split sep s ≡ x ∷ ps → suc n < length (split sep s)
-    → startOf sep (suc n) s ≡ suc (length x) + span (take n ps)
-unfolding startOf
-start-past sep n s x ps e l = rw (lt-ltb (suc n) (length (split sep s)) l, e) (unfold span in refl)
-
 -- The n-th piece of s, from 0: its bytes, with what stands before and after it. Where there are fewer it is empty, at the end.
 pub record Piece (sep n : ℕ) (s : List ℕ) : Type 0 where
   pub left : List ℕ
@@ -81,22 +74,13 @@ pub record Piece (sep n : ℕ) (s : List ℕ) : Type 0 where
   pub own-kept : keeps 0x0D own ≡ true
   pub is : met own ≡ nth (split sep (met s)) n
   pub at : length left ≡ startOf sep n (met s)
-  -- it is after n separators, right after the last of them, and has none
-  pub after : n < length (split sep (met s)) → before sep (met left) ≡ n
-  pub fresh : n < length (split sep (met s)) → since sep (met left) ≡ []
+  -- it has no separator
   pub free : has sep (met own) ≡ false
-  -- a separator comes next, or the end
-  pub next : (right ≡ []) ⊎ (right ≡ sep ∷ drop 1 right)
 
 -- what it does not hold
 module _ {sep n : ℕ} {s : List ℕ} (c : Piece sep n s) (x : ℕ) where
   pub piece-bytes : has x s ≡ false → (has x (c .left) ≡ false) × (has x (c .own) ≡ false)
   piece-bytes h = has-parts x (c .left) (c .own) (c .right) (ap (has x) (sym (c .whole)) ∙ h)
-
-  pub piece-marks : has x (met s) ≡ false → (has x (met (c .left)) ≡ false) × (has x (met (c .own)) ≡ false)
-  piece-marks h =
-      has-parts x (met (c .left)) (met (c .own)) (met (c .right))
-      (ap (has x) (sym (ap met (c .whole) ∙ met-three (c .left) (c .own) (c .right) (c .left-kept) (c .own-kept))) ∙ h)
 
 module _ (sep : ℕ) (low : 0x20 ≤ sep) (high : sep ≤ 0x7E) where
   -- the first piece of a text with one; with more
@@ -112,10 +96,7 @@ module _ (sep : ℕ) (low : 0x20 ≤ sep) (high : sep ≤ 0x7E) where
         own-kept = k;
         is = rw (split-none sep (met s) h);
         at = sym (start-first sep (met s));
-        after = λ l. unfold met marks split allButLast in refl;
-        fresh = λ l. unfold met marks split last in refl;
         free = h;
-        next = inl refl;
       }
 
   foremost : (a b : List ℕ) → keeps 0x0D a ≡ true → has sep (met a) ≡ false → Piece sep 0 (a ++ (sep ∷ b))
@@ -130,10 +111,7 @@ module _ (sep : ℕ) (low : 0x20 ≤ sep) (high : sep ≤ 0x7E) where
         own-kept = k;
         is = rw (met-sep sep low high a b k, split-next sep (met a) (met b) h);
         at = sym (start-first sep (met (a ++ (sep ∷ b))));
-        after = λ l. unfold met marks split allButLast in refl;
-        fresh = λ l. unfold met marks split last in refl;
         free = h;
-        next = inr refl;
       }
 
   -- a later one, of a text with one
@@ -150,10 +128,7 @@ module _ (sep : ℕ) (low : 0x20 ≤ sep) (high : sep ≤ 0x7E) where
         own-kept = refl;
         is = rw (split-none sep (met s) h);
         at = sym (start-over sep n (met s) h ∙ length-met s);
-        after = λ l. absurd (omega arith);
-        fresh = λ l. absurd (omega arith);
         free = has-nil sep;
-        next = inl refl;
       }
 
   onward : (n : ℕ) (a b : List ℕ) → keeps 0x0D a ≡ true → has sep (met a) ≡ false → Piece sep n b → Piece sep (suc n) (a ++ (sep ∷ b))
@@ -169,10 +144,7 @@ module _ (sep : ℕ) (low : 0x20 ≤ sep) (high : sep ≤ 0x7E) where
         is = rw z (c .is);
         at = length-append a (sep ∷ c .left)
             ∙ rw (c .at, met-sep sep low high a b k, start-next sep n (met a) (met b) h) (omega (arith, length-met a));
-        after = λ l. rw (met-sep sep low high a (c .left) k, before-next sep (met a) (met (c .left)) h) (ap suc (c .after (less (rw z at l))));
-        fresh = λ l. rw (met-sep sep low high a (c .left) k, since-next sep (met a) (met (c .left)) h) (c .fresh (less (rw z at l)));
         free = c .free;
-        next = c .next;
       }
     where
       less : {i j : ℕ} → suc i < suc j → i < j

@@ -1,19 +1,28 @@
--- Laws of reading a sheet line by line. Assumes nothing.
+-- Laws of reading a sheet group by group. Assumes nothing.
 use mathlib.Core.Path.{_≡_, ap}
 use mathlib.Core.List.{List, [], _∷_, _++_}
-use Prim.Native.Nat.{ℕ, suc}
+use Prim.Native.Nat.{ℕ, zero, suc, _+_, _-_, _≤_}
+use native.Mathlib.Omega.{arith}
+use lib.ListN.{length, drop}
 use Rattle.rules.specs.declared.Name.{Name}
-use Rattle.rules.specs.Told.{gives, refused, _>>=_}
-use Rattle.rules.specs.Row.{Line, lines, rowOf}
-use Rattle.rules.specs.Sheet.{lineTold, nextGroups, openedBy, rowsTold}
+use Rattle.rules.specs.Told.{gives, _>>=_}
+use Rattle.rules.specs.Frame.{Reached}
+use Rattle.rules.specs.Row.{lines, rowOf}
+use Rattle.rules.specs.Sheet.{openTold, groupTold, pastGroup, rowsTold}
 
--- a line that opens a group
-pub entered : (g h : Name) (vs : List (List ℕ)) (i : ℕ) (t : List ℕ) (ts : List (List ℕ)) (l : Line) (ls : List Line) → openedBy i (nextGroups g) t ≡ gives h → lines h ≡ l ∷ ls
-    → rowsTold g [] vs i (t ∷ ts) ≡ (lineTold i l [] t >>= λ v. rowsTold h ls (v ∷ []) (suc i) ts >>= λ rows. gives (rowOf g vs ++ rows))
+-- the lines of the last group are passed over
+pub passed-over : (ts : List (List ℕ)) (a : Reached) (k i : ℕ) → k ≤ length ts → rowsTold a k i ts ≡ rowsTold a 0 (i + k) (drop k ts)
 unfolding rowsTold
-entered g h vs i t ts l ls o e =
-    rw o
-    (ap (λ (k : List Line). elim k [
-      | [] ↦ refused 42 i 0
-      | l ∷ ls ↦ lineTold i l [] t >>= λ v. rowsTold h ls (v ∷ []) (suc i) ts >>= λ rows. gives (rowOf g vs ++ rows)
-    ]) e)
+passed-over ts a zero i h = let z : i + 0 ≡ i = omega arith in rw z
+passed-over [] a (suc k) i h = absurd (omega arith)
+passed-over (t ∷ ts) a (suc k) i h = let z : suc i + k ≡ i + suc k = omega arith in rw z at (passed-over ts a k (suc i) (omega arith))
+
+-- a group whose first line opens it and whose lines hold: the rows go on behind it
+pub entered : (a : Reached) (g : Name) (vs : List (List ℕ)) (i n : ℕ) (t : List ℕ) (ts : List (List ℕ)) → openTold a i t ≡ gives g
+    → groupTold (lines g) [] i (t ∷ ts) ≡ gives vs → length (lines g) ≡ suc n → n ≤ length ts
+    → rowsTold a 0 i (t ∷ ts) ≡ (rowsTold (pastGroup a g) 0 (i + suc n) (drop n ts) >>= λ rows. gives (rowOf g vs ++ rows))
+unfolding rowsTold
+entered a g vs i n t ts o e l h =
+    let z : suc i + n ≡ i + suc n = omega arith in
+    let y : suc n - 1 ≡ n = omega arith in
+    rw (o, e, l, y) (ap (λ u. u >>= λ rows. gives (rowOf g vs ++ rows)) (rw z at (passed-over ts (pastGroup a g) n (suc i) h)))

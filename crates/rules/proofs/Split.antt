@@ -6,27 +6,9 @@ use Prim.Native.Nat.{ℕ, suc}
 use borrow.Author.Tests.{eqb-true}
 use lib.Dec.{eqb}
 use lib.ListN.{length, drop}
-use Rattle.rules.specs.Lists.{empty, nth, has, onto, split, allButLast, last, led, join, ended}
+use Rattle.rules.specs.Lists.{empty, nth, has, onto, split, allButLast, last, front, later, before, since, led, join, ended}
 use Rattle.rules.proofs.Logic.{cases, both, not-true, eqb-self}
 use Rattle.rules.proofs.Lists.{empty-is, has-first, has-nil, has-there, one-free, has-neither}
-
--- the first piece of s, and the pieces after it
-unfoldable pub front : ℕ → List ℕ → List ℕ
-front sep s = nth (split sep s) 0
-
-unfoldable pub later : ℕ → List ℕ → List (List ℕ)
-later sep s = drop 1 (split sep s)
-
--- how many separators stand in s, and what stands after the last of them
-unfoldable pub before : ℕ → List ℕ → ℕ
-before sep s = length (allButLast (split sep s))
-
-unfoldable pub since : ℕ → List ℕ → List ℕ
-since sep s = last (split sep s)
-
--- the bytes so far of the segment
-abbrev pub here : List ℕ → List ℕ
-here p = since 0x0D p
 
 -- ---- one byte on
 pub split-nil : (sep : ℕ) → split sep [] ≡ [] ∷ []
@@ -283,24 +265,8 @@ pub before-next : (sep : ℕ) (p s : List ℕ) → has sep p ≡ false → befor
 unfolding before
 before-next sep p s h = rw (split-next sep p s h, butLast-split sep p s)
 
-pub since-next : (sep : ℕ) (p s : List ℕ) → has sep p ≡ false → since sep (p ++ (sep ∷ s)) ≡ since sep s
-unfolding since
-since-next sep p s h = rw (split-next sep p s h, last-split sep p s)
-
-pub split-end : (sep : ℕ) (a b : List ℕ) → has sep b ≡ false → split sep (a ++ b) ≡ allButLast (split sep a) ++ ((since sep a ++ b) ∷ [])
-unfolding since front later
-split-end sep a b h = split-glue sep a b ∙ rw (split-none sep b h)
-
 pub last-end : (ps : List (List ℕ)) (x : List ℕ) → last (ps ++ (x ∷ [])) ≡ x
 unfolding last
 last-end [] x = refl
 last-end (p ∷ []) x = refl
 last-end (p ∷ q ∷ ps) x = last-end (q ∷ ps) x
-
-pub before-more : (sep : ℕ) (a b : List ℕ) → has sep b ≡ false → before sep (a ++ b) ≡ before sep a
-unfolding before
-before-more sep a b h =
-    rw (split-end sep a b h, butLast-glue (allButLast (split sep a)) (since sep a ++ b) []) (unfold allButLast in rw (append-nil (allButLast (split sep a))))
-
-pub since-more : (sep : ℕ) (a b : List ℕ) → has sep b ≡ false → since sep (a ++ b) ≡ since sep a ++ b
-since-more sep a b h = unfold since in (ap last (split-end sep a b h) ∙ last-end (allButLast (split sep a)) (since sep a ++ b))

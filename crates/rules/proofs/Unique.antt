@@ -6,7 +6,7 @@ use Prim.Native.Nat.{ℕ, _<_}
 use native.Mathlib.Omega.{arith}
 use lib.Dec.{eqb}
 use Rattle.rules.specs.declared.Kind.{Kind}
-use Rattle.rules.specs.declared.Kind.the-variants.{TooLong, Header, Bytes, Segment, TooMany, Order, Missing, Null, Repeated, Escape, Long, Value, Status, Differs, NoOrdinal, Zero, SheetTooLong, SheetBytes, Key, Line, Overflow, Room}
+use Rattle.rules.specs.declared.Kind.the-variants.{TooLong, Header, Bytes, Segment, TooMany, Order, Missing, Null, Repeated, Escape, Long, Value, Status, Differs, NoOrdinal, Zero, SheetTooLong, SheetBytes, Key, LineValue, Overflow, Room}
 use Rattle.rules.specs.declared.Refusal.{Refusal}
 use Rattle.rules.specs.declared.Answer.{Answer}
 use Rattle.rules.specs.declared.Answer.the-variants.{Accepted, Refused}
@@ -21,7 +21,7 @@ use Rattle.rules.proofs.Logic.{zeroCases}
 unfoldable kinds : List Kind
 kinds =
     TooLong ∷ Header ∷ Bytes ∷ Segment ∷ TooMany ∷ Order ∷ Missing ∷ Null ∷ Repeated ∷ Escape ∷ Long
-    ∷ Value ∷ Status ∷ Differs ∷ NoOrdinal ∷ Zero ∷ SheetTooLong ∷ SheetBytes ∷ Key ∷ Line ∷ Overflow ∷ Room ∷ []
+    ∷ Value ∷ Status ∷ Differs ∷ NoOrdinal ∷ Zero ∷ SheetTooLong ∷ SheetBytes ∷ Key ∷ LineValue ∷ Overflow ∷ Room ∷ []
 
 unfoldable numbered : List Kind → ℕ → Kind
 numbered [] n = Room
@@ -48,7 +48,7 @@ kind-back Zero = refl
 kind-back SheetTooLong = refl
 kind-back SheetBytes = refl
 kind-back Key = refl
-kind-back Line = refl
+kind-back LineValue = refl
 kind-back Overflow = refl
 kind-back Room = refl
 

@@ -1,38 +1,32 @@
--- Where a known segment, its fields and their components stand in a message that keeps rules 10 to 14: at the stretches that fetch gives.
+-- What rules 10 to 14 say of a message, and where its known segments and their parts stand in it: at the stretches that fetch tells.
 -- Assumes nothing.
 use mathlib.Core.Path.{_≡_, refl, sym, ap, _∙_}
-use mathlib.Core.Bool.{true, false, not}
+use mathlib.Core.Bool.{true, not}
 use mathlib.Core.List.{List, [], _∷_, _++_, append-assoc}
-use mathlib.Core.Logic.{_⊎_, inl, inr}
 use mathlib.Core.Option.{some}
 use Prim.Native.Nat.{ℕ, zero, suc, _+_, _-_, _≤_}
 use native.Mathlib.Omega.{arith}
-use borrow.Author.Tests.{ltb-false}
-use lib.Dec.{ltb}
+use borrow.Author.Tests.{eqb-true, ltb-false}
+use lib.Dec.{eqb, ltb}
 use lib.ListN.{length, getElem?, length-append}
-use Rattle.rules.specs.declared.Delims.{Delims}
+use Rattle.rules.specs.declared.Span.{Span}
 use Rattle.rules.specs.declared.Counts.{Counts}
 use Rattle.rules.specs.declared.Name.the-variants.{Other}
 use Rattle.rules.specs.Told.{gives}
-use Rattle.rules.specs.Lists.{empty, nth, has, split, last, ended}
+use Rattle.rules.specs.Lists.{empty, split, last, ended}
 use Rattle.rules.specs.Shift.{keeps, met}
-use Rattle.rules.specs.Frame.{headerOk, delimsOf, segments, segmentsOk, nameOf, is, Known, knownFrom, known}
+use Rattle.rules.specs.Frame.{start, orderFault, headerOk, delimsOf, segments, segmentsOk, nameOf, is, Known, knownFrom, known}
 use Rattle.rules.specs.Proper.{Delim}
-use Rattle.rules.specs.Frame as Frame
-use Rattle.rules.specs.View.{view, pieceOf, fieldOf, componentOf, firstRepetition}
-use Rattle.rules.specs.Check.{frameTold, viewTold, checkTold}
+use Rattle.rules.specs.View.{View, view, pieceOf, fieldOf, componentOf, firstRepetition}
+use Rattle.rules.specs.Check.{unsaid, placesTold, namesOf, countsTold, viewTold, frameTold, checkTold}
 use Rattle.rules.specs.Fetch.{stretch, startOf, bytesAt}
-use Rattle.rules.proofs.Logic.{cases, both, not-false, guard, then-gives, nothing-some}
+use Rattle.rules.proofs.Logic.{cases, not-given, both, not-false, guard, then-gives, nothing-some}
 use Rattle.rules.proofs.Lists.{drop-own, take-own}
-use Rattle.rules.proofs.Split.{since, here, frees, frees-both, frees-left, frees-right, split-frees, butLast-frees, split-ended, last-snoc, ended-append, ended-lines, butLast-snoc}
+use Rattle.rules.proofs.Split.{frees, split-frees, butLast-frees, ended-append, ended-lines}
 use Rattle.rules.proofs.Modes.{length-met}
-use Rattle.rules.proofs.Header.{printable, Header, header, nine}
+use Rattle.rules.proofs.Header.{printable, Header}
 use Rattle.rules.proofs.Clean.{keeps-parts, ended-keeps}
 use Rattle.rules.proofs.Pieces.{Piece, piece, start-first}
-
--- a stretch within a stretch
-pub nested : (s a x z b y w : List ℕ) → s ≡ a ++ (x ++ z) → x ≡ b ++ (y ++ w) → s ≡ (a ++ b) ++ (y ++ (w ++ z))
-nested s a x z b y w e f = rw (e, f, append-assoc b (y ++ w) z, append-assoc y w z, append-assoc a b (y ++ (w ++ z)))
 
 -- ---- what rules 10 to 14 say of a message
 pub record Passes (m : List ℕ) : Type 0 where
@@ -63,8 +57,18 @@ pub accepted-passes : (m : List ℕ) (c : Counts) → checkTold m ≡ gives c �
 unfolding checkTold
 accepted-passes m c h = passes m (then-gives (frameTold m) (viewTold (view m)) c h .0)
 
--- a message with a header, that keeps the byte and shift rule and ends in 0D: one that keeps rules 10 to 14, or one on the way between two
--- such, which may be too long
+-- 15, 20 to 27 and the counts of an accepted message
+pub view-passes : (v : View) (c : Counts) → viewTold v ≡ gives c
+    → (orderFault start 1 (namesOf v) ≡ 0) × (placesTold (v .delims) unsaid 1 (v .segs) ≡ gives tt) × (countsTold (namesOf v) ≡ gives c)
+unfolding viewTold
+view-passes v c h =
+    cases (eqb (orderFault start 1 (namesOf v)) 0)
+    (λ e.
+    let b = then-gives (placesTold (v .delims) unsaid 1 (v .segs)) (countsTold (namesOf v)) c (rw e at h) in
+    (eqb-true (orderFault start 1 (namesOf v)) 0 e, b .0, b .1))
+    (λ e. not-given (rw e at h))
+
+-- a message with a header, that keeps the byte and shift rule and ends in 0D
 pub record Framed (m : List ℕ) : Type 0 where
   pub headed : headerOk m ≡ true
   pub kept : keeps 0x0D m ≡ true
@@ -81,116 +85,90 @@ pub ended-segments : (m : List ℕ) → Framed m → ended 0x0D (segments m) ≡
 unfolding segments
 ended-segments m g = ended-lines 0x0D m (g .ends)
 
-pub segments-ended : (ss : List (List ℕ)) (h : frees 0x0D ss ≡ true) → segments (ended 0x0D ss) ≡ ss
-unfolding segments
-segments-ended ss h = rw (split-ended 0x0D ss h) (butLast-snoc ss)
-
 -- no segment has 0D in it
 pub segments-free : (m : List ℕ) → frees 0x0D (segments m) ≡ true
 unfolding segments
 segments-free m = butLast-frees 0x0D (split 0x0D m) (split-frees 0x0D m)
 
--- after ended segments one starts
-pub starts-fresh : (ss : List (List ℕ)) → frees 0x0D ss ≡ true → here (ended 0x0D ss) ≡ []
-unfolding since
-starts-fresh ss h = rw (split-ended 0x0D ss h) (last-snoc ss)
+-- ---- x stands in s, after so many bytes
+pub record Lies (s x : List ℕ) (place : ℕ) : Type 0 where
+  left : List ℕ
+  right : List ℕ
+  whole : s ≡ left ++ (x ++ right)
+  start : place ≡ length left
 
--- ---- a known segment is one of the segments
-record Among (at : ℕ) (ss : List (List ℕ)) (k : Known) : Type 0 where
+-- and so does what stands in x
+inside : {s x y : List ℕ} {i j : ℕ} → Lies s x i → Lies x y j → Lies s y (i + j)
+inside {y = y} a b =
+    record {
+      left = a .left ++ b .left;
+      right = b .right ++ a .right;
+      whole = rw (a .whole, b .whole, append-assoc (b .left) (y ++ b .right) (a .right), append-assoc y (b .right) (a .right), append-assoc (a .left) (b .left) (y ++ (b .right ++ a .right)));
+      start = let h = a .start in let k = b .start in omega (arith, length-append (a .left) (b .left));
+    }
+
+-- ---- a known segment in its message: it starts and ends in one-byte mode
+pub record Stands (m : List ℕ) (k : Known) : Type 0 where
+  pub raw : List ℕ
+  pub lies : Lies m raw (k .start)
+  pub body : k .body ≡ met raw
+  pub kept : keeps 0x0D raw ≡ true
+
+-- one of the segments
+record Among (place : ℕ) (ss : List (List ℕ)) (k : Known) : Type 0 where
   earlier : List (List ℕ)
   raw : List ℕ
   rest : List (List ℕ)
   whole : ss ≡ earlier ++ (raw ∷ rest)
-  start : k .start ≡ at + length (ended 0x0D earlier)
-  name : k .name ≡ nameOf raw
+  start : k .start ≡ place + length (ended 0x0D earlier)
   body : k .body ≡ met raw
-  known : is (nameOf raw) Other ≡ false
 
-further : (at : ℕ) (s : List ℕ) (ss : List (List ℕ)) (k : Known) → Among (at + suc (length s)) ss k → Among at (s ∷ ss) k
+further : (place : ℕ) (s : List ℕ) (ss : List (List ℕ)) (k : Known) → Among (place + suc (length s)) ss k → Among place (s ∷ ss) k
 unfolding ended
-further at s ss k a =
+further place s ss k a =
     record {
       earlier = s ∷ a .earlier;
       raw = a .raw;
       rest = a .rest;
       whole = ap (λ (t : List (List ℕ)). s ∷ t) (a .whole);
       start = let e = a .start in omega (arith, length-append s (0x0D ∷ ended 0x0D (a .earlier)));
-      name = a .name;
       body = a .body;
-      known = a .known;
     }
 
-among : (at : ℕ) (ss : List (List ℕ)) (i : ℕ) (k : Known) → getElem? (knownFrom at ss) i ≡ some k → Among at ss k
+among : (place : ℕ) (ss : List (List ℕ)) (i : ℕ) (k : Known) → getElem? (knownFrom place ss) i ≡ some k → Among place ss k
 unfolding knownFrom ended
-among at [] i k e = nothing-some e
-among at (s ∷ ss) i k e =
+among place [] i k e = nothing-some e
+among place (s ∷ ss) i k e =
     cases (is (nameOf s) Other)
-    (λ t. further at s ss k (among (at + suc (length s)) ss i k (rw t at e)))
-    (λ t. at-index i t (rw t at e) (λ j h. among (at + suc (length s)) ss j k h))
+    (λ t. further place s ss k (among (place + suc (length s)) ss i k (rw t at e)))
+    (λ t. at-index i (rw t at e) (λ j h. among (place + suc (length s)) ss j k h))
   where
-    at-index : (i : ℕ) → is (nameOf s) Other ≡ false → getElem? ((record { name = nameOf s; start = at; body = met s }) ∷ knownFrom (at + suc (length s)) ss) i ≡ some k
-        → ((j : ℕ) → getElem? (knownFrom (at + suc (length s)) ss) j ≡ some k → Among (at + suc (length s)) ss k) → Among at (s ∷ ss) k
-    at-index zero t e f =
-        let q : k ≡ record { name = nameOf s; start = at; body = met s } = cc in
+    at-index : (i : ℕ) → getElem? ((record { name = nameOf s; start = place; body = met s }) ∷ knownFrom (place + suc (length s)) ss) i ≡ some k
+        → ((j : ℕ) → getElem? (knownFrom (place + suc (length s)) ss) j ≡ some k → Among (place + suc (length s)) ss k) → Among place (s ∷ ss) k
+    at-index zero e f =
+        let q : k ≡ record { name = nameOf s; start = place; body = met s } = cc in
         record {
           earlier = [];
           raw = s;
           rest = ss;
           whole = refl;
-          start = let z : k .start ≡ at = ap (λ (x : Known). x .start) q in omega arith;
-          name = ap (λ (x : Known). x .name) q;
+          start = let z : k .start ≡ place = ap (λ (x : Known). x .start) q in omega arith;
           body = ap (λ (x : Known). x .body) q;
-          known = t;
         }
-    at-index (suc i) t e f = further at s ss k (f i e)
+    at-index (suc i) e f = further place s ss k (f i e)
 
--- ---- a known segment in its message
-pub record Stands (m : List ℕ) (k : Known) : Type 0 where
-  pub left : List ℕ
-  pub raw : List ℕ
-  pub right : List ℕ
-  pub whole : m ≡ left ++ (raw ++ (0x0D ∷ right))
-  pub start : k .start ≡ length left
-  pub name : k .name ≡ nameOf raw
-  pub body : k .body ≡ met raw
-  pub known : is (nameOf raw) Other ≡ false
-  -- it starts and ends in one-byte mode, after the end of a segment if not first, and holds no 0D
-  pub left-kept : keeps 0x0D left ≡ true
-  pub raw-kept : keeps 0x0D raw ≡ true
-  pub fresh : here left ≡ []
-  pub free : has 0x0D raw ≡ false
-  -- it is the first, or after the header
-  pub past : (left ≡ []) ⊎ (9 ≤ length left)
-
-pub after-header : (m : List ℕ) → Header m → (ss : List (List ℕ)) (z : List ℕ) → m ≡ ended 0x0D ss ++ z → (ended 0x0D ss ≡ []) ⊎ (9 ≤ length (ended 0x0D ss))
-unfolding ended
-after-header m g [] z e = inl refl
-after-header m g (s ∷ ss) z e =
-    let l = nine m g s (ended 0x0D ss ++ z) (e ∙ append-assoc s (0x0D ∷ ended 0x0D ss) z) in
-    inr (omega (arith, length-append s (0x0D ∷ ended 0x0D ss)))
-
-pub stands-known : (m : List ℕ) → Framed m → (i : ℕ) (k : Known) → getElem? (Frame.known m) i ≡ some k → Stands m k
+pub stands-known : (m : List ℕ) → Framed m → (i : ℕ) (k : Known) → getElem? (known m) i ≡ some k → Stands m k
 unfolding known
 stands-known m g i k e =
     let a = among 0 (segments m) i k e in
     let w : m ≡ ended 0x0D (a .earlier) ++ (a .raw ++ (0x0D ∷ ended 0x0D (a .rest))) =
     sym (ended-segments m g) ∙ ap (ended 0x0D) (a .whole) ∙ ended-append 0x0D (a .earlier) (a .raw ∷ a .rest) ∙ (unfold ended in refl) in
     let c = ended-keeps (a .earlier) (a .raw ++ (0x0D ∷ ended 0x0D (a .rest))) (rw w at (g .kept)) in
-    let f = rw (a .whole) at (segments-free m) in
     record {
-      left = ended 0x0D (a .earlier);
       raw = a .raw;
-      right = ended 0x0D (a .rest);
-      whole = w;
-      start = let z = a .start in omega arith;
-      name = a .name;
+      lies = record { left = ended 0x0D (a .earlier); right = 0x0D ∷ ended 0x0D (a .rest); whole = w; start = let z = a .start in omega arith };
       body = a .body;
-      known = a .known;
-      left-kept = c .0;
-      raw-kept = keeps-parts (a .raw) (ended 0x0D (a .rest)) (c .1) .0;
-      fresh = starts-fresh (a .earlier) (frees-left 0x0D (a .earlier) (a .raw ∷ a .rest) f);
-      free = frees-both 0x0D (a .raw) (a .rest) (frees-right 0x0D (a .earlier) (a .raw ∷ a .rest) f) .0;
-      past = after-header m (header m (g .headed)) (a .earlier) (a .raw ++ (0x0D ∷ ended 0x0D (a .rest))) w;
+      kept = keeps-parts (a .raw) (ended 0x0D (a .rest)) (c .1) .0;
     }
 
 -- ---- its fields and their components
@@ -198,97 +176,41 @@ stands-known m g i k e =
 pub cut : (b n : ℕ) (s : List ℕ) → Delim b → keeps 0x0D s ≡ true → Piece b n s
 cut b n s h k = let a = printable b h in piece b (a .0) (a .1) n s k
 
--- places in a message, as fetch counts them: repetitions from 0, fields and components from 1
-abbrev pub repetitionOf : Delims → Known → ℕ → ℕ → List ℕ
-repetitionOf d k f r = nth (split (d .repetition) (fieldOf d k f)) r
+piece-lies : {b n : ℕ} {s : List ℕ} (p : Piece b n s) → Lies s (p .own) (startOf b n (met s))
+piece-lies p = record { left = p .left; right = p .right; whole = p .whole; start = sym (p .at) }
 
-abbrev pub fieldPlace : Delims → Known → ℕ → ℕ
-fieldPlace d k f = k .start + startOf (d .field) (pieceOf (k .name) f) (k .body)
+-- a stretch lies in m, and what is met there is the part
+pub record Shows (m part : List ℕ) (p : Span) : Type 0 where
+  pub within : p .start + p .len ≤ length m
+  pub bytes : met (bytesAt m p) ≡ part
 
-abbrev pub repetitionPlace : Delims → Known → ℕ → ℕ → ℕ
-repetitionPlace d k f r = fieldPlace d k f + startOf (d .repetition) r (fieldOf d k f)
-
-abbrev pub componentPlace : Delims → Known → ℕ → ℕ → ℕ → ℕ
-componentPlace d k f r c = repetitionPlace d k f r + startOf (d .component) (c - 1) (repetitionOf d k f r)
-
--- the field f, its r-th repetition from 0, and the component c of that; what stands before each and after it
-module _ (m : List ℕ) (g : Header m) (k : Known) (s : Stands m k) (f : ℕ) where
-  abbrev d : Delims
-  d = delimsOf m
-
-  pub fieldPiece : Piece (d .field) (pieceOf (k .name) f) (s .raw)
-  fieldPiece = cut (d .field) (pieceOf (k .name) f) (s .raw) (g .proper .field) (s .raw-kept)
-
-  abbrev pub fieldLeft : List ℕ
-  fieldLeft = s .left ++ fieldPiece .left
-
-  abbrev pub fieldRight : List ℕ
-  fieldRight = fieldPiece .right ++ (0x0D ∷ s .right)
-
-  pub field-is : met (fieldPiece .own) ≡ fieldOf d k f
-  unfolding fieldOf
-  field-is = cc (fieldPiece .is, s .body)
-
-  pub field-whole : m ≡ fieldLeft ++ (fieldPiece .own ++ fieldRight)
-  field-whole =
-      nested m (s .left) (s .raw) (0x0D ∷ s .right) (fieldPiece .left) (fieldPiece .own) (fieldPiece .right) (s .whole) (fieldPiece .whole)
-
-  pub field-place : length fieldLeft ≡ fieldPlace d k f
-  field-place = length-append (s .left) (fieldPiece .left) ∙ cc (s .start, s .body, fieldPiece .at)
-
-  module _ (r : ℕ) where
-    pub repetitionPiece : Piece (d .repetition) r (fieldPiece .own)
-    repetitionPiece = cut (d .repetition) r (fieldPiece .own) (g .proper .repetition) (fieldPiece .own-kept)
-
-    abbrev pub repetitionLeft : List ℕ
-    repetitionLeft = fieldLeft ++ repetitionPiece .left
-
-    abbrev pub repetitionRight : List ℕ
-    repetitionRight = repetitionPiece .right ++ fieldRight
-
-    pub repetition-is : met (repetitionPiece .own) ≡ repetitionOf d k f r
-    repetition-is = cc (field-is, repetitionPiece .is)
-
-    pub repetition-whole : m ≡ repetitionLeft ++ (repetitionPiece .own ++ repetitionRight)
-    repetition-whole =
-        nested m fieldLeft (fieldPiece .own) fieldRight (repetitionPiece .left) (repetitionPiece .own) (repetitionPiece .right) field-whole (repetitionPiece .whole)
-
-    pub repetition-place : length repetitionLeft
-        ≡ repetitionPlace d k f r
-    repetition-place = length-append fieldLeft (repetitionPiece .left) ∙ cc (field-place, field-is, repetitionPiece .at)
-
-    module _ (c : ℕ) where
-      pub componentPiece : Piece (d .component) (c - 1) (repetitionPiece .own)
-      componentPiece = cut (d .component) (c - 1) (repetitionPiece .own) (g .proper .component) (repetitionPiece .own-kept)
-
-      abbrev pub componentLeft : List ℕ
-      componentLeft = repetitionLeft ++ componentPiece .left
-
-      abbrev pub componentRight : List ℕ
-      componentRight = componentPiece .right ++ repetitionRight
-
-      pub component-is : met (componentPiece .own) ≡ componentOf d (repetitionOf d k f r) c
-      unfolding componentOf
-      component-is = cc (repetition-is, componentPiece .is)
-
-      pub component-whole : m ≡ componentLeft ++ (componentPiece .own ++ componentRight)
-      component-whole =
-          nested m repetitionLeft (repetitionPiece .own) repetitionRight (componentPiece .left) (componentPiece .own) (componentPiece .right) repetition-whole (componentPiece .whole)
-
-      pub component-place : length componentLeft
-          ≡ componentPlace d k f r c
-      component-place = length-append repetitionLeft (componentPiece .left) ∙ cc (repetition-place, repetition-is, componentPiece .at)
-
--- the bytes of the stretch that fetch tells for a component, as they are met, are the component
-at-place : (m l own q x : List ℕ) (o : ℕ) → m ≡ l ++ (own ++ q) → length l ≡ o → met own ≡ x → met (bytesAt m (stretch o (length x))) ≡ x
+shows : {m own : List ℕ} {i : ℕ} → Lies m own i → (part : List ℕ) → met own ≡ part → Shows m part (stretch i (length part))
 unfolding bytesAt
-at-place m l own q x o w a e = rw (← a, ← e, length-met own, w, drop-own l (own ++ q), take-own own q)
+shows {own = own} l part e =
+    record {
+      within =
+          let s = l .start in
+          omega (arith, ap length (l .whole), length-append (l .left) (own ++ l .right), length-append own (l .right), length-met own, ap length e);
+      bytes = rw (l .start, ← e, length-met own, l .whole, drop-own (l .left) (own ++ l .right), take-own own (l .right));
+    }
 
-pub component-bytes : (m : List ℕ) (g : Header m) (k : Known) (s : Stands m k) (f c : ℕ)
-    → let r = firstRepetition (delimsOf m) (fieldOf (delimsOf m) k f) in
-    met (bytesAt m (stretch (fieldPlace (delimsOf m) k f + startOf (delimsOf m .component) (c - 1) r) (length (componentOf (delimsOf m) r c))))
-    ≡ componentOf (delimsOf m) r c
-unfolding firstRepetition
-component-bytes m g k s f c =
-    at-place m (componentLeft m g k s f 0 c) (componentPiece m g k s f 0 c .own) (componentRight m g k s f 0 c) _ _ (component-whole m g k s f 0 c)
-    (component-place m g k s f 0 c ∙ rw (start-first (delimsOf m .repetition) (fieldOf (delimsOf m) k f)) (omega arith)) (component-is m g k s f 0 c)
+-- the component c of the first repetition of the field f, at the stretch that fetch tells
+pub component-shown : (m : List ℕ) → Header m → (k : Known) → Stands m k → (f c : ℕ)
+    → let d = delimsOf m in
+    let r = firstRepetition d (fieldOf d k f) in
+    Shows m (componentOf d r c)
+    (stretch (k .start + startOf (d .field) (pieceOf (k .name) f) (k .body) + startOf (d .component) (c - 1) r) (length (componentOf d r c)))
+unfolding fieldOf firstRepetition componentOf
+component-shown m g k s f c =
+    let d = delimsOf m in
+    let F = cut (d .field) (pieceOf (k .name) f) (s .raw) (g .proper .field) (s .kept) in
+    let R = cut (d .repetition) 0 (F .own) (g .proper .repetition) (F .own-kept) in
+    let C = cut (d .component) (c - 1) (R .own) (g .proper .component) (R .own-kept) in
+    let field : met (F .own) ≡ fieldOf d k f = cc (F .is, s .body) in
+    let first : met (R .own) ≡ firstRepetition d (fieldOf d k f) = cc (R .is, field) in
+    let own : met (C .own) ≡ componentOf d (firstRepetition d (fieldOf d k f)) c = cc (C .is, first) in
+    let l = inside (inside (inside (s .lies) (piece-lies F)) (piece-lies R)) (piece-lies C) in
+    shows (rw (first, ← s .body, start-first (d .repetition) (met (F .own)), add-zero (k .start + startOf (d .field) (pieceOf (k .name) f) (k .body))) at l) _ own
+  where
+    add-zero : (n : ℕ) → n + 0 ≡ n
+    add-zero n = omega arith

@@ -25,7 +25,7 @@ pub data Edge : Type 0 where
 
 unfoldable pub Right : Edge → Type 0
 Right (message s t) = checkTold (bytes s) ≡ t
-Right (number s n) = Value.fault true Value.number (bytes s) ≡ n
+Right (number s n) = Value.fault true Value.numeric (bytes s) ≡ n
 Right (date s n) = Value.fault true Value.date (bytes s) ≡ n
 Right (sn s n) = valueFault base (bytes "SN") (met (bytes s)) ≡ n
 Right (escape s v) = unescape base (met (bytes s)) ≡ v

@@ -7,7 +7,7 @@ use lib.ListN.{length, getD}
 use Rattle.rules.specs.declared.Delims.{Delims}
 use Rattle.rules.specs.declared.Name.{Name}
 use Rattle.rules.specs.declared.Name.the-variants.{Msh, Pid, Pv1, Spm, Obr, Orc, Obx, Other}
-use Rattle.rules.specs.Lists.{bytes, empty, starts, all, any, has, distinct, split, allButLast, last}
+use Rattle.rules.specs.Lists.{bytes, empty, starts, all, any, has, distinct, split, allButLast, last, since}
 use Rattle.rules.specs.Shift.{within, met}
 
 -- "In order they are field, component, repetition, escape, subcomponent."
@@ -33,6 +33,10 @@ headerOk m = leb 9 (length m) && starts (bytes "MSH") m && delimsOk (delimsOf m)
 -- 13. "Each ends in 0D, the last too. A segment has at most 4,096 bytes without its 0D"
 unfoldable pub segments : List ℕ → List (List ℕ)
 segments m = allButLast (split 0x0D m)
+
+-- of a part of a message, the bytes so far of the segment in which it ends
+abbrev pub here : List ℕ → List ℕ
+here p = since 0x0D p
 
 abbrev pub capital : ℕ → Bool
 capital b = within 65 90 b
@@ -116,8 +120,33 @@ after Obr = Orc ∷ []
 after Orc = Obx ∷ []
 after Obx = Obx ∷ Obr ∷ Spm ∷ []
 
--- 15. The ordinal of the first name out of order, "at an early end, the known count plus 1"; 0 where there is none. a stands before
--- the names, whose first has the ordinal i.
-unfoldable pub orderFault : Name → ℕ → List Name → ℕ
-orderFault a i [] = cond (is a Obx) 0 i
-orderFault a i (b ∷ bs) = elim (any (is b) (after a)) [ true ↦ orderFault b (suc i) bs | false ↦ i ]
+-- where some names have led: the last of them
+pub record Reached : Type 0 where
+  pub last : Name
+
+abbrev pub start : Reached
+start = record { last = Other }
+
+unfoldable pub past : Reached → Name → Reached
+past a b = record { last = b }
+
+unfoldable pub mayFollow : Reached → Name → Bool
+mayFollow a b = any (is b) (after (a .last))
+
+unfoldable pub mayEnd : Reached → Bool
+mayEnd a = is (a .last) Obx
+
+-- 15. The ordinal of the first name out of order, "at an early end, the known count plus 1"; 0 where there is none. The names before have
+-- led to a; the first has the ordinal i.
+unfoldable pub orderFault : Reached → ℕ → List Name → ℕ
+orderFault a i [] = cond (mayEnd a) 0 i
+orderFault a i (b ∷ bs) = elim (mayFollow a b) [ true ↦ orderFault (past a b) (suc i) bs | false ↦ i ]
+
+-- how many x there are with the name g, where there were n before it: counted anew at each r
+unfoldable pub counting : Name → Name → ℕ → Name → ℕ
+counting x r n g = cond (is g x) (suc n) (cond (is g r) 0 n)
+
+-- to unfold this name is to unfold the definitions above
+unfoldable pub defined : Unit {0}
+unfolding delimsOf delimsOk headerOk segments nameOk segmentsOk knownNames spelling nameAmong nameOf knownFrom known past mayFollow mayEnd orderFault counting
+defined = tt

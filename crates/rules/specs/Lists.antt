@@ -1,12 +1,13 @@
 -- Plain functions on lists, in which the rules are said. Nothing here is about HL7.
 use mathlib.Core.Bool.{Bool, true, false, cond, not, _&&_}
 use mathlib.Core.List.{List, [], _∷_, _++_}
-use Prim.Native.Nat.{ℕ, _+_}
+use mathlib.Core.Option.{Option, none, some}
+use Prim.Native.Nat.{ℕ, zero, suc, _+_, _/_, _%_}
 use Prim.Native.String.{String}
 use Prim.Native.String as Text
 use Prim.Native.Char.{code}
-use lib.Dec.{eqb}
-use lib.ListN.{getD}
+use lib.Dec.{ltb, eqb}
+use lib.ListN.{length, getD, drop}
 
 -- the bytes of a text of plain characters
 unfoldable pub bytes : String → List ℕ
@@ -19,6 +20,11 @@ empty (x ∷ s) = false
 
 abbrev pub filled : {A : Type 0} → List A → Bool
 filled s = not (empty s)
+
+-- a text that there may be; empty where there is none
+unfoldable pub orEmpty : Option (List ℕ) → List ℕ
+orEmpty none = []
+orEmpty (some s) = s
 
 -- the n-th of some texts, from 0; empty where there are fewer ("missing and empty are the same")
 abbrev pub nth : List (List ℕ) → ℕ → List ℕ
@@ -80,6 +86,20 @@ last [] = []
 last (p ∷ []) = p
 last (p ∷ q ∷ ps) = last (q ∷ ps)
 
+-- the first piece of s, and the pieces after it
+unfoldable pub front : ℕ → List ℕ → List ℕ
+front sep s = nth (split sep s) 0
+
+unfoldable pub later : ℕ → List ℕ → List (List ℕ)
+later sep s = drop 1 (split sep s)
+
+-- how many separators stand in s, and what stands after the last of them
+unfoldable pub before : ℕ → List ℕ → ℕ
+before sep s = length (allButLast (split sep s))
+
+unfoldable pub since : ℕ → List ℕ → List ℕ
+since sep s = last (split sep s)
+
 -- the pieces with a separator before each; with one between each two
 unfoldable pub led : ℕ → List (List ℕ) → List ℕ
 led sep [] = []
@@ -97,3 +117,17 @@ ended sep (p ∷ ps) = p ++ (sep ∷ ended sep ps)
 -- s is one of some words, written with a blank between each two
 unfoldable pub isOneOf : String → List ℕ → Bool
 isOneOf words s = any (same s) (split 0x20 (bytes words))
+
+-- n in decimal: at most k digits, the last after those of a tenth
+unfoldable pub decimalTo : ℕ → ℕ → List ℕ
+decimalTo zero n = []
+decimalTo (suc k) n = elim (ltb n 10) [ true ↦ (48 + n) ∷ [] | false ↦ decimalTo k (n / 10) ++ ((48 + n % 10) ∷ []) ]
+
+unfoldable pub decimal : ℕ → List ℕ
+unfolding decimalTo
+decimal n = decimalTo (suc n) n
+
+-- to unfold this name is to unfold the definitions above
+unfoldable pub defined : Unit {0}
+unfolding bytes empty same starts all any count has distinct onto split allButLast last front later before since led join ended isOneOf orEmpty decimalTo decimal
+defined = tt

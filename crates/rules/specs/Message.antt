@@ -1,7 +1,7 @@
 -- The writer, over any five delimiters; the base uses |^~\&.
-use mathlib.Core.Bool.{true, false, cond, _&&_, _||_}
+use mathlib.Core.Bool.{cond, _&&_, _||_}
 use mathlib.Core.List.{List, [], _∷_, _++_, map}
-use Prim.Native.Nat.{ℕ, zero, suc, _+_, _/_, _%_}
+use Prim.Native.Nat.{ℕ}
 use Prim.Native.Char.{code}
 use lib.Dec.{ltb}
 use lib.ListN.{length, replicate}
@@ -9,8 +9,8 @@ use Rattle.rules.specs.declared.Delims.{Delims}
 use Rattle.rules.specs.declared.Name.{Name}
 use Rattle.rules.specs.declared.Name.the-variants.{Msh, Pid, Pv1, Spm, Obr, Orc, Obx}
 use Rattle.rules.specs.Told.{Told, gives, refuse_if_else_, _>>=_}
-use Rattle.rules.specs.Lists.{bytes, empty, filled, join, ended}
-use Rattle.rules.specs.Frame.{spelling, is}
+use Rattle.rules.specs.Lists.{bytes, empty, filled, join, ended, decimal}
+use Rattle.rules.specs.Frame.{spelling, counting}
 use Rattle.rules.specs.Escape.{escape}
 use Rattle.rules.specs.Judge.{isSN}
 use Rattle.rules.specs.Row.{Row, header, patient, visit, specimen, order, result, groupOf}
@@ -18,15 +18,6 @@ use Rattle.rules.specs.Sheet.{readSheet}
 
 unfoldable pub base : Delims
 base = record { field = code "|"; component = code "^"; repetition = code "~"; escape = code "\\"; sub = code "&" }
-
--- n in decimal: at most k digits, the last after those of a tenth
-unfoldable pub decimalTo : ℕ → ℕ → List ℕ
-decimalTo zero n = []
-decimalTo (suc k) n = elim (ltb n 10) [ true ↦ (48 + n) ∷ [] | false ↦ decimalTo k (n / 10) ++ ((48 + n % 10) ∷ []) ]
-
-unfoldable pub decimal : ℕ → List ℕ
-unfolding decimalTo
-decimal n = decimalTo (suc n) n
 
 -- ---- fields
 -- a field of its components; n empty fields
@@ -60,44 +51,49 @@ pub record Piece : Type 0 where
 abbrev pub piece : Name → List (List ℕ) → Piece
 piece n fs = record { name = n; fields = fs }
 
--- the segments of a row, where it is the i-th specimen, the j-th result of its order
-unfoldable pub piecesOf : Delims → ℕ → ℕ → Row → List Piece
-piecesOf d i j (header mode sent control) =
+-- "SPM-1 and OBX-1 count from 1, OBX-1 anew in each order"
+pub record Numbers : Type 0 where
+  pub specimen : ℕ
+  pub result : ℕ
+
+abbrev pub zeros : Numbers
+zeros = record { specimen = 0; result = 0 }
+
+unfoldable pub counted : Numbers → Name → Numbers
+counted n g = record { specimen = counting Spm Msh (n .specimen) g; result = counting Obx Obr (n .result) g }
+
+-- the segments of a row, with its numbers
+unfoldable pub piecesOf : Delims → Numbers → Row → List Piece
+piecesOf d n (header mode sent control) =
     piece Msh ((encoding d ∷ []) ++ blanks 4
     ++ (escape d sent ∷ [] ∷ composed d (bytes "OUL" ∷ bytes "R22" ∷ bytes "OUL_R22" ∷ []) ∷ escape d control ∷ escape d mode ∷ bytes "2.5" ∷ [])
     ++ blanks 5 ++ ((d .repetition ∷ bytes "ISO IR87") ∷ [] ∷ bytes "ISO 2022-1994" ∷ []))
     ∷ []
-piecesOf d i j (patient id f g kf kg birth sex) =
+piecesOf d n (patient id f g kf kg birth sex) =
     piece Pid ([] ∷ [] ∷ escape d id ∷ [] ∷ namesText d f g kf kg ∷ [] ∷ escape d birth ∷ escape d sex ∷ []) ∷ []
-piecesOf d i j (visit class) = piece Pv1 ([] ∷ escape d class ∷ []) ∷ []
-piecesOf d i j (specimen kind collected) =
-    piece Spm ((decimal i ∷ [] ∷ [] ∷ composed d (escape d kind ∷ [] ∷ bytes "JC10" ∷ []) ∷ []) ++ blanks 12 ++ (escape d collected ∷ [])) ∷ []
-piecesOf d i j (order id group) =
+piecesOf d n (visit class) = piece Pv1 ([] ∷ escape d class ∷ []) ∷ []
+piecesOf d n (specimen kind collected) =
+    piece Spm ((decimal (n .specimen) ∷ [] ∷ [] ∷ composed d (escape d kind ∷ [] ∷ bytes "JC10" ∷ []) ∷ []) ++ blanks 12 ++ (escape d collected ∷ [])) ∷ []
+piecesOf d n (order id group) =
     piece Obr ([] ∷ escape d id ∷ [] ∷ composed d (escape d group ∷ [] ∷ bytes "99003" ∷ []) ∷ [])
     ∷ piece Orc (bytes "RE" ∷ escape d id ∷ [])
     ∷ []
-piecesOf d i j (result item name type compare value join second unit flag status) =
-    piece Obx (decimal j ∷ escape d type ∷ composed d (escape d item ∷ escape d name ∷ bytes "JC10" ∷ []) ∷ []
+piecesOf d n (result item name type compare value join second unit flag status) =
+    piece Obx (decimal (n .result) ∷ escape d type ∷ composed d (escape d item ∷ escape d name ∷ bytes "JC10" ∷ []) ∷ []
     ∷ valueText d type compare value join second ∷ escape d unit ∷ [] ∷ escape d flag ∷ [] ∷ [] ∷ escape d status ∷ [])
     ∷ []
 
--- "SPM-1 and OBX-1 count from 1, OBX-1 anew in each order": how many specimens so far, and results of the order, a row counted in
-unfoldable pub specimens : ℕ → Row → ℕ
-specimens i r = cond (is (groupOf r) Spm) (suc i) i
-
-unfoldable pub results : ℕ → Row → ℕ
-results j r = cond (is (groupOf r) Obx) (suc j) (cond (is (groupOf r) Obr) 0 j)
-
-unfoldable pub pieces : Delims → ℕ → ℕ → List Row → List Piece
-pieces d i j [] = []
-pieces d i j (r ∷ rs) = piecesOf d (specimens i r) (results j r) r ++ pieces d (specimens i r) (results j r) rs
+-- the segments of some rows, with the numbers before them
+unfoldable pub pieces : Delims → Numbers → List Row → List Piece
+pieces d n [] = []
+pieces d n (r ∷ rs) = let now = counted n (groupOf r) in piecesOf d now r ++ pieces d now rs
 
 unfoldable pub segmentText : Delims → Piece → List ℕ
 segmentText d p = join (d .field) (spelling (p .name) ∷ p .fields)
 
 -- ---- the message
 unfoldable pub written : Delims → List Row → List (List ℕ)
-written d rows = map (segmentText d) (pieces d 0 0 rows)
+written d rows = map (segmentText d) (pieces d zeros rows)
 
 unfoldable pub messageOf : Delims → List Row → List ℕ
 messageOf d rows = ended 0x0D (written d rows)
@@ -112,3 +108,8 @@ messageTold d rows room =
 
 unfoldable pub toMessage : List ℕ → ℕ → Told (List ℕ)
 toMessage s room = readSheet s >>= λ rows. messageTold base rows room
+
+-- to unfold this name is to unfold the definitions above
+unfoldable pub defined : Unit {0}
+unfolding base composed blanks encoding nameText namesText valueText piecesOf counted pieces segmentText written messageOf messageTold toMessage
+defined = tt

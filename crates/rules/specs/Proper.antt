@@ -24,3 +24,6 @@ pub record Proper (d : Delims) : Type 0 where
   pub component-repetition : eqb (d .component) (d .repetition) ≡ false
   pub escape-component : eqb (d .escape) (d .component) ≡ false
   pub escape-repetition : eqb (d .escape) (d .repetition) ≡ false
+  pub sub-component : eqb (d .sub) (d .component) ≡ false
+  pub sub-repetition : eqb (d .sub) (d .repetition) ≡ false
+  pub sub-escape : eqb (d .sub) (d .escape) ≡ false

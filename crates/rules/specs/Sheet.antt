@@ -1,15 +1,15 @@
 -- "A sheet is lines `key=value`, each ended by 0A": written from rows, and read.
 use mathlib.Core.Bool.{Bool, true, false, cond, not, _&&_}
 use mathlib.Core.List.{List, [], _∷_, _++_}
-use Prim.Native.Nat.{ℕ, suc}
+use Prim.Native.Nat.{ℕ, zero, suc, _-_}
 use lib.Dec.{ltb}
 use lib.ListN.{length, drop}
 use Rattle.rules.specs.declared.Name.{Name}
-use Rattle.rules.specs.declared.Name.the-variants.{Obr, Orc, Obx, Other}
+use Rattle.rules.specs.declared.Name.the-variants.{Obr, Orc, Other}
 use Rattle.rules.specs.Told.{Told, gives, refused, refuse_if_else_, _>>=_, _>>_}
-use Rattle.rules.specs.Lists.{bytes, empty, same, starts, any, split, allButLast, last, ended}
+use Rattle.rules.specs.Lists.{bytes, empty, same, starts, split, allButLast, last, ended}
 use Rattle.rules.specs.Shift.{keeps}
-use Rattle.rules.specs.Frame.{is, after}
+use Rattle.rules.specs.Frame.{is, knownNames, Reached, start, past, mayFollow, mayEnd}
 use Rattle.rules.specs.View.{View, view}
 use Rattle.rules.specs.Check.{checkTold}
 use Rattle.rules.specs.Row.{Line, lines, Row, groupOf, values, rowOf, rowsOf}
@@ -40,7 +40,7 @@ unfoldable pub toSheet : List ℕ → ℕ → Told (List ℕ)
 toSheet m room = checkTold m >> sheetTold (view m) room
 
 -- ---- reading
--- a line's value holds, given the values vs of its group before it; "the text `""` is refused"
+-- a line's value holds, given the values vs of its group before it, which it joins; "the text `""` is refused"
 unfoldable pub lineOk : Line → List (List ℕ) → List ℕ → Bool
 lineOk l vs v = not (same v (bytes "\"\"")) && l .holds (vs ++ (v ∷ [])) v
 
@@ -50,34 +50,39 @@ lineTold i l vs t =
     let v = drop (length (keyOf l)) t in
     cond (starts (keyOf l) t) (cond (lineOk l vs v) (gives v) (refused 43 i 0)) (refused 42 i 0)
 
--- "After status comes item, order, specimen or the end": what may follow a group; an ORC has no lines
-unfoldable pub nextGroups : Name → List Name
-nextGroups a = cond (is a Obr) (after Orc) (after a)
-
 -- a line opens a group by its first key
 unfoldable pub opens : Name → List ℕ → Bool
 opens g t = elim (lines g) [ [] ↦ false | l ∷ ls ↦ starts (keyOf l) t ]
 
--- the one of some groups that the line number i opens; 42 where it opens none
-unfoldable pub openedBy : ℕ → List Name → List ℕ → Told Name
-openedBy i [] t = refused 42 i 0
-openedBy i (g ∷ gs) t = elim (opens g t) [ true ↦ gives g | false ↦ openedBy i gs t ]
+-- the first of some groups that a line opens; `Other` where it opens none
+unfoldable pub openedBy : List Name → List ℕ → Name
+openedBy [] t = Other
+openedBy (g ∷ gs) t = elim (opens g t) [ true ↦ g | false ↦ openedBy gs t ]
 
--- The rows from the line number i on, "lines in order", inside the group g: its values so far are vs, its lines to come ls. Where none
--- is to come, the next line opens a group. "At an early end, line count plus 1".
-unfoldable pub rowsTold : Name → List Line → List (List ℕ) → ℕ → List (List ℕ) → Told (List Row)
-rowsTold g [] vs i [] = cond (is g Obx) (gives (rowOf g vs)) (refused 42 i 0)
-rowsTold g (l ∷ ls) vs i [] = refused 42 i 0
-rowsTold g (l ∷ ls) vs i (t ∷ ts) = lineTold i l vs t >>= λ v. rowsTold g ls (vs ++ (v ∷ [])) (suc i) ts
-rowsTold g [] vs i (t ∷ ts) =
-    openedBy i (nextGroups g) t >>= λ h.
-    elim (lines h) [
-      | [] ↦ refused 42 i 0
-      | l ∷ ls ↦
-          lineTold i l [] t >>= λ v.
-          rowsTold h ls (v ∷ []) (suc i) ts >>= λ rows.
-          gives (rowOf g vs ++ rows)
-    ]
+-- the group that the line number i opens, where those before have led to a; "wrong or missing key": 42
+unfoldable pub openTold : Reached → ℕ → List ℕ → Told Name
+openTold a i t = let g = openedBy knownNames t in cond (mayFollow a g) (gives g) (refused 42 i 0)
+
+-- A group's lines ls, the next with the number i, given the values vs before it: all its values. "At an early end, line count plus 1".
+unfoldable pub groupTold : List Line → List (List ℕ) → ℕ → List (List ℕ) → Told (List (List ℕ))
+groupTold [] vs i ts = gives vs
+groupTold (l ∷ ls) vs i [] = refused 42 i 0
+groupTold (l ∷ ls) vs i (t ∷ ts) = lineTold i l vs t >>= λ v. groupTold ls (vs ++ (v ∷ [])) (suc i) ts
+
+-- where a group leads: an ORC has no lines
+unfoldable pub pastGroup : Reached → Name → Reached
+pastGroup a g = cond (is g Obr) (past (past a Obr) Orc) (past a g)
+
+-- The rows from the line number i on, "lines in order", where the groups before have led to a and the next k lines are the last one's.
+-- "After status comes item, order, specimen or the end".
+unfoldable pub rowsTold : Reached → ℕ → ℕ → List (List ℕ) → Told (List Row)
+rowsTold a k i [] = cond (mayEnd a) (gives []) (refused 42 i 0)
+rowsTold a (suc k) i (t ∷ ts) = rowsTold a k (suc i) ts
+rowsTold a zero i (t ∷ ts) =
+    openTold a i t >>= λ g.
+    groupTold (lines g) [] i (t ∷ ts) >>= λ vs.
+    rowsTold (pastGroup a g) (length (lines g) - 1) (suc i) ts >>= λ rows.
+    gives (rowOf g vs ++ rows)
 
 unfoldable pub linesOf : List ℕ → List (List ℕ)
 linesOf s = allButLast (split 0x0A s)
@@ -87,7 +92,7 @@ unfoldable pub readSheet : List ℕ → Told (List Row)
 readSheet s =
     refuse 40 if ltb 65536 (length s) else
     refuse 41 if not (keeps 0x0A s && empty (last (split 0x0A s))) else
-    rowsTold Other [] [] 1 (linesOf s)
+    rowsTold start 0 1 (linesOf s)
 
 -- ---- the rows that a sheet may have
 -- every line's value holds, given those before it
@@ -97,7 +102,12 @@ good [] vs (w ∷ ws) = false
 good (l ∷ ls) vs [] = false
 good (l ∷ ls) vs (w ∷ ws) = lineOk l vs w && good ls (vs ++ (w ∷ [])) ws
 
--- each group may follow the one before it, its values hold, and the last is a result
-unfoldable pub valid : Name → List Row → Bool
-valid a [] = is a Obx
-valid a (r ∷ rs) = any (is (groupOf r)) (nextGroups a) && (good (lines (groupOf r)) [] (values r) && valid (groupOf r) rs)
+-- each group may follow those before it, its values hold, and the sheet may end after the last
+unfoldable pub valid : Reached → List Row → Bool
+valid a [] = mayEnd a
+valid a (r ∷ rs) = mayFollow a (groupOf r) && (good (lines (groupOf r)) [] (values r) && valid (pastGroup a (groupOf r)) rs)
+
+-- to unfold this name is to unfold the definitions above
+unfoldable pub defined : Unit {0}
+unfolding keyOf linesText rowLines sheetOf sheetTold toSheet lineOk lineTold opens openedBy openTold groupTold pastGroup rowsTold linesOf readSheet good valid
+defined = tt

@@ -12,7 +12,7 @@ use Rattle.rules.specs.Frame.{digit, capitalOrDigit}
 
 -- the rules by name: YYYYMMDDHHMMSS; YYYYMMDD; NM; text of at most n bytes; n digits; at most n capitals or digits; one of some words
 pub data Rule : Type 0 where
-  time date number : Rule
+  time date numeric : Rule
   text digits capitals : ℕ → Rule
   words : String → Rule
 
@@ -54,7 +54,7 @@ spelled s = all (λ (b : ℕ). digit b || point b) s && leb (count point s) 1 &&
 unfoldable pub holds : Rule → List ℕ → Bool
 holds time v = digitsOk 14 v && dayOk v && clockOk v
 holds date v = digitsOk 8 v && dayOk v
-holds number v = spelled (unsigned v)
+holds numeric v = spelled (unsigned v)
 holds (text n) v = true
 holds (digits n) v = digitsOk n v
 holds (capitals n) v = leb (length v) n && all capitalOrDigit v
@@ -63,7 +63,7 @@ holds (words ws) v = isOneOf ws v
 unfoldable pub tooLong : Rule → List ℕ → Bool
 tooLong time v = false
 tooLong date v = false
-tooLong number v = ltb 16 (length v)
+tooLong numeric v = ltb 16 (length v)
 tooLong (text n) v = ltb n (length v)
 tooLong (digits n) v = false
 tooLong (capitals n) v = false
@@ -75,3 +75,8 @@ fault required r v = cond (empty v) (20 when required) (24 when tooLong r v then
 
 abbrev pub fits : Bool → Rule → List ℕ → Bool
 fits required r v = eqb (fault required r v) 0
+
+-- to unfold this name is to unfold the definitions above
+unfoldable pub defined : Unit {0}
+unfolding leap daysIn two dayOk clockOk unsigned spelled holds tooLong fault
+defined = tt

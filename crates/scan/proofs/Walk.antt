@@ -4,27 +4,25 @@ use mathlib.Core.Bool.{Bool, true, false, not, _&&_, _||_}
 use mathlib.Core.List.{List, [], _∷_, _++_, map, append-assoc, append-nil}
 use Prim.Native.Nat.{ℕ, zero, suc, _+_, _-_, _≤_, _<_}
 use native.Mathlib.Omega.{arith}
-use borrow.Author.Tests.{eqb-false, eq-eqb, ne-eqb, leb-true}
+use borrow.Author.Tests.{eq-eqb, ne-eqb, leb-true}
 use mir.Syntax.{w8}
 use mir.Val.{Fits}
 use lib.Dec.{eqb, leb}
 use lib.ListN.{length, getD, take, drop, length-append}
-use lib.Seq.{drop-drop, take-at, drop-at}
+use lib.Seq.{drop-drop}
 use Rattle.rules.specs.declared.Delims.{Delims}
 use Rattle.rules.specs.declared.Mode.{Mode}
 use Rattle.rules.specs.declared.Mode.the-variants.{One, Two, Second}
 use Rattle.rules.specs.Shift.{step, isOne, walk, keeps, mark, marks, met, within, byteOf}
-use Rattle.rules.specs.Lists.{bytes, nth, has, all, split}
+use Rattle.rules.specs.Lists.{bytes, has, all, later}
 use Rattle.rules.specs.Proper.{Delim, Proper}
-use Rattle.rules.specs.Fetch.{startOf}
 use Rattle.rules.proofs.Logic.{both, not-true, not-false, never, and-true, and-assoc, or-false, or-assoc}
-use Rattle.rules.proofs.Lists.{here, over, rest-is, has-cons, has-nil, has-append}
-use Rattle.rules.proofs.Split.{split-next, split-none, later}
-use Rattle.rules.proofs.Pieces.{start-first, start-next, start-over}
+use Rattle.rules.proofs.Lists.{here, over, rest-is, has-cons, has-nil}
 use Rattle.rules.proofs.Modes.{one-is, met-as, byte-met, still-one, marks-here, marks-over, length-marks, met-rest}
 use Rattle.rules.proofs.Header.{printable, delim-small, delim-apart}
-use Rattle.scan.specs.Scan.{is, meetsOf, until, after, onward, between, hidden, Hides, Units, Reaches, ends, escapes, plainText, nextFrom, next, alnum, CutOf, TailOf}
-use Rattle.scan.proofs.Laws.{map-append, between-none, between-one, between-first, between-rest, between-then, between-take, between-length, until-yes, until-no, until-nil, until-stops, after-drop, Far, far-is, far-escapes, ends-far, hidden-append, hidden-nil, hidden-length, hidden-bytes, hidden-until, hidden-has, hidden-free, hidden-plain, plain-cons, plain-nil, from-met, alnum-plain}
+use Rattle.bytes.specs.Bytes.{is, until}
+use Rattle.scan.specs.Scan.{meetsOf, after, onward, between, hidden, Hides, Units, Reaches, ends, escapes, plainText, nextFrom, next, alnum, CutOf, TailOf}
+use Rattle.scan.proofs.Laws.{map-append, between-none, between-one, between-first, between-then, between-take, between-length, until-yes, until-no, until-nil, until-stops, after-drop, Far, far-is, far-escapes, ends-far, hidden-append, hidden-nil, hidden-length, hidden-bytes, hidden-until, hidden-has, hidden-plain, plain-cons, plain-nil, from-met, alnum-plain}
 
 -- ---- meets
 pub meets-is : (m : Mode) (b a : ℕ) (t : Bool) → a < 256 → t ≡ isOne m → (t && eqb b a) ≡ meetsOf a (mark m b)
@@ -218,138 +216,6 @@ module _ (end sep : ℕ) (s : List ℕ) (i : ℕ) (inv : Before end s (is sep) i
 
   pub find-over : length s ≤ i → i ≡ length (until (is sep) (marks end One s))
   find-over h = before-done end s i (is sep) inv (until-over end s i (is sep) h)
-
--- ---- part
--- where the n-th piece begins: the first, one past a separator, an absent one
--- the text from i to j among the marks of the whole
-cut-on : (end : ℕ) (s : List ℕ) (i j : ℕ) (k : Bool) → drop i (marks end One s) ≡ marks end One (drop i s) → Reaches end s i j k
-    → (drop j (marks end One s) ≡ marks end One (drop j s)) × (between i j (marks end One s) ≡ getD s i 0 ∷ hidden (between (i + 1) j s))
-cut-on end s i j k e r =
-    let v : List ℕ = getD s i 0 ∷ hidden (between (i + 1) j s) in
-    let rest : List ℕ = marks end One (drop j s) in
-    let whole : drop i (marks end One s) ≡ v ++ rest = e ∙ r .met in
-    let long : length v ≡ j - i = omega (arith, hidden-length (between (i + 1) j s), between-length s (i + 1) j (r .inside), r .later) in
-    let sum : i + (j - i) ≡ j = omega (arith, r .later) in (
-      ap (λ n. drop n (marks end One s)) (sym sum) ∙ sym (drop-drop (j - i) i (marks end One s)) ∙ ap (drop (j - i)) whole ∙ drop-at v rest (j - i) long,
-      ap (take (j - i)) whole ∙ take-at v rest (j - i) long,
-    )
-
--- of the n-th stretch of s, `left` separators are still to come after `at`, and none stands between `at` and i
-pub record Parting (end sep n : ℕ) (s : List ℕ) (left at i : ℕ) : Type 0 where
-  pub later : at ≤ i
-  pub place : startOf sep n (marks end One s) ≡ at + startOf sep left (drop at (marks end One s))
-  pub stretch : nth (split sep (marks end One s)) n ≡ nth (split sep (drop at (marks end One s))) left
-  pub here : drop i (marks end One s) ≡ marks end One (drop i s)
-  pub free : has sep (between at i (marks end One s)) ≡ false
-  pub raw : map byteOf (between at i (marks end One s)) ≡ between at i s
-
--- the stretch that is given back, and its place, where the whole stands at p
-abbrev PartOf : ℕ → ℕ → ℕ → List ℕ → List ℕ → ℕ × ℕ → ℕ × ℕ → Type 0
-PartOf end sep n s r p q = (r ≡ map byteOf (nth (split sep (marks end One s)) n)) × (q ≡ (p .0, startOf sep n (marks end One s) + p .1))
-
-pub part-starts : (end sep n : ℕ) (s : List ℕ) → Parting end sep n s n 0 0
-unfolding has
-part-starts end sep n s = record { later = omega arith; place = omega arith; stretch = refl; here = refl; free = has-nil sep; raw = refl }
-
-module _ (end sep n : ℕ) (s : List ℕ) (left at i : ℕ) (inv : Parting end sep n s left at i) where
-  pub part-on : (j : ℕ) (k : Bool) → Reaches end s i j k → sep < 256 → (getD s i 0 ≡ sep → ⊥) → Parting end sep n s left at j
-  part-on j k r l n =
-      let m : List ℕ = marks end One s in
-      let c = cut-on end s i j k (inv .here) r in
-      let far : i ≤ j = omega (arith, r .later) in
-      let none : has sep (between i j m) ≡ false
-      = ap (has sep) (c .1) ∙ has-cons sep (getD s i 0) (hidden (between (i + 1) j s)) ∙ rw (ne-eqb (getD s i 0) sep n) (hidden-free sep l (between (i + 1) j s)) in
-      record {
-        later = omega (arith, inv .later);
-        place = inv .place;
-        stretch = inv .stretch;
-        here = c .0;
-        free = ap (has sep) (between-then m at i j (inv .later) far) ∙ has-append sep (between at i m) (between i j m) ∙ rw (inv .free) none;
-        raw = ap (map byteOf) (between-then m at i j (inv .later) far) ∙ map-append byteOf (between at i m) (between i j m)
-            ∙ rw (inv .raw, c .1, bytes-on end s i j k r) (sym (between-then s at i j (inv .later) far));
-      }
-
-  pub part-plain : (t : Bool) → i < length s → sep < 256 → t ≡ within 0x20 0x7E (getD s i 0) → (t && not (eqb (getD s i 0) sep)) ≡ true → Parting end sep n s left at (i + 1)
-  part-plain t h l e y =
-      let q = both t (not (eqb (getD s i 0) sep)) y in
-      part-on (i + 1) true (plain-on end s i h (sym e ∙ q .0)) l (eqb-false (getD s i 0) sep (not-true (eqb (getD s i 0) sep) (q .1)))
-
-  cut-here : i < length s → drop at (marks end One s) ≡ between at i (marks end One s) ++ (getD s i 0 ∷ drop (i + 1) (marks end One s))
-  unfolding mark isOne
-  cut-here h =
-      let m : List ℕ = marks end One s in
-      let next : drop i m ≡ getD m i 0 ∷ drop (i + 1) m = here 0 m i (omega (arith, length-marks end One s)) in
-      let same : getD m i 0 ≡ getD s i 0 = let q : getD m i 0 ∷ drop (i + 1) m ≡ getD s i 0 ∷ marks end (step end One (getD s i 0)) (drop (i + 1) s) = sym next ∙ inv .here ∙ marks-here end s i One h in cc in
-      between-rest m at i (inv .later) ∙ ap (λ l. between at i m ++ l) (next ∙ ap (λ x. x ∷ drop (i + 1) m) same)
-
--- at a separator: a stretch further on, or this one
-module _ (end sep n : ℕ) (s : List ℕ) where
-  pub part-next : (left at i j : ℕ) (k : Bool) → Parting end sep n s left at i → Reaches end s i j k → sep < 256 → getD s i 0 ≡ sep → (left ≡ 0 → ⊥)
-      → Parting end sep n s (left - 1) (i + 1) j
-  part-next zero at i j k inv r l e z = absurd (z refl)
-  part-next (suc left) at i j k inv r l e z =
-      let m : List ℕ = marks end One s in
-      let v : List ℕ = between at i m in
-      let w : List ℕ = between (i + 1) j s in
-      let long : length v ≡ i - at = between-length m at i (omega (arith, length-marks end One s, r .later, r .inside)) in
-      let one : suc left - 1 ≡ left = omega arith in
-      let c = cut-on end s i j k (inv .here) r in
-      let cut : drop at m ≡ v ++ (sep ∷ drop (i + 1) m)
-      = cut-here end sep n s (suc left) at i inv (omega (arith, r .later, r .inside)) ∙ ap (λ x. v ++ (x ∷ drop (i + 1) m)) e in
-      let w-is : between (i + 1) j m ≡ hidden w
-      = let q : getD m i 0 ∷ between (i + 1) j m ≡ getD s i 0 ∷ hidden w = sym (between-first m i j (r .later) (omega (arith, length-marks end One s, r .inside))) ∙ c .1 in cc in
-      let start : startOf sep (suc left) (drop at m) ≡ suc (length v) + startOf sep left (drop (i + 1) m) = ap (startOf sep (suc left)) cut ∙ start-next sep left v (drop (i + 1) m) (inv .free) ∙ omega arith in
-      record {
-        later = omega (arith, r .later);
-        place = rw one (omega (arith, inv .place, start, long, inv .later));
-        stretch = rw one (inv .stretch ∙ ap (λ l. nth (split sep l) (suc left)) cut ∙ ap (λ ps. nth ps (suc left)) (split-next sep v (drop (i + 1) m) (inv .free)));
-        here = c .0;
-        free = ap (has sep) w-is ∙ hidden-free sep l w;
-        raw = ap (map byteOf) w-is ∙ hidden-bytes w;
-      }
-
-  pub part-here : (left at i x y : ℕ) → Parting end sep n s left at i → i < length s → getD s i 0 ≡ sep → left ≡ 0 → PartOf end sep n s (between at i s) (x, y) (x, at + y)
-  part-here left at i x y inv h e z =
-      let m : List ℕ = marks end One s in
-      let v : List ℕ = between at i m in
-      let cut : drop at m ≡ v ++ (sep ∷ drop (i + 1) m) = cut-here end sep n s left at i inv h ∙ ap (λ x. v ++ (x ∷ drop (i + 1) m)) e in
-      let is-v : nth (split sep m) n ≡ v
-      = inv .stretch ∙ rw z (ap (λ l. nth (split sep l) 0) cut ∙ ap (λ ps. nth ps 0) (split-next sep v (drop (i + 1) m) (inv .free))) in (
-        sym (ap (map byteOf) is-v ∙ inv .raw),
-        let q : startOf sep n m ≡ at + 0 = inv .place ∙ rw z (ap (λ k. at + k) (start-first sep (drop at m))) in
-            let e : at ≡ startOf sep n m = omega arith in ap (λ k. (x, k + y)) e,
-      )
-
-  -- at the end: the last stretch, or an absent one
-  cut-over : (left at i : ℕ) → Parting end sep n s left at i → length s ≤ i → drop at (marks end One s) ≡ between at i (marks end One s)
-  cut-over left at i inv h =
-      between-rest (marks end One s) at i (inv .later) ∙ ap (λ l. between at i (marks end One s) ++ l) (inv .here ∙ marks-over end s i One h)
-      ∙ append-nil (between at i (marks end One s))
-
-  pub part-last : (left at i x y : ℕ) → Parting end sep n s left at i → i ≤ length s → length s ≤ i → left ≡ 0 → PartOf end sep n s (between at (length s) s) (x, y) (x, at + y)
-  part-last left at i x y inv g h z =
-      let m : List ℕ = marks end One s in
-      let v : List ℕ = between at i m in
-      let ends : i ≡ length s = omega arith in
-      let is-v : nth (split sep m) n ≡ v
-      = inv .stretch ∙ rw z (ap (λ l. nth (split sep l) 0) (cut-over left at i inv h) ∙ ap (λ ps. nth ps 0) (split-none sep v (inv .free))) in (
-        sym (ap (map byteOf) is-v ∙ inv .raw ∙ ap (λ k. between at k s) ends),
-        let q : startOf sep n m ≡ at + 0 = inv .place ∙ rw z (ap (λ k. at + k) (start-first sep (drop at m))) in
-            let e : at ≡ startOf sep n m = omega arith in ap (λ k. (x, k + y)) e,
-      )
-
-  pub part-none : (left at i x y : ℕ) → Parting end sep n s left at i → i ≤ length s → length s ≤ i → (left ≡ 0 → ⊥) → PartOf end sep n s (between i (length s) s) (x, y) (x, i + y)
-  part-none zero at i x y inv g h z = absurd (z refl)
-  part-none (suc left) at i x y inv g h z =
-      let m : List ℕ = marks end One s in
-      let v : List ℕ = between at i m in
-      let whole : drop at m ≡ v = cut-over (suc left) at i inv h in
-      let none : nth (split sep m) n ≡ [] = inv .stretch ∙ ap (λ l. nth (split sep l) (suc left)) whole ∙ ap (λ ps. nth ps (suc left)) (split-none sep v (inv .free)) in
-      let long : length v ≡ i - at = between-length m at i (omega (arith, length-marks end One s)) in
-      let q : startOf sep n m ≡ at + length v = inv .place ∙ ap (λ k. at + k) (ap (startOf sep (suc left)) whole ∙ start-over sep left v (inv .free)) in (
-        let e : length s ≡ i = omega arith in ap (λ k. between i k s) e ∙ between-none s i ∙ sym (ap (map byteOf) none),
-        let e : i ≡ startOf sep n m = omega (arith, inv .later) in ap (λ k. (x, k + y)) e,
-      )
 
 -- ---- past
 past-at : (s : List ℕ) (sep r : ℕ) → sep < 256 → r ≡ length (until (is sep) (met s)) → after sep (met s) ≡ drop 1 (met (drop r s))

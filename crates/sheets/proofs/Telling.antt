@@ -10,11 +10,11 @@ use lib.ListN.{length, getD}
 use Rattle.rules.specs.declared.Kind.the-variants.{SheetTooLong, SheetBytes}
 use Rattle.rules.specs.declared.Refusal.{Refusal}
 use Rattle.rules.specs.Told.{Told, refusal, _>>_}
-use Rattle.rules.specs.Lists.{empty, split, onto, last}
+use Rattle.rules.specs.Lists.{empty, split, onto, last, front, later}
 use Rattle.rules.specs.Shift.{keeps}
 use Rattle.rules.specs.Sheet.{readSheet}
 use Rattle.rules.proofs.Logic.{cases, not-true, not-false, guard}
-use Rattle.rules.proofs.Split.{split-here, split-there, split-cons, front, later, last-split}
+use Rattle.rules.proofs.Split.{split-here, split-there, split-cons, last-split}
 use Rattle.sheets.specs.declared.Judged.{Judged}
 use Rattle.sheets.specs.declared.Judged.the-variants.{Right, Wrong}
 use Rattle.sheets.specs.Sheet.{refusalAt, toldJudged, readableTold, rowsIn, groupsTold, judgedTold}

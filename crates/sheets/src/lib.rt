@@ -1,15 +1,14 @@
 // A sheet judged: 40 and 41, then its groups, line by line, 42 and 43.
 use lines::Verdict;
 use rules::Kind;
-use rules::Name;
 use rules::Refusal;
 ghost use mathlib.Core.Path.{_≡_};
 ghost use Prim.Native.Nat.{_+_, _≤_};
 ghost use lib.ListN.{length};
 ghost use Rattle.rules.specs.Lists.{empty, last, split};
-ghost use Rattle.rules.specs.Frame.{is};
-ghost use Rattle.lines.specs.Lines.{indexOf};
-ghost use Rattle.sheets.specs.Sheet.{kindOf, refusalAt, toldJudged, readableTold, groupsTold, judgedTold};
+ghost use Rattle.lines.specs.Lines.{longestSheet};
+ghost use Rattle.groups.specs.Groups.{indexOf};
+ghost use Rattle.sheets.specs.Sheet.{kindOf, refusalAt, toldJudged, readableTold, groupsTold, judgedTold, farthestLine};
 
 pub enum Judged {
     Right,
@@ -74,56 +73,40 @@ fn kind(v: Verdict) -> Kind
     match v {
         Verdict::Fine => Kind::Key,
         Verdict::Key(_) => Kind::Key,
-        Verdict::Value(_) => Kind::Line,
+        Verdict::Value(_) => Kind::LineValue,
     }
 }
 
 // The refusal of a group whose first line has this number.
 pub fn unread(v: Verdict, line: usize) -> Refusal
-    requires { ⌜ (indexOf v ≤ 10) × (line ≤ 1000000) ⌝ }
+    requires { ⌜ (indexOf v ≤ 10) × (line ≤ farthestLine) ⌝ }
     ensures { λ r. ⌜ r ≡ refusalAt (kindOf v) (line + indexOf v) ⌝ }
 {
     refused(kind(v), line + index(v))
 }
 
-// Whether a sheet may end behind a group: "After status comes item, order, specimen or the end".
-pub fn is_result(name: Name) -> bool
-    ensures { λ r. ⌜ r ≡ is name Name.Obx ⌝ }
-{
-    match name {
-        Name::Msh => false,
-        Name::Pid => false,
-        Name::Pv1 => false,
-        Name::Spm => false,
-        Name::Obr => false,
-        Name::Orc => false,
-        Name::Obx => true,
-        Name::Other => false,
-    }
-}
-
-fn groups(sheet: &[u8]) -> Judged
-    requires { ⌜ length (now sheet) ≤ 65536 ⌝ }
+fn read_groups(sheet: &[u8]) -> Judged
+    requires { ⌜ length (now sheet) ≤ longestSheet ⌝ }
     ensures { λ r. ⌜ toldJudged r ≡ groupsTold (now (sheet .entry)) ⌝ }
 {
-    let mut group = Name::Other;
+    let mut reached = order::start();
     let mut at = 0;
     let mut line = 1;
     let mut places = lines::cut(sheet);
     while lines::has_line(&places) {
         let rest = &sheet[at..];
-        let next = lines::next_group(group, rest, &places);
-        let v = lines::group(next, rest, &places);
+        let next = openings::next_group(reached, rest, &places);
+        let v = groups::group(next, rest, &places);
         if !lines::fine(v) {
             return Judged::Wrong(unread(v, line));
         }
-        let n = lines::lines_in(next);
+        let n = groups::lines_in(next);
         line += n;
         at += places[n];
-        group = next;
+        reached = openings::past_group(reached, next);
         places = lines::cut(&sheet[at..]);
     }
-    if !is_result(group) {
+    if !order::may_end(reached) {
         return Judged::Wrong(refused(Kind::Key, line));
     }
     Judged::Right
@@ -135,6 +118,6 @@ pub fn judge(sheet: &[u8]) -> Judged
 {
     match readable(sheet) {
         Judged::Wrong(r) => Judged::Wrong(r),
-        Judged::Right => groups(sheet),
+        Judged::Right => read_groups(sheet),
     }
 }

@@ -143,17 +143,17 @@ at-rest bar z f = record {
   inside = λ q. listCases z (λ e. never (sym (ok-nil bar) ∙ rw e at q)) (λ x r e. omega (arith, ap length e));
 }
 
-there : (bar : ℕ) (ps : List (List ℕ)) (z : List ℕ) → frees 0x0D ps ≡ true → has 0x0D z ≡ false → SegmentThere bar (ended 0x0D ps ++ z) (goodBytes bar ps)
+first-bad : (bar : ℕ) (ps : List (List ℕ)) (z : List ℕ) → frees 0x0D ps ≡ true → has 0x0D z ≡ false → SegmentThere bar (ended 0x0D ps ++ z) (goodBytes bar ps)
 unfolding ended goodBytes
-there bar [] z h f = at-rest bar z f
-there bar (p ∷ ps) z h f =
+first-bad bar [] z h f = at-rest bar z f
+first-bad bar (p ∷ ps) z h f =
     let q = frees-both 0x0D p ps h in
     rw (append-assoc p (0x0D ∷ ended 0x0D ps) z)
     (cases (goodOf bar p)
-    (λ e. rw (good-next bar p ps e) (past-good bar p (ended 0x0D ps ++ z) (goodBytes bar ps) (q .0) e (there bar ps z (q .1) f)))
+    (λ e. rw (good-next bar p ps e) (past-good bar p (ended 0x0D ps ++ z) (goodBytes bar ps) (q .0) e (first-bad bar ps z (q .1) f)))
     (λ e. rw (good-bad bar p ps e) (at-bad bar p (ended 0x0D ps ++ z) (q .0) e)))
 
 pub segments-before : SegmentsBefore
 unfolding segments
 segments-before bar m =
-    rw (ended-split 0x0D m) at (there bar (segments m) (last (split 0x0D m)) (segments-free m) (last-free 0x0D (split 0x0D m) (split-frees 0x0D m)))
+    rw (ended-split 0x0D m) at (first-bad bar (segments m) (last (split 0x0D m)) (segments-free m) (last-free 0x0D (split 0x0D m) (split-frees 0x0D m)))

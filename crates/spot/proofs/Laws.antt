@@ -16,12 +16,12 @@ use Rattle.rules.specs.Shift.{step}
 use Rattle.rules.specs.Frame.{delimsOf, segments}
 use Rattle.rules.proofs.Logic.{not-true, not-false}
 use Rattle.rules.proofs.Lists.{here, over, rest-is, rest-inside, part-length}
-use Rattle.scan.specs.Scan.{is, until}
-use Rattle.value.proofs.Laws.{split-last}
+use Rattle.bytes.specs.Bytes.{is, until}
+use Rattle.bytes.proofs.Laws.{split-last}
 use Rattle.frame.specs.Frame.{goodOf}
 use Rattle.frame.proofs.Laws.{there, segment-there}
 use Rattle.spot.specs.declared.Spot.{Spot}
-use Rattle.spot.specs.Spot.{isBad, keptBytes, goodBytes, placeAt, nowhere, spotOf}
+use Rattle.spot.specs.Spot.{isBad, keptBytes, goodBytes, placeAt, noPlace, longestText, spotOf}
 
 -- ---- line ends
 module _ (end : ℕ) (s : List ℕ) (i n : ℕ) (inv : count (is end) s ≡ n + count (is end) (drop i s)) where
@@ -33,7 +33,7 @@ module _ (end : ℕ) (s : List ℕ) (i n : ℕ) (inv : count (is end) s ≡ n + 
   unfolding count
   ends-over h = let q : count (is end) (drop i s) ≡ 0 = rw (over s i h) in omega arith
 
-pub ends-few : (at n : ℕ) (s : List ℕ) → at ≤ length s → length s ≤ 65536 → n ≤ length (take at s) → Fits w64 (n + 1)
+pub ends-few : (at n : ℕ) (s : List ℕ) → at ≤ length s → length s ≤ longestText → n ≤ length (take at s) → Fits w64 (n + 1)
 ends-few at n s h l k = omega (arith, part-length at s h)
 
 -- ---- 12, 41
@@ -120,24 +120,24 @@ unfolding placeAt
 place-is end at n s e = rw e
 
 module _ (n : ℕ) (s : List ℕ) where
-  pub spot-far : 65536 < length s → nowhere ≡ spotOf n s
+  pub spot-far : longestText < length s → noPlace ≡ spotOf n s
   unfolding spotOf
-  spot-far h = rw (lt-ltb 65536 (length s) h)
+  spot-far h = rw (lt-ltb longestText (length s) h)
 
-  module _ (l : length s ≤ 65536) where
-    pub spot-none : (n ≡ 12 → ⊥) → (n ≡ 13 → ⊥) → (n ≡ 41 → ⊥) → nowhere ≡ spotOf n s
+  module _ (l : length s ≤ longestText) where
+    pub spot-none : (n ≡ 12 → ⊥) → (n ≡ 13 → ⊥) → (n ≡ 41 → ⊥) → noPlace ≡ spotOf n s
     unfolding spotOf
-    spot-none a b c = rw (le-ltb 65536 (length s) l, ne-eqb n 12 a, ne-eqb n 13 b, ne-eqb n 41 c)
+    spot-none a b c = rw (le-ltb longestText (length s) l, ne-eqb n 12 a, ne-eqb n 13 b, ne-eqb n 41 c)
 
     module _ (r : Spot) (k : ℕ) where
       pub spot-12 : n ≡ 12 → k ≡ keptBytes 0x0D One s → r ≡ placeAt 0x0D k s → r ≡ spotOf n s
       unfolding spotOf
-      spot-12 e ek er = rw (le-ltb 65536 (length s) l, eq-eqb n 12 e, er, ek)
+      spot-12 e ek er = rw (le-ltb longestText (length s) l, eq-eqb n 12 e, er, ek)
 
       pub spot-13 : (bar : ℕ) → n ≡ 13 → bar ≡ delimsOf s .field → k ≡ goodBytes bar (segments s) → r ≡ placeAt 0x0D k s → r ≡ spotOf n s
       unfolding spotOf
-      spot-13 bar e eb ek er = rw (le-ltb 65536 (length s) l, e, er, ek, eb)
+      spot-13 bar e eb ek er = rw (le-ltb longestText (length s) l, e, er, ek, eb)
 
       pub spot-41 : n ≡ 41 → k ≡ keptBytes 0x0A One s → r ≡ placeAt 0x0A k s → r ≡ spotOf n s
       unfolding spotOf
-      spot-41 e ek er = rw (le-ltb 65536 (length s) l, e, er, ek)
+      spot-41 e ek er = rw (le-ltb longestText (length s) l, e, er, ek)

@@ -1,4 +1,5 @@
 -- Where a text breaks the rule of a refusal that names no place: 12, 13 and 41.
+use mathlib.Core.Path.{_≡_}
 use mathlib.Core.Bool.{Bool, true, false, cond}
 use mathlib.Core.List.{List, [], _∷_}
 use Prim.Native.Nat.{ℕ, suc, _+_}
@@ -9,7 +10,7 @@ use Rattle.rules.specs.declared.Mode.the-variants.{One, Esc1, Esc2, Two, Second
 use Rattle.rules.specs.Lists.{count}
 use Rattle.rules.specs.Shift.{step}
 use Rattle.rules.specs.Frame.{delimsOf, segments}
-use Rattle.scan.specs.Scan.{is}
+use Rattle.bytes.specs.Bytes.{is}
 use Rattle.frame.specs.Frame.{goodOf}
 use Rattle.spot.specs.declared.Spot.{Spot}
 
@@ -42,14 +43,21 @@ goodBytes bar (s ∷ ss) = elim (goodOf bar s) [ true ↦ suc (length s) + goodB
 unfoldable pub placeAt : ℕ → ℕ → List ℕ → Spot
 placeAt end at s = record { line = count (is end) (take at s) + 1; byte = at + 1 }
 
-abbrev pub nowhere : Spot
-nowhere = record { line = 0; byte = 0 }
+abbrev pub noPlace : Spot
+noPlace = record { line = 0; byte = 0 }
 
--- A text over 65,536 bytes is refused with 10 or 40, which name no place.
+-- A longer text is refused with 10 or 40, which name no place.
+abbrev pub longestText : ℕ
+longestText = 65536
+
 unfoldable pub spotOf : ℕ → List ℕ → Spot
 spotOf n s =
-    cond (ltb 65536 (length s)) nowhere
+    cond (ltb longestText (length s)) noPlace
     (cond (eqb n 12) (placeAt 0x0D (keptBytes 0x0D One s) s)
     (cond (eqb n 13) (placeAt 0x0D (goodBytes (delimsOf s .field) (segments s)) s)
     (cond (eqb n 41) (placeAt 0x0A (keptBytes 0x0A One s) s)
-    nowhere)))
+    noPlace)))
+
+-- THE PROMISE of the call: the place r at which a text breaks the rule of the refusal with a number
+abbrev pub SpotTold : List ℕ → ℕ → Spot → Type 0
+SpotTold text number r = r ≡ spotOf number text

@@ -8,8 +8,8 @@ ghost use lib.ListN.{length};
 ghost use Rattle.rules.specs.declared.Mode.the-variants.{One};
 ghost use Rattle.rules.specs.Lists.{count};
 ghost use Rattle.rules.specs.Frame.{delimsOf, segments};
-ghost use Rattle.scan.specs.Scan.{is};
-ghost use Rattle.spot.specs.Spot.{isBad, keptBytes, goodBytes, placeAt, spotOf};
+ghost use Rattle.bytes.specs.Bytes.{is};
+ghost use Rattle.spot.specs.Spot.{isBad, keptBytes, goodBytes, placeAt, longestText, SpotTold};
 
 // A place in a text: its line and its byte, each counted from 1; 0 where none is named.
 pub struct Spot {
@@ -19,7 +19,7 @@ pub struct Spot {
 
 // The place at which a text breaks the rule of the refusal with this number.
 pub fn spot_of(text: &[u8], number: usize) -> Spot
-    ensures { λ r. ⌜ r ≡ spotOf number (now (text .entry)) ⌝ }
+    ensures { λ r. ⌜ SpotTold (now (text .entry)) number r ⌝ }
 {
     if 65536 < text.len() {
         return Spot { line: 0, byte: 0 };
@@ -38,7 +38,7 @@ pub fn spot_of(text: &[u8], number: usize) -> Spot
 
 // The place behind the first `at` bytes.
 fn place(text: &[u8], end: u8, at: usize) -> Spot
-    requires { ⌜ (at ≤ length (now text)) × (length (now text) ≤ 65536) ⌝ }
+    requires { ⌜ (at ≤ length (now text)) × (length (now text) ≤ longestText) ⌝ }
     ensures { λ r. ⌜ r ≡ placeAt end at (now (text .entry)) ⌝ }
 {
     Spot {
@@ -120,7 +120,7 @@ fn good_bytes(m: &[u8], field: u8) -> usize
     let mut at = 0;
     while at < m.len() {
         let rest = &m[at..];
-        let n = value::before(rest, 0x0D);
+        let n = bytes::before(rest, 0x0D);
         if n == rest.len() {
             return at;
         }

@@ -4,22 +4,22 @@ use mathlib.Core.Bool.{true, false, _||_}
 use mathlib.Core.List.{List}
 use Prim.Native.Nat.{ℕ, _≤_, _<_}
 use native.Mathlib.Omega.{arith}
-use borrow.Author.Tests.{lt-ltb, le-ltb, ltb-false}
+use borrow.Author.Tests.{lt-ltb, le-ltb}
 use lib.Dec.{ltb}
 use lib.ListN.{length}
 use Rattle.rules.specs.declared.Delims.{Delims}
 use Rattle.rules.specs.declared.Kind.the-variants.{Overflow, Room}
 use Rattle.rules.specs.declared.Refusal.{Refusal}
-use Rattle.rules.specs.declared.Written.{Written}
 use Rattle.rules.specs.declared.Written.the-variants.{Wrote, NotWritten}
-use Rattle.rules.specs.Told.{Told, gives, refused, refusal, over, toldLength, lengthOf, Call}
+use Rattle.rules.specs.Told.{Told, gives, refused, refusal, over, Call}
 use Rattle.rules.specs.Lists.{bytes, all, any, has, distinct}
 use Rattle.rules.specs.Frame.{delimsOk}
 use Rattle.rules.specs.Proper.{Proper}
 use Rattle.rules.specs.Row.{Row}
 use Rattle.rules.specs.Sheet.{readSheet}
-use Rattle.rules.specs.Message.{base, written, messageOf, messageTold, toMessage}
-use Rattle.rules.proofs.Logic.{not-given, toldCases, guard, then-gives, called-as}
+use Rattle.rules.specs.Message.{base, messageOf, messageTold, toMessage}
+use Rattle.rules.specs.Promises.{MessageWritten}
+use Rattle.rules.proofs.Logic.{not-given, toldCases, then-gives, called-as}
 use Rattle.rules.proofs.Header.{proper}
 use Rattle.writer.specs.Over as Over
 use Rattle.sheets.specs.declared.Judged.{Judged}
@@ -39,7 +39,7 @@ base-proper d e = rw e (proper base (unfold delimsOk base all any has distinct b
 
 -- a refusal leaves the buffer as it was
 kept : (x : List ℕ) (k : Refusal) → Call (refusal k) x (NotWritten k) x
-kept x k = record { told = refl; buffer = refl }
+kept x k = record { told = refl; buffer = refl; within = λ n e. let z : _≡_ {A = ℕ} 0 1 = cc in absurd (omega arith) }
 
 -- ---- a sheet s that was read: its length, and its rows
 module _ (s : List ℕ) (rows : List Row) (e : readSheet s ≡ gives rows) where
@@ -64,56 +64,28 @@ module _ (s : List ℕ) (size : Size) (g : gives size ≡ measuredTold s) where
 
   module _ (x : List ℕ) where
     module _ (k : Refusal) where
-      pub write-44 : (ltb 32768 (size .bytes) || ltb 512 (size .segments)) ≡ true → k ≡ refusalAt Overflow 0 → Call (toMessage s (length x)) x (NotWritten k) x
+      pub write-44 : (ltb 32768 (size .bytes) || ltb 512 (size .segments)) ≡ true → k ≡ refusalAt Overflow 0 → MessageWritten s x (NotWritten k) x
       unfolding toMessage messageTold
       write-44 h f = measured (λ rows e z. called-as {u = refusal k} (rw (e, rw z at h) (ap refusal (sym f))) (kept x k))
 
     module _ (h : (ltb 32768 (size .bytes) || ltb 512 (size .segments)) ≡ false) where
-      pub write-45 : (k : Refusal) → length x < size .bytes → k ≡ refusalAt Room 0 → Call (toMessage s (length x)) x (NotWritten k) x
+      pub write-45 : (k : Refusal) → length x < size .bytes → k ≡ refusalAt Room 0 → MessageWritten s x (NotWritten k) x
       unfolding toMessage messageTold
       write-45 k l f = measured (λ rows e z. called-as {u = refusal k} (rw (e, rw z at h, lt-ltb (length x) _ (rw z at l)) (ap refusal (sym f))) (kept x k))
 
-      pub write-all : size .bytes ≤ length x → (d : Delims) → d ≡ base → (p : Passed) (y : List ℕ) → Pass d s x p y →
-          Call (toMessage s (length x)) x (Wrote (size .bytes)) y
+      pub write-all : size .bytes ≤ length x → (d : Delims) → d ≡ base → (p : Passed) (y : List ℕ) → Pass d s x p y → MessageWritten s x (Wrote (size .bytes)) y
       unfolding toMessage messageTold Over.over
       write-all l d b p y t =
           let t : Pass base s x p y = rw b at t in
           measured (λ rows e z. called-as {u = gives (messageOf base rows)} (rw (e, rw z at h, le-ltb (length x) _ (rw z at l)))
-          (record { told = ap (λ (v : Size). gives (v .bytes)) z; buffer = t .wrote rows (read-whole s rows e .1) (rw z at l) }))
+          (record { told = ap (λ (v : Size). gives (v .bytes)) z; buffer = t .wrote rows (read-whole s rows e .1) (rw z at l); within = λ n w. let q : size .bytes ≡ n = cc in rw q at l }))
 
--- ---- what is written has room
-has-room : (d : Delims) (rows : List Row) (room : ℕ) (m : List ℕ) → messageTold d rows room ≡ gives m → length m ≤ room
-unfolding messageTold
-has-room d rows room m h =
-    let g = guard 44 0 0 (ltb 32768 (length (messageOf d rows)) || ltb 512 (length (written d rows))) _ m h in
-    let k = guard 45 0 0 (ltb room (length (messageOf d rows))) _ m (g .1) in
-    let e : messageOf d rows ≡ m = cc (k .1) in
-    rw (← e) (ltb-false room (length (messageOf d rows)) (k .0))
-
-within : (s : List ℕ) (room : ℕ) (r : Written) → toldLength r ≡ lengthOf (toMessage s room) → (n : ℕ) → r ≡ Wrote n → n ≤ room
-unfolding toMessage
-within s room r t n f =
-    toldCases (readSheet s)
-    (λ rows e. toldCases (messageTold base rows room)
-    (λ m g. let h : n ≡ length m = cc (t, f, e, g) in rw h (has-room base rows room m g))
-    (λ k a b g. absurd (let o : _≡_ {A = ℕ} 0 1 = cc (t, f, e, g) in omega arith)))
-    (λ k a b e. absurd (let o : _≡_ {A = ℕ} 0 1 = cc (t, f, e) in omega arith))
-
--- ---- the call: what it promises of the sheet s and a buffer that held x, where it answers r and leaves y
-abbrev Promise : List ℕ → List ℕ → Written → List ℕ → Type 0
-Promise s x r y =
-    (toldLength r ≡ lengthOf (toMessage s (length x))) × ((y ≡ over (toMessage s (length x)) x) × ((n : ℕ) → r ≡ Wrote n → n ≤ length x))
-
-pub answers : (s : List ℕ) {x : List ℕ} {t : Told (List ℕ)} {r : Written} {y : List ℕ} → Call t x r y → toMessage s (length x) ≡ t → Promise s x r y
-answers s {x} {t} {r} c e = let q : Call (toMessage s (length x)) x r _ = called-as e c in (q .told, (q .buffer, within s (length x) r (q .told)))
-
-pub refuses : (s : List ℕ) {x : List ℕ} {k : Refusal} → toMessage s (length x) ≡ refusal k → Promise s x (NotWritten k) x
-refuses s {x} {k} e = answers s (kept x k) e
-
+-- ---- the call
 -- a sheet that is judged to be wrong
-pub call-refused : (s : List ℕ) (room : ℕ) (p : Passed) → toldSize p ≡ measuredTold s → (k : Refusal) → p ≡ Not k → toMessage s room ≡ refusal k
+pub call-refused : (s : List ℕ) (p : Passed) → toldSize p ≡ measuredTold s → (k : Refusal) → p ≡ Not k → (x : List ℕ) → MessageWritten s x (NotWritten k) x
 unfolding toMessage measuredTold
-call-refused s room p t k f = toldCases (readSheet s) (λ rows e. not-given (rw (f, e) at t)) (λ n a b e. rw e (same n a b (rw (f, e) at t)))
+call-refused s p t k f x =
+    called-as (toldCases (readSheet s) (λ rows e. not-given (rw (f, e) at t)) (λ n a b e. rw e (same n a b (rw (f, e) at t)))) (kept x k)
   where
     same : (n a b : ℕ) → _≡_ {A = Told Size} (refusal k) (refused n a b) → _≡_ {A = Told (List ℕ)} (refused n a b) (refusal k)
     same n a b h = cc

@@ -7,10 +7,9 @@ use rules::Kind;
 use rules::Written;
 use sheets::Judged;
 ghost use mathlib.Core.Path.{_≡_};
-ghost use Prim.Native.Nat.{ℕ, _≤_};
-ghost use lib.ListN.{length};
-ghost use Rattle.rules.specs.Told.{gives, over, toldLength, lengthOf, Call};
-ghost use Rattle.rules.specs.Message.{base, toMessage};
+ghost use Rattle.rules.specs.Told.{gives};
+ghost use Rattle.rules.specs.Message.{base};
+ghost use Rattle.rules.specs.Promises.{MessageWritten};
 ghost use Rattle.compose.specs.Compose.{toldSize};
 ghost use Rattle.to_message.specs.Call.{measuredTold};
 
@@ -44,7 +43,7 @@ fn measure(sheet: &[u8]) -> Passed
 // 44, 45, or the message of a sheet that was judged and whose message has this size.
 fn write(out: &mut [u8], sheet: &[u8], size: Size) -> Written
     requires { ⌜ gives size ≡ measuredTold (now sheet) ⌝ }
-    ensures { λ r. ⌜ Call (toMessage (now (sheet .entry)) (length (now (out .entry)))) (now (out .entry)) r (now (out .exit)) ⌝ }
+    ensures { λ r. ⌜ MessageWritten (now (sheet .entry)) (now (out .entry)) r (now (out .exit)) ⌝ }
 {
     let bytes = size.bytes;
     let segments = size.segments;
@@ -61,9 +60,7 @@ fn write(out: &mut [u8], sheet: &[u8], size: Size) -> Written
 
 // Sheet to message.
 pub fn to_message(sheet: &[u8], out: &mut [u8]) -> Written
-    ensures told { λ r. ⌜ toldLength r ≡ lengthOf (toMessage (now (sheet .entry)) (length (now (out .entry)))) ⌝ }
-    ensures buffer { λ r. ⌜ now (out .exit) ≡ over (toMessage (now (sheet .entry)) (length (now (out .entry)))) (now (out .entry)) ⌝ }
-    ensures within { λ r. ⌜ ((n : ℕ) → r ≡ Written.Wrote n → n ≤ length (now (out .entry))) ⌝ }
+    ensures { λ r. ⌜ MessageWritten (now (sheet .entry)) (now (out .entry)) r (now (out .exit)) ⌝ }
 {
     match measure(sheet) {
         Passed::Not(r) => Written::NotWritten(r),

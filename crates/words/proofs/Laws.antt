@@ -10,11 +10,10 @@ use borrow.Author.Tests.{ne-eqb}
 use Rattle.rules.specs.declared.Kind.{Kind}
 use Rattle.rules.specs.declared.Name.{Name}
 use Rattle.rules.specs.declared.Refusal.{Refusal}
-use Rattle.rules.specs.Lists.{bytes}
+use Rattle.rules.specs.Lists.{bytes, decimal}
 use Rattle.rules.specs.Frame.{spelling}
-use Rattle.rules.specs.Message.{decimal}
 use Rattle.rules.proofs.Logic.{cases}
-use Rattle.scan.specs.Scan.{until, is}
+use Rattle.bytes.specs.Bytes.{until, is}
 use Rattle.scan.proofs.Laws.{take-until}
 use lib.Seq.{length-take-le}
 use Rattle.writer.specs.Over.{Wrote, Put}

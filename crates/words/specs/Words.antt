@@ -5,16 +5,15 @@ use Prim.Native.Nat.{ℕ}
 use Prim.Native.String.{String}
 use lib.Dec.{eqb}
 use Rattle.rules.specs.declared.Kind.{Kind}
-use Rattle.rules.specs.declared.Kind.the-variants.{TooLong, Header, Bytes, Segment, TooMany, Order, Missing, Null, Repeated, Escape, Long, Value, Status, Differs, NoOrdinal, Zero, SheetTooLong, SheetBytes, Key, Line, Overflow, Room}
+use Rattle.rules.specs.declared.Kind.the-variants.{TooLong, Header, Bytes, Segment, TooMany, Order, Missing, Null, Repeated, Escape, Long, Value, Status, Differs, NoOrdinal, Zero, SheetTooLong, SheetBytes, Key, LineValue, Overflow, Room}
 use Rattle.rules.specs.declared.Name.{Name}
 use Rattle.rules.specs.declared.Name.the-variants.{Msh, Pid, Pv1}
 use Rattle.rules.specs.declared.Refusal.{Refusal}
 use Rattle.rules.specs.Told as Told
-use Rattle.rules.specs.Lists.{bytes, all, any}
+use Rattle.rules.specs.Lists.{bytes, all, any, decimal}
 use Rattle.rules.specs.Frame.{spelling, is}
-use Rattle.rules.specs.Value.{Rule, time, date, number, text, digits, capitals, words}
+use Rattle.rules.specs.Value.{Rule, time, date, numeric, text, digits, capitals, words}
 use Rattle.rules.specs.Places.{Place, Form, charset, names, value, Field, reads, closed, places}
-use Rattle.rules.specs.Message.{decimal}
 use Rattle.csv_rules.specs.declared.Fault.{Fault}
 use Rattle.csv_rules.specs.declared.Fault.the-variants.{Quoting, Columns, Unconverted, HeaderDiffers, Returns}
 use Rattle.spot.specs.declared.Spot.{Spot}
@@ -52,7 +51,7 @@ saying Zero = Nowhere says "fields and components are counted from 1"
 saying SheetTooLong = Nowhere says "the sheet has more than 65,536 bytes"
 saying SheetBytes = AtSpot says "a byte that is not allowed here, a shift that is broken off, or no 0A at the end"
 saying Key = AtLine says "not the key that must stand here"
-saying Line = AtLine says "the value breaks its rule"
+saying LineValue = AtLine says "the value breaks its rule"
 saying Overflow = Nowhere says "the message would have more than 32,768 bytes or 512 segments"
 saying Room = Nowhere says "the lent buffer is too short"
 
@@ -71,7 +70,7 @@ breachWords Unsaid = saying Value .words
 abbrev pub ruleBreach : Rule → Breach
 ruleBreach time = NoTime
 ruleBreach date = NoDate
-ruleBreach number = Unsaid
+ruleBreach numeric = Unsaid
 ruleBreach (text n) = Unsaid
 ruleBreach (digits n) = NoDigits
 ruleBreach (capitals n) = Unsaid
@@ -87,7 +86,7 @@ formBreach value = NoValue
 abbrev pub isWords : Rule → Bool
 isWords time = false
 isWords date = false
-isWords number = false
+isWords numeric = false
 isWords (text n) = false
 isWords (digits n) = false
 isWords (capitals n) = false

@@ -9,9 +9,9 @@ ghost use Prim.Native.Nat.{_+_, _≤_};
 ghost use lib.ListN.{length};
 ghost use Rattle.rules.specs.Lists.{bytes};
 ghost use Rattle.rules.specs.Frame.{spelling};
-ghost use Rattle.scan.specs.Scan.{until, is};
+ghost use Rattle.bytes.specs.Bytes.{until, is};
 ghost use Rattle.writer.specs.Over.{Wrote, Put};
-ghost use Rattle.told.specs.Told.{Front};
+ghost use Rattle.printed.specs.Printed.{Front};
 ghost use Rattle.words.specs.Words.{saying, breachWords, breachOf, wordsOf, once, fieldText, spotText, placeText, wordsText, faultWords, faultText};
 
 // Which place is told before the words.
@@ -54,7 +54,7 @@ pub fn fault_in_words(out: &mut [u8; 192], fault: Fault, line: usize) -> usize
     ensures { λ r. ⌜ Wrote r (now (out .exit)) (faultText fault line) (now (out .entry)) ⌝ }
     ensures within { λ r. ⌜ Front r (now (out .exit)) ⌝ }
 {
-    let k = told::numbered(out, b"line ", line, b": ");
+    let k = printed::numbered(out, b"line ", line, b": ");
     let words = words_of_fault(fault);
     let m = put_to_bar(out, k, &words);
     writer::put_at(out, m, b"\n")
@@ -101,7 +101,7 @@ fn place_of(kind: Kind) -> Where
         Kind::SheetTooLong => Where::Nowhere,
         Kind::SheetBytes => Where::AtSpot,
         Kind::Key => Where::AtLine,
-        Kind::Line => Where::AtLine,
+        Kind::LineValue => Where::AtLine,
         Kind::Overflow => Where::Nowhere,
         Kind::Room => Where::Nowhere,
     }
@@ -149,7 +149,7 @@ fn words_of(kind: Kind, breach: Breach) -> [u8; 82]
             *b"a byte that is not allowed here, a shift that is broken off, or no 0A at the end| ",
         Kind::Key =>
             *b"not the key that must stand here|                                                 ",
-        Kind::Line =>
+        Kind::LineValue =>
             *b"the value breaks its rule|                                                        ",
         Kind::Overflow =>
             *b"the message would have more than 32,768 bytes or 512 segments|                    ",
@@ -187,7 +187,7 @@ fn put_to_bar(out: &mut [u8], at: usize, text: &[u8]) -> usize
     ensures { λ r. ⌜ Put at (now (out .entry)) (until (is 0x7C) (now (text .entry))) r (now (out .exit)) ⌝ }
     ensures within { λ r. ⌜ r ≤ at + length (now (text .entry)) ⌝ }
 {
-    let n = value::before(text, b'|');
+    let n = bytes::before(text, b'|');
     writer::put_at(out, at, &text[..n])
 }
 
@@ -288,8 +288,8 @@ fn place_said(out: &mut [u8], place: Where, refusal: Refusal, name: Name, spot: 
     match place {
         Where::Nowhere => 0,
         Where::AtSpot => spot_said(out, spot),
-        Where::AtSegment => told::numbered(out, b"segment ", segment, b": "),
-        Where::AtLine => told::numbered(out, b"line ", segment, b": "),
+        Where::AtSegment => printed::numbered(out, b"segment ", segment, b": "),
+        Where::AtLine => printed::numbered(out, b"line ", segment, b": "),
         Where::AtField => field_said(out, name, field, segment),
     }
 }
@@ -301,8 +301,8 @@ fn spot_said(out: &mut [u8], spot: Spot) -> usize
 {
     let line = spot.line;
     let byte = spot.byte;
-    let k = told::numbered(out, b"line ", line, b", byte ");
-    told::numbered_at(out, k, b"", byte, b": ")
+    let k = printed::numbered(out, b"line ", line, b", byte ");
+    printed::numbered_at(out, k, b"", byte, b": ")
 }
 
 // A field by its segment's name, and by its segment too where a message may have several of the name.
@@ -313,11 +313,11 @@ fn field_said(out: &mut [u8], name: Name, field: usize, segment: usize) -> usize
 {
     let own = spelled(name);
     let j = put_to_bar(out, 0, &own);
-    let k = told::numbered_at(out, j, b"-", field, b"");
+    let k = printed::numbered_at(out, j, b"-", field, b"");
     if comes_once(name) {
         return writer::put_at(out, k, b": ");
     }
-    told::numbered_at(out, k, b" of segment ", segment, b": ")
+    printed::numbered_at(out, k, b" of segment ", segment, b": ")
 }
 
 // A segment's name; nothing for another.

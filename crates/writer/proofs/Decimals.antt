@@ -7,7 +7,7 @@ use native.Mathlib.Omega.{arith}
 use lib.Dec.{ltb}
 use lib.ListN.{length, length-append}
 use borrow.Author.Tests.{lt-ltb, le-ltb, ltb-true, ltb-false}
-use Rattle.rules.specs.Message.{decimal, decimalTo}
+use Rattle.rules.specs.Lists.{decimal, decimalTo}
 
 small : (k n : ℕ) → n < 10 → decimalTo (suc k) n ≡ (48 + n) ∷ []
 unfolding decimalTo

@@ -4,7 +4,7 @@ ghost use mathlib.Core.Path.{_≡_};
 ghost use Prim.Native.Nat.{_+_, _*_, _≤_};
 ghost use lib.ListN.{length, drop};
 ghost use Rattle.rules.specs.Escape.{escape};
-ghost use Rattle.rules.specs.Message.{decimal};
+ghost use Rattle.rules.specs.Lists.{decimal};
 ghost use Rattle.rules.specs.Proper.{Proper};
 ghost use Rattle.writer.specs.Over.{Wrote, Put, Fit};
 ghost use Rattle.writer.specs.Woven.{delimiterOf, taken, slotText, firstText, woven, holes, sizes};
@@ -30,16 +30,6 @@ pub fn put_at(out: &mut [u8], at: usize, bytes: &[u8]) -> usize
 {
     let n = put(&mut out[at..], bytes);
     at + n
-}
-
-// How many digits a number has.
-pub fn number_len(n: usize) -> usize
-    ensures { λ r. ⌜ (r ≡ length (decimal n)) × (r ≤ n + 1) ⌝ }
-{
-    if n < 10 {
-        return 1;
-    }
-    number_len(n / 10) + 1
 }
 
 // A number in decimal.
@@ -116,7 +106,7 @@ fn unit_len(b: u8, d: Delims) -> usize
 }
 
 // How many bytes a text takes, escaped.
-pub fn escaped_len(text: &[u8], d: Delims) -> usize
+fn escaped_len(text: &[u8], d: Delims) -> usize
     requires { ⌜ (length (now text) ≤ 1000000) × Proper d ⌝ }
     ensures { λ r. ⌜ r ≡ length (escape d (now (text .entry))) ⌝ }
     ensures within { λ r. ⌜ r ≤ 3 * length (now (text .entry)) ⌝ }
@@ -140,7 +130,7 @@ pub fn escaped_len(text: &[u8], d: Delims) -> usize
 }
 
 // A text, with the delimiters of its one-byte stretches escaped; what stands between two bytes of one-byte mode is copied as it is.
-pub fn put_escaped(out: &mut [u8], text: &[u8], d: Delims) -> usize
+fn put_escaped(out: &mut [u8], text: &[u8], d: Delims) -> usize
     requires { ⌜ (length (escape d (now text)) ≤ length (now out)) × Proper d ⌝ }
     ensures { λ r. ⌜ Wrote r (now (out .exit)) (escape d (now (text .entry))) (now (out .entry)) ⌝ }
 {
@@ -165,7 +155,7 @@ pub fn put_escaped(out: &mut [u8], text: &[u8], d: Delims) -> usize
     at
 }
 
-pub fn put_escaped_at(out: &mut [u8], at: usize, text: &[u8], d: Delims) -> usize
+fn put_escaped_at(out: &mut [u8], at: usize, text: &[u8], d: Delims) -> usize
     requires { ⌜ (at + length (escape d (now text)) ≤ length (now out)) × Proper d ⌝ }
     ensures { λ r. ⌜ Put at (now (out .entry)) (escape d (now (text .entry))) r (now (out .exit)) ⌝ }
 {

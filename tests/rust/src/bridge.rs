@@ -3,8 +3,8 @@
 
 use crate::cases::{Call, Case};
 use crate::{
-    check, csv_count, csv_next, csv_sheet, csv_spot, locate, segment, spot, to_message, to_sheet,
-    Given, Refusal,
+    check, csv_count, csv_next, csv_sheet, csv_spot, segment, spot, to_message, to_sheet, Given,
+    Refusal,
 };
 use std::fmt;
 use std::io::{self, Read, Write};
@@ -30,14 +30,11 @@ impl Said {
             Call::Check => Self::numbers(
                 check(input).map(|counts| [counts.specimens, counts.orders, counts.results]),
             ),
-            &Call::Fetch {
-                ordinal,
-                field,
-                component,
-            } => Self::numbers(
-                locate(input, ordinal, field, component)
+            Call::Fetch(part) => Self::numbers(
+                part.locate(input)
                     .map(|stretch| [stretch.start, stretch.len(), 0]),
             ),
+            &Call::PartText { part, room } => Self::written(part.text(input, room), room, salt),
             &Call::ToSheet { room } => Self::written(to_sheet(input, room), room, salt),
             &Call::ToMessage { room } => Self::written(to_message(input, room), room, salt),
             &Call::Segment { ordinal } => Self::numbers(
@@ -122,21 +119,20 @@ fn held_before(room: usize, salt: u8) -> Vec<u8> {
 pub fn ask(case: &Case, salt: u8, to: &mut impl Write) -> io::Result<()> {
     let [call, one, two, three] = match &case.call {
         Call::Check => [0, 0, 0, 0],
-        &Call::Fetch {
-            ordinal,
-            field,
-            component,
-        } => [1, ordinal, field, component],
-        &Call::ToSheet { room } => [2, room, 0, 0],
-        &Call::ToMessage { room } => [3, room, 0, 0],
-        &Call::Segment { ordinal } => [4, ordinal, 0, 0],
-        &Call::Spot { refusal } => [5, refusal, 0, 0],
-        Call::CsvCount => [6, 0, 0, 0],
-        &Call::CsvSheet { which, room, .. } => [7, room, which, 0],
-        &Call::CsvNext { at, room, .. } => [8, room, at, 0],
-        Call::CsvSpot => [9, 0, 0, 0],
+        Call::Fetch(part) => [1, part.ordinal, part.field, part.component],
+        Call::PartText { part, .. } => [2, part.ordinal, part.field, part.component],
+        Call::ToSheet { .. } => [3, 0, 0, 0],
+        Call::ToMessage { .. } => [4, 0, 0, 0],
+        &Call::Segment { ordinal } => [5, ordinal, 0, 0],
+        &Call::Spot { refusal } => [6, refusal, 0, 0],
+        Call::CsvCount => [7, 0, 0, 0],
+        &Call::CsvSheet { which, .. } => [8, which, 0, 0],
+        &Call::CsvNext { at, .. } => [9, at, 0, 0],
+        Call::CsvSpot => [10, 0, 0, 0],
     };
-    write_numbers(&[call, one, two, three, salt.into(), case.input.len()], to)?;
+    let room = case.call.room().unwrap_or(0);
+    let length = case.input.len();
+    write_numbers(&[call, one, two, three, room, salt.into(), length], to)?;
     to.write_all(&case.input)?;
     if let Call::CsvSheet { given, .. } | Call::CsvNext { given, .. } = &case.call {
         write_given(given, to)?;

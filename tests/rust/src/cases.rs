@@ -1,34 +1,55 @@
 //! Cases: a call with its input, and the answer to it, one case a line.
 //!
-//! A line holds, separated by tabs, the call (`check`, `fetch`, `to_sheet`, `to_message`,
-//! `segment`, `spot`, `csv_count`, `csv_sheet`, `csv_next`, `csv_spot`), the input in hex, further
-//! arguments (fetch: ordinal, field, component; to_sheet and to_message: the room of the lent
-//! buffer; segment: ordinal; spot: the refusal's number; csv_sheet: which sheet, csv_next: the
-//! place, and both then mode, sent and control in hex and the room) and the answer:
+//! A line holds, separated by tabs, the call (`check`, `fetch`, `part_text`, `to_sheet`,
+//! `to_message`, `segment`, `spot`, `csv_count`, `csv_sheet`, `csv_next`, `csv_spot`), the input in
+//! hex, further arguments (fetch: ordinal, field, component; part_text: the same and the room of
+//! the lent buffer; to_sheet and to_message: the room; segment: ordinal; spot: the refusal's number;
+//! csv_sheet: which sheet, csv_next: the place, and both then mode, sent and control in hex and the
+//! room) and the answer:
 //!
 //! * `ok SPM OBR OBX` from check,
 //! * `ok START LENGTH` from segment,
 //! * `ok LINE BYTE` from spot, `ok 0 0` where there is no place,
 //! * `ok SHEETS FIRST-ROW` from csv_count,
 //! * `ok LINE` from csv_spot, `ok 0` where nothing is refused,
-//! * `ok HEX` from the others, or `ok` alone where the stretch is empty,
+//! * `ok HEX` from the others, or `ok` alone where there is no byte,
 //! * `refused NUMBER SEGMENT-OR-LINE FIELD` from any of them but the spots,
 //! * either of these and `behind PLACE` from csv_next.
 
 use crate::{
-    check, csv_count, csv_next, csv_sheet, csv_spot, locate, segment, spot, to_message, to_sheet,
-    Counts, Given, Next, Refusal, Sheets, Spot,
+    check, csv_count, csv_next, csv_sheet, csv_spot, locate, part_text, segment, spot, to_message,
+    to_sheet, Counts, Given, Next, Refusal, Sheets, Spot,
 };
 use std::fmt;
 use std::ops::Range;
 
+/// A part of a message: a component of a field of a known segment.
+#[derive(Clone, Copy, Debug, PartialEq, Eq)]
+pub struct Part {
+    pub ordinal: usize,
+    pub field: usize,
+    pub component: usize,
+}
+
+impl Part {
+    /// Where it lies.
+    pub fn locate(&self, m: &[u8]) -> Result<Range<usize>, Refusal> {
+        locate(m, self.ordinal, self.field, self.component)
+    }
+
+    /// What it says.
+    pub fn text(&self, m: &[u8], room: usize) -> Result<Vec<u8>, Refusal> {
+        part_text(m, self.ordinal, self.field, self.component, room)
+    }
+}
+
 #[derive(Clone, Debug, PartialEq, Eq)]
 pub enum Call {
     Check,
-    Fetch {
-        ordinal: usize,
-        field: usize,
-        component: usize,
+    Fetch(Part),
+    PartText {
+        part: Part,
+        room: usize,
     },
     ToSheet {
         room: usize,
@@ -61,7 +82,8 @@ impl Call {
     pub fn name(&self) -> &'static str {
         match self {
             Self::Check => "check",
-            Self::Fetch { .. } => "fetch",
+            Self::Fetch(_) => "fetch",
+            Self::PartText { .. } => "part_text",
             Self::ToSheet { .. } => "to_sheet",
             Self::ToMessage { .. } => "to_message",
             Self::Segment { .. } => "segment",
@@ -76,7 +98,8 @@ impl Call {
     /// The room of the lent buffer, for a call that writes.
     pub fn room(&self) -> Option<usize> {
         match *self {
-            Self::ToSheet { room }
+            Self::PartText { room, .. }
+            | Self::ToSheet { room }
             | Self::ToMessage { room }
             | Self::CsvSheet { room, .. }
             | Self::CsvNext { room, .. } => Some(room),
@@ -120,12 +143,10 @@ impl Case {
         let input = self.input.as_slice();
         let answer = match &self.call {
             Call::Check => check(input).map(Answer::Counts),
-            Call::Fetch {
-                ordinal,
-                field,
-                component,
-            } => locate(input, *ordinal, *field, *component)
+            Call::Fetch(part) => part
+                .locate(input)
                 .map(|stretch| Answer::Bytes(input[stretch].to_vec())),
+            Call::PartText { part, room } => part.text(input, *room).map(Answer::Bytes),
             Call::ToSheet { room } => to_sheet(input, *room).map(Answer::Bytes),
             Call::ToMessage { room } => to_message(input, *room).map(Answer::Bytes),
             Call::Segment { ordinal } => segment(input, *ordinal).map(Answer::Stretch),
@@ -148,12 +169,13 @@ impl Case {
         let (call, input, answer) = match columns[..] {
             ["check", input, answer] => (Call::Check, input, answer),
             ["fetch", input, ordinal, field, component, answer] => {
-                let call = Call::Fetch {
-                    ordinal: parse_count(ordinal)?,
-                    field: parse_count(field)?,
-                    component: parse_count(component)?,
-                };
-                (call, input, answer)
+                let part = parse_part([ordinal, field, component])?;
+                (Call::Fetch(part), input, answer)
+            }
+            ["part_text", input, ordinal, field, component, room, answer] => {
+                let part = parse_part([ordinal, field, component])?;
+                let room = parse_count(room)?;
+                (Call::PartText { part, room }, input, answer)
             }
             ["to_sheet", input, room, answer] => {
                 let room = parse_count(room)?;
@@ -196,7 +218,15 @@ impl Case {
     }
 }
 
-pub fn parse_given(texts: [&str; 3]) -> Result<Given, String> {
+fn parse_part([ordinal, field, component]: [&str; 3]) -> Result<Part, String> {
+    Ok(Part {
+        ordinal: parse_count(ordinal)?,
+        field: parse_count(field)?,
+        component: parse_count(component)?,
+    })
+}
+
+fn parse_given(texts: [&str; 3]) -> Result<Given, String> {
     let [mode, sent, control] = texts.map(parse_hex);
     Ok(Given {
         mode: mode?,
@@ -205,7 +235,7 @@ pub fn parse_given(texts: [&str; 3]) -> Result<Given, String> {
     })
 }
 
-pub fn parse_count(text: &str) -> Result<usize, String> {
+fn parse_count(text: &str) -> Result<usize, String> {
     text.parse().map_err(|_| format!("no count: {text}"))
 }
 
@@ -236,11 +266,8 @@ impl fmt::Display for Case {
         write!(out, "{}\t{}", self.call.name(), Hex(&self.input))?;
         match &self.call {
             Call::Check | Call::CsvCount | Call::CsvSpot => Ok(()),
-            Call::Fetch {
-                ordinal,
-                field,
-                component,
-            } => write!(out, "\t{ordinal}\t{field}\t{component}"),
+            Call::Fetch(part) => write!(out, "\t{part}"),
+            Call::PartText { part, room } => write!(out, "\t{part}\t{room}"),
             Call::ToSheet { room } | Call::ToMessage { room } => write!(out, "\t{room}"),
             Call::Segment { ordinal } => write!(out, "\t{ordinal}"),
             Call::Spot { refusal } => write!(out, "\t{refusal}"),
@@ -259,6 +286,12 @@ impl fmt::Display for Case {
                 write!(out, "\t{number}\t{mode}\t{sent}\t{control}\t{room}")
             }
         }
+    }
+}
+
+impl fmt::Display for Part {
+    fn fmt(&self, out: &mut fmt::Formatter<'_>) -> fmt::Result {
+        write!(out, "{}\t{}\t{}", self.ordinal, self.field, self.component)
     }
 }
 
@@ -307,6 +340,7 @@ mod tests {
             "check\t\trefused 11 0 0",
             "check\t4d5348\trefused 11 0 0",
             "fetch\t4d53\t1\t2\t3\trefused 11 0 0",
+            "part_text\t4d53\t1\t2\t3\t9\trefused 11 0 0",
             "to_sheet\t0d\t65536\trefused 11 0 0",
             "to_message\t\t0\trefused 42 1 0",
             "segment\t0d50494441420d\t1\tok 1 5",
@@ -340,6 +374,7 @@ mod tests {
             "check\t4d5\tok",
             "check\tzz\tok",
             "fetch\t\t1\t-1\t1\tok",
+            "part_text\t\t1\t1\t1\tok",
             "look\t\tok",
             "csv_sheet\t\t1\t\t\t\tok",
             "csv_next\t\t1\t5\t\t\t0\tok",

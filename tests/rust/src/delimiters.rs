@@ -61,6 +61,14 @@ impl Delimiters {
         Some(length + rest.len())
     }
 
+    /// The text of a raw component; none if it holds a bad escape or an unescaped subcomponent
+    /// separator.
+    pub fn plain(&self, component: &[u8]) -> Option<Vec<u8>> {
+        let mut plain = Vec::with_capacity(self.plain_length(component)?);
+        self.unescape_into(component, &mut plain);
+        Some(plain)
+    }
+
     /// Appends a judged component to `plain`, its escapes replaced by what they stand for.
     pub fn unescape_into(&self, component: &[u8], plain: &mut Vec<u8>) {
         let mut rest = component;
@@ -130,8 +138,7 @@ mod tests {
 
     #[test]
     fn the_five_escapes_stand_for_the_delimiters() {
-        let mut plain = Vec::new();
-        Delimiters::USUAL.unescape_into(br"a\F\\S\\T\\R\\E\b", &mut plain);
+        let plain = Delimiters::USUAL.plain(br"a\F\\S\\T\\R\\E\b").unwrap();
         assert_eq!(plain, br"a|^&~\b");
         let mut component = Vec::new();
         Delimiters::USUAL.escape_into(&plain, &mut component);

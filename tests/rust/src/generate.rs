@@ -1,4 +1,4 @@
-//! Seeded cases for the ten calls: valid, damaged and extreme inputs.
+//! Seeded cases for the eleven calls: valid, damaged and extreme inputs.
 //!
 //! The same seed gives the same run everywhere: nothing here looks at a clock. The calls and the
 //! recipes of their inputs come in turn, so that a run of some thousand cases has met every
@@ -13,26 +13,47 @@ mod sheets;
 mod texts;
 mod words;
 
-use crate::cases::{Call, Case};
+use crate::cases::{Call, Case, Part};
 use crate::refusal::number;
-use crate::{csv_next, csv_sheet, to_message, to_sheet, Refusal, MESSAGE_LIMIT, SHEET_LIMIT};
+use crate::{
+    check, csv_count, csv_next, csv_sheet, to_message, to_sheet, Refusal, MESSAGE_LIMIT,
+    SEGMENT_LIMIT, SHEET_LIMIT,
+};
 use random::Random;
 
-/// What the calls that know files answer in a run of some thousand cases: 0, where nothing is refused,
-/// and their refusals. A spot counts for the refusal of its file.
+/// What some calls answer in a run of some thousand cases, as [`answered`] tells it.
 #[rustfmt::skip]
-pub const OF_FILES: [(&str, &[u8]); 4] = [
+pub const ANSWERS: [(&str, &[u8]); 6] = [
+    ("part_text", &[10, 11, 12, 13, 14, 15, 20, 21, 22, 23, 24, 25, 26, 27]),
+    (OF_GOOD_MESSAGE, &[0, 23, 30, 31, 45]),
     ("csv_count", &[0, 50, 51, 52, 53, 54]),
     ("csv_sheet", &[0, 30, 40, 41, 42, 43, 45, 50, 51, 52, 53, 54]),
     ("csv_next", &[0, 30, 40, 41, 42, 43, 45, 50, 52, 53]),
     ("csv_spot", &[0, 50, 51, 52, 53, 54]),
 ];
 
-/// An endless run of cases. Of each eight, six are of messages and sheets, two of files.
+/// These are counted by themselves: each of their refusals is the call's own.
+const OF_GOOD_MESSAGE: &str = "part_text of a good message";
+
+/// What a case is counted as whose answer has this number, 0 where nothing is refused: the call and
+/// the number. A spot counts for the refusal of its file.
+pub fn answered(case: &Case, number: u8) -> (&'static str, u8) {
+    let call = case.call.name();
+    match case.call {
+        Call::PartText { .. } if check(&case.input).is_ok() => (OF_GOOD_MESSAGE, number),
+        Call::CsvSpot => match csv_count(&case.input) {
+            Ok(_) => (call, 0),
+            Err(refusal) => (call, refusal.number),
+        },
+        _ => (call, number),
+    }
+}
+
+/// An endless run of cases. Of each nine, seven are of messages and sheets, two of files.
 pub fn cases(seed: u64) -> impl Iterator<Item = Case> {
     let (mut texts, mut files) = (of_texts(seed), of_files(seed));
-    (0..).filter_map(move |turn| match turn % 8 {
-        0..6 => texts.next(),
+    (0..).filter_map(move |turn| match turn % 9 {
+        0..7 => texts.next(),
         _ => files.next(),
     })
 }
@@ -49,32 +70,39 @@ pub fn of_files(seed: u64) -> impl Iterator<Item = Case> {
     (0..).map(move |turn| case_of_file(turn, &mut random))
 }
 
-/// Every six turns each call has one case, made by the next recipe.
+/// Every seven turns each call has one case, made by the next recipe.
 fn case_of_text(turn: usize, random: &mut Random) -> Case {
-    let recipe = turn / 6;
-    match turn % 6 {
+    let recipe = turn / 7;
+    match turn % 7 {
         0 => Case {
             call: Call::Check,
             input: messages::message(recipe, random),
         },
         1 => {
             let input = messages::message(recipe, random);
-            let call = fetch(random, &input);
+            let call = Call::Fetch(some_part(random, &input));
             Case { call, input }
         }
         2 => {
+            let (input, part) = message_with_part(recipe, random);
+            let text = part.text(&input, SEGMENT_LIMIT);
+            let room = room(random, text, SEGMENT_LIMIT);
+            let call = Call::PartText { part, room };
+            Case { call, input }
+        }
+        3 => {
             let input = messages::message(recipe, random);
             let room = room(random, to_sheet(&input, SHEET_LIMIT), SHEET_LIMIT);
             let call = Call::ToSheet { room };
             Case { call, input }
         }
-        3 => {
+        4 => {
             let input = sheets::sheet(recipe, random);
             let room = room(random, to_message(&input, MESSAGE_LIMIT), MESSAGE_LIMIT);
             let call = Call::ToMessage { room };
             Case { call, input }
         }
-        4 => {
+        5 => {
             let input = texts::text(recipe, random);
             let ordinal = some_ordinal(random, &input);
             let call = Call::Segment { ordinal };
@@ -135,13 +163,24 @@ fn some_next(random: &mut Random, file: &[u8]) -> Call {
     Call::CsvNext { at, given, room }
 }
 
-/// Asks mostly for what is there, sometimes for number 0, one past the end, or far off.
-fn fetch(random: &mut Random, message: &[u8]) -> Call {
-    Call::Fetch {
+/// Mostly what is there, sometimes number 0, one past the end, or far off.
+fn some_part(random: &mut Random, message: &[u8]) -> Part {
+    Part {
         ordinal: some_ordinal(random, message),
         field: some_number(random, 21),
         component: some_number(random, 4),
     }
+}
+
+/// Any message and any part, and in each second turn a good message with a part chosen for its
+/// text.
+fn message_with_part(turn: usize, random: &mut Random) -> (Vec<u8>, Part) {
+    if turn % 2 == 1 {
+        return messages::with_part(random);
+    }
+    let message = messages::message(turn / 2, random);
+    let part = some_part(random, &message);
+    (message, part)
 }
 
 fn some_ordinal(random: &mut Random, message: &[u8]) -> usize {

@@ -3,12 +3,12 @@
 //! result file.
 //!
 //! It is written from the papers alone and shares no code with the proved library, so that each
-//! can be held against the other. The papers have no word on [`spot`], [`csv_next`] and
-//! [`csv_spot`]: these are written from their declarations in `include/oul.h`. Ten calls cover the
-//! work:
+//! can be held against the other. The papers have no word on [`part_text`], [`spot`], [`csv_next`]
+//! and [`csv_spot`]: these are written from their declarations in `include/oul.h`. Eleven calls
+//! cover the work:
 //!
 //! * [`check`] counts a message's specimens, orders and results, or refuses it;
-//! * [`locate`] finds a part of an accepted message;
+//! * [`locate`] finds a part of an accepted message, and [`part_text`] gives its text;
 //! * [`to_sheet`] writes an accepted message as a sheet;
 //! * [`to_message`] writes an accepted sheet as a message;
 //! * [`segment`] finds a known segment, and [`spot`] the place of a refusal that names none, both
@@ -30,13 +30,14 @@ mod csv;
 pub mod delimiters;
 mod fetch;
 pub mod generate;
+pub mod listed;
 mod message_reader;
 mod message_writer;
 pub mod parts;
+pub mod places;
 pub mod refusal;
 pub mod report;
-pub mod requests;
-mod rules;
+pub mod rules;
 mod segments;
 mod sheet_reader;
 mod sheet_writer;
@@ -55,6 +56,7 @@ pub use csv::{
 };
 pub use refusal::Refusal;
 pub use report::Counts;
+pub use segments::{SegmentName, SEGMENT_LIMIT};
 pub use spot::{spot, Spot};
 
 /// The most bytes of a message.
@@ -83,13 +85,27 @@ pub fn locate(
     field: usize,
     component: usize,
 ) -> Result<Range<usize>, Refusal> {
-    let message = Message::well_formed(m)?;
-    message.read(|_| ())?;
-    if field == 0 || component == 0 {
-        return Err(Refusal::of_whole(number::FIELD_OR_COMPONENT_ZERO));
+    let (_, stretch) = fetch::fetch(m, ordinal, field, component)?;
+    Ok(stretch)
+}
+
+/// Writes the text of the part that [`locate`] finds, without its escapes, in at most `room` bytes.
+///
+/// The refusals of [`locate`] come first. Then 23 with the segment and the field, where the part
+/// holds an unescaped subcomponent separator or a bad escape in one-byte mode: a part that isn't
+/// read may, and MSH-2 always does. Then 45.
+pub fn part_text(
+    m: &[u8],
+    ordinal: usize,
+    field: usize,
+    component: usize,
+    room: usize,
+) -> Result<Vec<u8>, Refusal> {
+    let (message, stretch) = fetch::fetch(m, ordinal, field, component)?;
+    match message.delimiters.plain(&m[stretch]) {
+        Some(text) => within_room(text, room),
+        None => Err(Refusal::at_field(number::COMPONENT_FORM, ordinal, field)),
     }
-    fetch::locate_component(&message, ordinal, field, component)
-        .ok_or(Refusal::of_whole(number::NO_SUCH_ORDINAL))
 }
 
 /// Writes an accepted message as a sheet of at most `room` bytes.

@@ -3,6 +3,7 @@
 
 use crate::delimiters::Delimiters;
 use crate::parts::{self, Parts};
+use crate::places::{self, Place};
 use crate::refusal::{number, Refusal};
 use crate::report::{
     Counts, Entry, Header, LabResult, Name, Order, Patient, Specimen, Value, ValueType, Visit,
@@ -68,14 +69,14 @@ impl<'m> Message<'m> {
 }
 
 fn read_header<'m>(fields: &mut Fields<'m>) -> Result<Header<'m>, Refusal> {
-    let sent = fields.read(7, &rules::SENT)?;
-    let mut message_type = fields.single(9)?;
-    message_type.read(1, &rules::MESSAGE_CODE)?;
-    message_type.read(2, &rules::MESSAGE_EVENT)?;
-    message_type.read(3, &rules::MESSAGE_STRUCTURE)?;
-    let control = fields.read(10, &rules::CONTROL)?;
-    let mode = fields.read(11, &rules::MODE)?;
-    fields.read(12, &rules::HL7_VERSION)?;
+    let sent = fields.read(&places::SENT)?;
+    let mut message_type = fields.single(&places::MESSAGE_CODE)?;
+    message_type.read(&places::MESSAGE_CODE)?;
+    message_type.read(&places::MESSAGE_EVENT)?;
+    message_type.read(&places::MESSAGE_STRUCTURE)?;
+    let control = fields.read(&places::CONTROL)?;
+    let mode = fields.read(&places::MODE)?;
+    fields.read(&places::HL7_VERSION)?;
     read_character_set(fields)?;
     Ok(Header {
         mode,
@@ -87,18 +88,21 @@ fn read_header<'m>(fields: &mut Fields<'m>) -> Result<Header<'m>, Refusal> {
 /// MSH-18 is compared raw: the repetition separator, then `ISO IR87`, nothing else. Whatever
 /// breaks that gives 25, its absence too.
 fn read_character_set(fields: &mut Fields) -> Result<(), Refusal> {
-    let field = fields.whole(18);
+    let place = &places::CHARACTER_SET;
+    let field = fields.whole(place);
     match field.raw.split_first() {
-        Some((&first, b"ISO IR87")) if first == field.delimiters.repetition => Ok(()),
+        Some((&first, name)) if first == field.delimiters.repetition && place.rule.holds(name) => {
+            Ok(())
+        }
         _ => Err(field.refuse(number::VALUE_RULE)),
     }
 }
 
 fn read_patient<'m>(fields: &mut Fields<'m>) -> Result<Patient<'m>, Refusal> {
-    let number = fields.read(3, &rules::PATIENT)?;
-    let (kanji, kana) = read_names(&fields.whole(5))?;
-    let birth = fields.read(7, &rules::BIRTH)?;
-    let sex = fields.read(8, &rules::SEX)?;
+    let number = fields.read(&places::PATIENT)?;
+    let (kanji, kana) = read_names(&fields.whole(&places::FAMILY))?;
+    let birth = fields.read(&places::BIRTH)?;
+    let sex = fields.read(&places::SEX)?;
     Ok(Patient {
         number,
         kanji,
@@ -111,7 +115,10 @@ fn read_patient<'m>(fields: &mut Fields<'m>) -> Result<Patient<'m>, Refusal> {
 /// PID-5 holds the kanji name in the first repetition marked I and the kana name in the first
 /// marked P; kanji is required and judged before kana.
 fn read_names<'m>(field: &Field<'m>) -> Result<(Name<'m>, Name<'m>), Refusal> {
-    let marked = |mark: &[u8]| field.repetitions().find(|name| name.component(8) == mark);
+    let marked = |mark: &[u8]| {
+        let mut names = field.repetitions();
+        names.find(|name| name.component(places::NAME_MARK) == mark)
+    };
     let kanji = match marked(b"I") {
         Some(mut name) => read_name(&mut name)?,
         None => return Err(field.refuse(number::REQUIRED_EMPTY)),
@@ -125,53 +132,53 @@ fn read_names<'m>(field: &Field<'m>) -> Result<(Name<'m>, Name<'m>), Refusal> {
 
 fn read_name<'m>(name: &mut Field<'m>) -> Result<Name<'m>, Refusal> {
     Ok(Name {
-        family: name.read(1, &rules::FAMILY)?,
-        given: name.read(2, &rules::GIVEN)?,
+        family: name.read(&places::FAMILY)?,
+        given: name.read(&places::GIVEN)?,
     })
 }
 
 fn read_visit<'m>(fields: &mut Fields<'m>) -> Result<Visit<'m>, Refusal> {
     Ok(Visit {
-        class: fields.read(2, &rules::CLASS)?,
+        class: fields.read(&places::CLASS)?,
     })
 }
 
 fn read_specimen<'m>(fields: &mut Fields<'m>) -> Result<Specimen<'m>, Refusal> {
-    let mut specimen = fields.single(4)?;
-    let code = specimen.read(1, &rules::SPECIMEN)?;
-    specimen.read(3, &rules::JC10)?;
-    let collected = fields.read(17, &rules::COLLECTED)?;
+    let mut specimen = fields.single(&places::SPECIMEN)?;
+    let code = specimen.read(&places::SPECIMEN)?;
+    specimen.read(&places::SPECIMEN_TABLE)?;
+    let collected = fields.read(&places::COLLECTED)?;
     Ok(Specimen { code, collected })
 }
 
 fn read_order<'m>(fields: &mut Fields<'m>) -> Result<Order<'m>, Refusal> {
-    let number = fields.read(2, &rules::ORDER_NUMBER)?;
-    let mut service = fields.single(4)?;
-    let group = service.read(1, &rules::GROUP)?;
-    service.read(3, &rules::GROUP_TABLE)?;
+    let number = fields.read(&places::ORDER_NUMBER)?;
+    let mut service = fields.single(&places::GROUP)?;
+    let group = service.read(&places::GROUP)?;
+    service.read(&places::GROUP_TABLE)?;
     Ok(Order { number, group })
 }
 
 /// ORC repeats the order: its number is judged by itself, then against the last OBR-2.
 fn read_order_again(fields: &mut Fields, order_number: &[u8]) -> Result<(), Refusal> {
-    fields.read(1, &rules::ORDER_CONTROL)?;
-    let mut field = fields.single(2)?;
-    if field.read(1, &rules::ORDER_NUMBER)? != order_number {
+    fields.read(&places::ORDER_CONTROL)?;
+    let mut field = fields.single(&places::ORDER_NUMBER_AGAIN)?;
+    if field.read(&places::ORDER_NUMBER_AGAIN)? != order_number {
         return Err(field.refuse(number::ORDER_NUMBERS_DIFFER));
     }
     Ok(())
 }
 
 fn read_result<'m>(fields: &mut Fields<'m>) -> Result<LabResult<'m>, Refusal> {
-    let value_type = ValueType::of_code(fields.read(2, &rules::VALUE_TYPE)?);
-    let mut observed = fields.single(3)?;
-    let item = observed.read(1, &rules::ITEM)?;
-    let name = observed.read(2, &rules::ITEM_NAME)?;
-    observed.read(3, &rules::JC10)?;
-    let value = read_value(&mut fields.single(5)?, value_type)?;
-    let unit = fields.read(6, &rules::UNIT)?;
-    let flag = fields.read(8, &rules::FLAG)?;
-    let mut last = fields.single(11)?;
+    let value_type = ValueType::of_code(fields.read(&places::VALUE_TYPE)?);
+    let mut observed = fields.single(&places::ITEM)?;
+    let item = observed.read(&places::ITEM)?;
+    let name = observed.read(&places::ITEM_NAME)?;
+    observed.read(&places::ITEM_TABLE)?;
+    let value = read_value(&mut fields.single(&places::NUMBER)?, value_type)?;
+    let unit = fields.read(&places::UNIT)?;
+    let flag = fields.read(&places::FLAG)?;
+    let mut last = fields.single(&places::STATUS)?;
     let result = LabResult {
         item,
         name,
@@ -179,7 +186,7 @@ fn read_result<'m>(fields: &mut Fields<'m>) -> Result<LabResult<'m>, Refusal> {
         value,
         unit,
         flag,
-        status: last.read(1, &rules::STATUS)?,
+        status: last.read(&places::STATUS)?,
     };
     if !result.value_fits_status() {
         return Err(last.refuse(number::VALUE_AGAINST_STATUS));
@@ -189,32 +196,32 @@ fn read_result<'m>(fields: &mut Fields<'m>) -> Result<LabResult<'m>, Refusal> {
 
 /// OBX-5. An empty value passes here: only its status can refuse it.
 fn read_value<'m>(field: &mut Field<'m>, value_type: ValueType) -> Result<Value<'m>, Refusal> {
-    let rule = match value_type {
+    let place = match value_type {
         ValueType::Structured => return read_structured_value(field),
-        ValueType::Number => &rules::NUMBER,
-        ValueType::Text => &rules::STRING,
+        ValueType::Number => &places::NUMBER,
+        ValueType::Text => &places::STRING,
     };
     field.refuse_components_past(1)?;
-    Ok(Value::single(field.read(1, rule)?))
+    Ok(Value::single(field.read(place)?))
 }
 
 /// SN: comparator, first number, joiner, second number. The first number may be empty only if
 /// all four parts are; a second number needs a joiner.
 fn read_structured_value<'m>(field: &mut Field<'m>) -> Result<Value<'m>, Refusal> {
-    const NUMBER_BESIDE_A_PART: Rule = rules::NUMBER.or_refused_when_empty();
+    const NUMBER_BESIDE_A_PART: Place = places::FIRST_NUMBER.or_refused_when_empty();
     field.refuse_components_past(4)?;
     let separator = field.delimiters.component;
     let filled = field.raw.iter().any(|&byte| byte != separator);
     let first_number = if filled {
         &NUMBER_BESIDE_A_PART
     } else {
-        &rules::NUMBER
+        &places::FIRST_NUMBER
     };
     let value = Value {
-        compare: field.read(1, &rules::COMPARATOR)?,
-        main: field.read(2, first_number)?,
-        join: field.read(3, &rules::JOINER)?,
-        second: field.read(4, &rules::NUMBER)?,
+        compare: field.read(&places::COMPARATOR)?,
+        main: field.read(first_number)?,
+        join: field.read(&places::JOINER)?,
+        second: field.read(&places::SECOND_NUMBER)?,
     };
     if value.lacks_joiner() {
         return Err(field.refuse(number::VALUE_RULE));
@@ -240,14 +247,15 @@ impl<'m> Fields<'m> {
         }
     }
 
-    /// A field with all its repetitions: MSH-18 and PID-5.
-    fn whole(&mut self, number: usize) -> Field<'m> {
-        let raw = self.parts.take(number);
-        self.field(raw, number)
+    /// The field of a place with all its repetitions: MSH-18 and PID-5.
+    fn whole(&mut self, place: &Place) -> Field<'m> {
+        let raw = self.parts.take(place.field);
+        self.field(raw, place.field)
     }
 
-    /// Any other read field: it may not be repeated.
-    fn single(&mut self, number: usize) -> Result<Field<'m>, Refusal> {
+    /// The field of any other place: it may not be repeated.
+    fn single(&mut self, place: &Place) -> Result<Field<'m>, Refusal> {
+        let number = place.field;
         let repetition = self.delimiters.repetition;
         match self.parts.take_without(number, repetition) {
             Some(raw) => Ok(self.field(raw, number)),
@@ -259,9 +267,9 @@ impl<'m> Fields<'m> {
         Field::new(raw, self.delimiters, self.segment, number)
     }
 
-    /// A field of which component 1 is read.
-    fn read(&mut self, number: usize, rule: &Rule) -> Result<&'m [u8], Refusal> {
-        self.single(number)?.read(1, rule)
+    /// The one read place of a field.
+    fn read(&mut self, place: &Place) -> Result<&'m [u8], Refusal> {
+        self.single(place)?.read(place)
     }
 }
 
@@ -309,9 +317,9 @@ impl<'m> Field<'m> {
     }
 
     /// The next read component, judged by its rule.
-    fn read(&mut self, component: usize, rule: &Rule) -> Result<&'m [u8], Refusal> {
-        let raw = self.components.take(component);
-        match judge_component(raw, rule, &self.delimiters) {
+    fn read(&mut self, place: &Place) -> Result<&'m [u8], Refusal> {
+        let raw = self.components.take(place.component);
+        match judge_component(raw, &place.rule, &self.delimiters) {
             Ok(()) => Ok(raw),
             Err(number) => Err(self.refuse(number)),
         }

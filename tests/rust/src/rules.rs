@@ -1,10 +1,8 @@
-//! The value rules: document 01's table of the places that the profile reads.
-//!
-//! A message and a sheet take the same rules, so each stands here once.
+//! The value rules: what a place that the profile reads, or a line of a sheet, admits.
 
 /// What a filled value must look like.
 #[derive(Clone, Copy, Debug)]
-enum Form {
+pub(crate) enum Form {
     /// Any text of at most so many bytes.
     Text(usize),
     /// NM: an optional sign, then digits with at most one point; at most 16 bytes.
@@ -30,68 +28,19 @@ pub struct Rule {
 
 use Form::{Code, Date, Digits, Number, OneOf, Text, Time};
 
-// MSH
-pub const SENT: Rule = required(Time);
-pub const MESSAGE_CODE: Rule = required(OneOf(&["OUL"]));
-pub const MESSAGE_EVENT: Rule = required(OneOf(&["R22"]));
-pub const MESSAGE_STRUCTURE: Rule = required(OneOf(&["OUL_R22"]));
-pub const CONTROL: Rule = required(Text(20));
-pub const MODE: Rule = required(OneOf(&["P", "T", "D"]));
-pub const HL7_VERSION: Rule = required(OneOf(&["2.5"]));
-
-// PID
-pub const PATIENT: Rule = required(Text(20));
-pub const FAMILY: Rule = required(Text(48));
-pub const GIVEN: Rule = optional(Text(48));
-pub const BIRTH: Rule = optional(Date);
-pub const SEX: Rule = required(OneOf(&["M", "F", "O", "U"]));
-
-// PV1
-pub const CLASS: Rule = required(OneOf(&["I", "O"]));
-
-// SPM
-pub const SPECIMEN: Rule = required(Digits(3));
-pub const COLLECTED: Rule = required(Time);
-
-// OBR, ORC
-pub const ORDER_NUMBER: Rule = required(Digits(15));
-pub const GROUP: Rule = required(Code(8));
-pub const GROUP_TABLE: Rule = required(OneOf(&["99003"]));
-pub const ORDER_CONTROL: Rule = required(OneOf(&["RE"]));
-
-// OBX
-pub const VALUE_TYPE: Rule = required(OneOf(&["NM", "SN", "ST"]));
-pub const ITEM: Rule = required(Code(17));
-pub const ITEM_NAME: Rule = optional(Text(48));
-pub const NUMBER: Rule = optional(Number);
-pub const STRING: Rule = optional(Text(200));
-pub const COMPARATOR: Rule = optional(OneOf(&[">", "<", ">=", "<=", "=", "<>"]));
-pub const JOINER: Rule = optional(OneOf(&["-", "+", "/", ".", ":"]));
-pub const UNIT: Rule = optional(Text(20));
-pub const FLAG: Rule = optional(OneOf(&["L", "H", "LL", "HH", "N", "A"]));
-pub const STATUS: Rule = required(OneOf(&["F", "P", "C", "I", "X"]));
-
-/// The table JC10 names both specimens and items.
-pub const JC10: Rule = required(OneOf(&["JC10"]));
-
-// Sheet only
-pub const SHEET_VERSION: Rule = required(OneOf(&["1"]));
-pub const KANA_FAMILY: Rule = FAMILY.or_empty();
-pub const BLANK: Rule = optional(OneOf(&[]));
-
 /// The value that stands for "delete this" in HL7, and that no read place admits.
 pub const DOUBLE_QUOTES: &[u8] = b"\"\"";
 
 const NUMBER_LIMIT: usize = 16;
 
-const fn required(form: Form) -> Rule {
+pub(crate) const fn required(form: Form) -> Rule {
     Rule {
         form,
         required: true,
     }
 }
 
-const fn optional(form: Form) -> Rule {
+pub(crate) const fn optional(form: Form) -> Rule {
     Rule {
         form,
         required: false,
@@ -113,14 +62,23 @@ impl Rule {
         self.required
     }
 
-    /// Whether a value of so many unescaped bytes is too long. Only texts and numbers can be:
-    /// any other rule fixes its own lengths.
-    pub fn is_too_long(&self, length: usize) -> bool {
+    /// The most unescaped bytes of a text or a number; any other rule fixes its own lengths.
+    pub const fn limit(&self) -> Option<usize> {
         match self.form {
-            Text(limit) => length > limit,
-            Number => length > NUMBER_LIMIT,
-            Time | Date | Digits(_) | Code(_) | OneOf(_) => false,
+            Text(limit) => Some(limit),
+            Number => Some(NUMBER_LIMIT),
+            Time | Date | Digits(_) | Code(_) | OneOf(_) => None,
         }
+    }
+
+    /// Whether a value of so many unescaped bytes is too long.
+    pub fn is_too_long(&self, length: usize) -> bool {
+        self.limit().is_some_and(|limit| length > limit)
+    }
+
+    /// Whether any bytes that are not too long keep the rule.
+    pub const fn is_of_text(&self) -> bool {
+        matches!(self.form, Text(_))
     }
 
     /// Whether a filled value that is not too long keeps the rule.
@@ -150,7 +108,7 @@ impl Rule {
 
 /// Whether a text is an NM: a filled one, of at most 16 bytes.
 pub fn is_nm(text: &[u8]) -> bool {
-    !text.is_empty() && NUMBER.admits(text)
+    required(Number).admits(text)
 }
 
 fn is_digits(value: &[u8]) -> bool {
@@ -230,7 +188,7 @@ mod tests {
     #[test]
     fn numbers() {
         for good in ["-0", "01.20", ".5", "5.", "+1", "1234567890123456", "+.5"] {
-            assert!(admits(NUMBER, good), "{good}");
+            assert!(admits(optional(Number), good), "{good}");
         }
         for bad in [
             ".",
@@ -244,14 +202,14 @@ mod tests {
             " 1",
             "12345678901234567",
         ] {
-            assert!(!admits(NUMBER, bad), "{bad}");
+            assert!(!admits(optional(Number), bad), "{bad}");
         }
     }
 
     #[test]
     fn dates() {
         for good in ["20240229", "20000229", "19000101", "20991231", ""] {
-            assert!(admits(BIRTH, good), "{good}");
+            assert!(admits(optional(Date), good), "{good}");
         }
         for bad in [
             "20230229",
@@ -266,14 +224,14 @@ mod tests {
             "202401011",
             "2024-1-1",
         ] {
-            assert!(!admits(BIRTH, bad), "{bad}");
+            assert!(!admits(optional(Date), bad), "{bad}");
         }
     }
 
     #[test]
     fn times() {
         for good in ["20240401093000", "20240229235959", "19000101000000"] {
-            assert!(admits(SENT, good), "{good}");
+            assert!(admits(required(Time), good), "{good}");
         }
         for bad in [
             "",
@@ -285,25 +243,28 @@ mod tests {
             "20240401093000+0900",
             "2024040109300a",
         ] {
-            assert!(!admits(SENT, bad), "{bad}");
+            assert!(!admits(required(Time), bad), "{bad}");
         }
     }
 
     #[test]
     fn words_and_codes() {
-        assert!(admits(MODE, "T") && !admits(MODE, "t") && !admits(MODE, ""));
-        assert!(admits(FLAG, "HH") && admits(FLAG, "") && !admits(FLAG, "HHH"));
-        assert!(admits(GROUP, "E000") && !admits(GROUP, "E00000000") && !admits(GROUP, "e"));
-        assert!(admits(SPECIMEN, "023") && !admits(SPECIMEN, "23") && !admits(SPECIMEN, "0023"));
-        assert!(admits(BLANK, "") && !admits(BLANK, " "));
+        let words = OneOf(&["L", "HH"]);
+        assert!(admits(required(words), "L") && !admits(required(words), "l"));
+        assert!(admits(optional(words), "") && !admits(required(words), ""));
+        assert!(admits(optional(words), "HH") && !admits(optional(words), "HHH"));
+        assert!(admits(required(Code(4)), "E000") && !admits(required(Code(4)), "E0000"));
+        assert!(!admits(required(Code(4)), "e") && !admits(required(Code(4)), ""));
+        assert!(admits(required(Digits(3)), "023"));
+        assert!(!admits(required(Digits(3)), "23") && !admits(required(Digits(3)), "0023"));
     }
 
     #[test]
     fn texts() {
-        for (rule, limit) in [(CONTROL, 20), (GIVEN, 48), (STRING, 200), (UNIT, 20)] {
-            assert!(admits(rule, &"a".repeat(limit)));
-            assert!(!admits(rule, &"a".repeat(limit + 1)));
-            assert!(!admits(rule, "\"\"") && admits(rule, "\"\" "));
-        }
+        let text = optional(Text(20));
+        assert!(admits(text, &"a".repeat(20)) && !admits(text, &"a".repeat(21)));
+        assert!(!admits(text, "\"\"") && admits(text, "\"\" "));
+        assert!(text.is_of_text() && !optional(Number).is_of_text());
+        assert_eq!([text.limit(), optional(Date).limit()], [Some(20), None]);
     }
 }

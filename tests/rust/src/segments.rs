@@ -9,12 +9,12 @@ pub const SEGMENT_END: u8 = 0x0D;
 /// The most segments of a message, all names counted.
 pub const SEGMENTS_LIMIT: usize = 512;
 /// The most bytes of a segment, its 0D not counted.
-const SEGMENT_LIMIT: usize = 4_096;
+pub const SEGMENT_LIMIT: usize = 4_096;
 
 const NAME_LENGTH: usize = 3;
 
 /// The names that the profile knows. Segments of any other name are skipped.
-#[derive(Clone, Copy, Debug, PartialEq, Eq)]
+#[derive(Clone, Copy, Debug, PartialEq, Eq, PartialOrd, Ord)]
 pub enum SegmentName {
     Msh,
     Pid,
@@ -26,7 +26,31 @@ pub enum SegmentName {
 }
 
 impl SegmentName {
-    fn of(segment: &[u8]) -> Option<Self> {
+    /// Every known name, in the order of the segments.
+    pub const ALL: [Self; 7] = [
+        Self::Msh,
+        Self::Pid,
+        Self::Pv1,
+        Self::Spm,
+        Self::Obr,
+        Self::Orc,
+        Self::Obx,
+    ];
+
+    pub const fn text(self) -> &'static str {
+        match self {
+            Self::Msh => "MSH",
+            Self::Pid => "PID",
+            Self::Pv1 => "PV1",
+            Self::Spm => "SPM",
+            Self::Obr => "OBR",
+            Self::Orc => "ORC",
+            Self::Obx => "OBX",
+        }
+    }
+
+    /// The known name that a segment begins with.
+    pub fn of(segment: &[u8]) -> Option<Self> {
         match segment.get(..NAME_LENGTH)? {
             b"MSH" => Some(Self::Msh),
             b"PID" => Some(Self::Pid),

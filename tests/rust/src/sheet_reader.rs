@@ -1,15 +1,21 @@
 //! Reading a sheet: its bytes (refusals 40 and 41), then its lines in order (42 and 43).
 
+use crate::places;
 use crate::refusal::{number, Refusal};
 use crate::report::{
     Entry, Header, LabResult, Name, Order, Patient, Specimen, Value, ValueType, Visit,
 };
-use crate::rules::{self, Rule};
+use crate::rules::{optional, required, Form::OneOf, Rule};
 use crate::shift::keeps_shift_rule;
 use crate::SHEET_LIMIT;
 
 /// The byte that ends a line.
 const LINE_END: u8 = 0x0A;
+
+// The rules of the lines that are no read place, or not always.
+const VERSION: Rule = required(OneOf(&["1"]));
+const KANA_FAMILY: Rule = places::FAMILY.rule.or_empty();
+const BLANK: Rule = optional(OneOf(&[]));
 
 /// Judges a sheet's lines in order, and tells each entry of the report as soon as it is read.
 pub fn read_sheet<'s>(sheet: &'s [u8], mut tell: impl FnMut(Entry<'s>)) -> Result<(), Refusal> {
@@ -43,33 +49,33 @@ pub fn judge_sheet(sheet: &[u8]) -> Result<(), Refusal> {
 }
 
 fn read_header<'s>(lines: &mut Lines<'s>) -> Result<Header<'s>, Refusal> {
-    lines.read("version", &rules::SHEET_VERSION)?;
+    lines.read("version", &VERSION)?;
     Ok(Header {
-        mode: lines.read("mode", &rules::MODE)?,
-        sent: lines.read("sent", &rules::SENT)?,
-        control: lines.read("control", &rules::CONTROL)?,
+        mode: lines.read("mode", &places::MODE.rule)?,
+        sent: lines.read("sent", &places::SENT.rule)?,
+        control: lines.read("control", &places::CONTROL.rule)?,
     })
 }
 
 fn read_patient<'s>(lines: &mut Lines<'s>) -> Result<Patient<'s>, Refusal> {
     Ok(Patient {
-        number: lines.read("patient", &rules::PATIENT)?,
+        number: lines.read("patient", &places::PATIENT.rule)?,
         kanji: Name {
-            family: lines.read("family", &rules::FAMILY)?,
-            given: lines.read("given", &rules::GIVEN)?,
+            family: lines.read("family", &places::FAMILY.rule)?,
+            given: lines.read("given", &places::GIVEN.rule)?,
         },
         kana: read_kana_name(lines)?,
-        birth: lines.read("birth", &rules::BIRTH)?,
-        sex: lines.read("sex", &rules::SEX)?,
+        birth: lines.read("birth", &places::BIRTH.rule)?,
+        sex: lines.read("sex", &places::SEX.rule)?,
     })
 }
 
 /// A blank kanafamily needs a blank kanagiven.
 fn read_kana_name<'s>(lines: &mut Lines<'s>) -> Result<Name<'s>, Refusal> {
-    let family = lines.read("kanafamily", &rules::KANA_FAMILY)?;
+    let family = lines.read("kanafamily", &KANA_FAMILY)?;
     let given_rule = match family {
-        b"" => &rules::BLANK,
-        _ => &rules::GIVEN,
+        b"" => &BLANK,
+        _ => &places::GIVEN.rule,
     };
     let given = lines.read("kanagiven", given_rule)?;
     Ok(Name { family, given })
@@ -77,36 +83,36 @@ fn read_kana_name<'s>(lines: &mut Lines<'s>) -> Result<Name<'s>, Refusal> {
 
 fn read_visit<'s>(lines: &mut Lines<'s>) -> Result<Visit<'s>, Refusal> {
     Ok(Visit {
-        class: lines.read("class", &rules::CLASS)?,
+        class: lines.read("class", &places::CLASS.rule)?,
     })
 }
 
 fn read_specimen<'s>(lines: &mut Lines<'s>) -> Result<Specimen<'s>, Refusal> {
     Ok(Specimen {
-        code: lines.read("specimen", &rules::SPECIMEN)?,
-        collected: lines.read("collected", &rules::COLLECTED)?,
+        code: lines.read("specimen", &places::SPECIMEN.rule)?,
+        collected: lines.read("collected", &places::COLLECTED.rule)?,
     })
 }
 
 fn read_order<'s>(lines: &mut Lines<'s>) -> Result<Order<'s>, Refusal> {
     Ok(Order {
-        number: lines.read("order", &rules::ORDER_NUMBER)?,
-        group: lines.read("group", &rules::GROUP)?,
+        number: lines.read("order", &places::ORDER_NUMBER.rule)?,
+        group: lines.read("group", &places::GROUP.rule)?,
     })
 }
 
 fn read_result<'s>(lines: &mut Lines<'s>) -> Result<LabResult<'s>, Refusal> {
-    let item = lines.read("item", &rules::ITEM)?;
-    let name = lines.read("name", &rules::ITEM_NAME)?;
-    let value_type = ValueType::of_code(lines.read("type", &rules::VALUE_TYPE)?);
+    let item = lines.read("item", &places::ITEM.rule)?;
+    let name = lines.read("name", &places::ITEM_NAME.rule)?;
+    let value_type = ValueType::of_code(lines.read("type", &places::VALUE_TYPE.rule)?);
     let result = LabResult {
         item,
         name,
         value_type,
         value: read_value(lines, value_type)?,
-        unit: lines.read("unit", &rules::UNIT)?,
-        flag: lines.read("flag", &rules::FLAG)?,
-        status: lines.read("status", &rules::STATUS)?,
+        unit: lines.read("unit", &places::UNIT.rule)?,
+        flag: lines.read("flag", &places::FLAG.rule)?,
+        status: lines.read("status", &places::STATUS.rule)?,
     };
     if !result.value_fits_status() {
         return Err(lines.refuse(number::SHEET_VALUE));
@@ -117,11 +123,16 @@ fn read_result<'s>(lines: &mut Lines<'s>) -> Result<LabResult<'s>, Refusal> {
 /// For NM and ST, compare, join and second are blank. What the parts of SN demand of one another
 /// is judged at second.
 fn read_value<'s>(lines: &mut Lines<'s>, value_type: ValueType) -> Result<Value<'s>, Refusal> {
-    use rules::{BLANK, COMPARATOR, JOINER, NUMBER, STRING};
+    use places::{COMPARATOR, FIRST_NUMBER, JOINER, NUMBER, SECOND_NUMBER, STRING};
     let [compare, main, join, second] = match value_type {
-        ValueType::Number => [&BLANK, &NUMBER, &BLANK, &BLANK],
-        ValueType::Structured => [&COMPARATOR, &NUMBER, &JOINER, &NUMBER],
-        ValueType::Text => [&BLANK, &STRING, &BLANK, &BLANK],
+        ValueType::Number => [&BLANK, &NUMBER.rule, &BLANK, &BLANK],
+        ValueType::Structured => [
+            &COMPARATOR.rule,
+            &FIRST_NUMBER.rule,
+            &JOINER.rule,
+            &SECOND_NUMBER.rule,
+        ],
+        ValueType::Text => [&BLANK, &STRING.rule, &BLANK, &BLANK],
     };
     let value = Value {
         compare: lines.read("compare", compare)?,

@@ -3,17 +3,18 @@
 use oul_tests::cases::{Call, Case};
 use oul_tests::delimiters::{Delimiters, ADMITTED};
 use oul_tests::parts;
+use oul_tests::places::{self, read_components, Place, CLOSED, READ};
 use oul_tests::refusal::number;
-use oul_tests::shift::{SHIFT, TO_TWO_BYTE};
+use oul_tests::shift::{find_unshifted, SHIFT, TO_TWO_BYTE};
 use oul_tests::{
-    check, csv_count, csv_next, csv_sheet, csv_sheets, csv_spot, generate, locate, segment, spot,
-    to_message, to_sheet, Given, Refusal, MESSAGE_LIMIT, SHEET_LIMIT,
+    check, csv_count, csv_next, csv_sheet, csv_sheets, csv_spot, generate, locate, part_text,
+    segment, spot, to_message, to_sheet, Given, Refusal, SegmentName, MESSAGE_LIMIT, SHEET_LIMIT,
 };
 use std::collections::{BTreeMap, BTreeSet};
 
 /// So many cases of messages and sheets meet each of their refusals and every limit, and so many
 /// of files.
-const RUN: usize = 9_000;
+const RUN: usize = 10_500;
 const RUN_OF_FILES: usize = 2_500;
 
 fn run(seed: u64) -> impl Iterator<Item = Case> {
@@ -29,7 +30,7 @@ fn messages(seed: u64) -> impl Iterator<Item = Vec<u8>> {
         .filter(|case| {
             matches!(
                 case.call,
-                Call::Check | Call::Fetch { .. } | Call::ToSheet { .. }
+                Call::Check | Call::Fetch(_) | Call::PartText { .. } | Call::ToSheet { .. }
             )
         })
         .map(|case| case.input)
@@ -115,6 +116,7 @@ fn check_fetch_and_sheet_refuse_alike() {
         let refused = check(&m).err();
         assert_eq!(sheet_of(&m).err(), refused);
         assert_eq!(locate(&m, 1, 1, 1).err(), refused);
+        assert_eq!(part_text(&m, 1, 1, 1, 1).err(), refused);
     }
 }
 
@@ -122,47 +124,95 @@ fn check_fetch_and_sheet_refuse_alike() {
 fn the_room_decides_last_and_by_the_byte() {
     let short = Err(Refusal::of_whole(45));
     for case in run(6) {
-        let call = match case.call {
-            Call::ToSheet { .. } => to_sheet,
-            Call::ToMessage { .. } => to_message,
-            _ => continue,
+        let written = |room| match case.call {
+            Call::PartText { part, .. } => Some(part.text(&case.input, room)),
+            Call::ToSheet { .. } => Some(to_sheet(&case.input, room)),
+            Call::ToMessage { .. } => Some(to_message(&case.input, room)),
+            _ => None,
         };
-        match call(&case.input, usize::MAX) {
-            Ok(output) => {
-                assert_eq!(call(&case.input, output.len() - 1), short);
-                assert_eq!(call(&case.input, output.len()), Ok(output));
+        match written(usize::MAX) {
+            Some(Ok(output)) => {
+                let less = output.len().checked_sub(1).and_then(written);
+                assert!(output.is_empty() || less == Some(short.clone()));
+                assert_eq!(written(output.len()), Some(Ok(output)));
             }
-            refused => assert_eq!(call(&case.input, 0), refused),
+            refused => assert_eq!(written(0), refused),
         }
     }
 }
 
-/// The read places that a sheet shows as they are: its key, the field and the component.
-const SHOWN: &[(&str, usize, usize)] = &[
-    ("sent", 7, 1),
-    ("control", 10, 1),
-    ("mode", 11, 1),
-    ("patient", 3, 1),
-    ("birth", 7, 1),
-    ("sex", 8, 1),
-    ("class", 2, 1),
-    ("specimen", 4, 1),
-    ("collected", 17, 1),
-    ("order", 2, 1),
-    ("group", 4, 1),
-    ("item", 3, 1),
-    ("name", 3, 2),
-    ("type", 2, 1),
-    ("unit", 6, 1),
-    ("flag", 8, 1),
-    ("status", 11, 1),
+#[test]
+fn every_shorter_room_is_too_short_for_a_text() {
+    let mut texts = 0;
+    for case in run(26) {
+        if let Call::PartText { part, .. } = case.call {
+            let length = part
+                .text(&case.input, usize::MAX)
+                .map_or(0, |text| text.len());
+            for room in 0..length {
+                let short = Err(Refusal::of_whole(45));
+                assert_eq!(part.text(&case.input, room), short);
+            }
+            texts += usize::from(length > 1);
+        }
+    }
+    assert!(texts > 200, "{texts}");
+}
+
+#[test]
+fn a_text_is_never_longer_than_its_part_and_the_same_where_nothing_is_escaped() {
+    for case in run(27) {
+        let Call::PartText { part, .. } = case.call else {
+            continue;
+        };
+        let Ok(stretch) = part.locate(&case.input) else {
+            continue;
+        };
+        let raw = &case.input[stretch];
+        let delimiters = Delimiters::of_header(&case.input).unwrap();
+        let escapes = find_unshifted(raw, |byte| byte == delimiters.escape).is_some();
+        let divided = find_unshifted(raw, |byte| byte == delimiters.subcomponent).is_some();
+        match part.text(&case.input, usize::MAX) {
+            Ok(text) => {
+                assert!(!divided && text.len() <= raw.len());
+                assert_eq!(text == raw, !escapes);
+                let mut again = Vec::new();
+                delimiters.escape_into(&text, &mut again);
+                assert_eq!(delimiters.plain(&again), Some(text));
+            }
+            Err(refusal) => {
+                assert!(divided || escapes);
+                assert_eq!(refusal, Refusal::at_field(23, part.ordinal, part.field));
+            }
+        }
+    }
+}
+
+/// The read places that a sheet shows as they are, by its keys.
+const SHOWN: &[(&str, Place)] = &[
+    ("sent", places::SENT),
+    ("control", places::CONTROL),
+    ("mode", places::MODE),
+    ("patient", places::PATIENT),
+    ("birth", places::BIRTH),
+    ("sex", places::SEX),
+    ("class", places::CLASS),
+    ("specimen", places::SPECIMEN),
+    ("collected", places::COLLECTED),
+    ("order", places::ORDER_NUMBER),
+    ("group", places::GROUP),
+    ("item", places::ITEM),
+    ("name", places::ITEM_NAME),
+    ("type", places::VALUE_TYPE),
+    ("unit", places::UNIT),
+    ("flag", places::FLAG),
+    ("status", places::STATUS),
 ];
 
 #[test]
-fn what_is_fetched_is_what_the_sheet_shows() {
+fn the_text_of_a_read_part_is_what_the_sheet_shows() {
     for m in messages(7).filter(|m| m.len() < 8_000) {
         let Ok(sheet) = sheet_of(&m) else { continue };
-        let delimiters = Delimiters::of_header(&m).unwrap();
         let mut ordinal = 0;
         for line in lines(&sheet, b'\n') {
             let (key, value) = key_and_value(line).unwrap();
@@ -171,12 +221,10 @@ fn what_is_fetched_is_what_the_sheet_shows() {
                 b"item" => 1 + usize::from(follows_an_order(&m, ordinal)),
                 _ => 0,
             };
-            let shown = SHOWN.iter().find(|(shown, ..)| shown.as_bytes() == key);
-            if let Some(&(_, field, component)) = shown {
-                let stretch = locate(&m, ordinal, field, component).unwrap();
-                let mut plain = Vec::new();
-                delimiters.unescape_into(&m[stretch], &mut plain);
-                assert_eq!(plain, value);
+            let shown = SHOWN.iter().find(|(shown, _)| shown.as_bytes() == key);
+            if let Some((_, place)) = shown {
+                let text = part_text(&m, ordinal, place.field, place.component, value.len());
+                assert_eq!(text.as_deref(), Ok(value));
             }
         }
     }
@@ -184,14 +232,11 @@ fn what_is_fetched_is_what_the_sheet_shows() {
 
 /// Whether the known segment of this ordinal is OBR, so that ORC stands before the next result.
 fn follows_an_order(m: &[u8], ordinal: usize) -> bool {
-    known_names(m).nth(ordinal - 1) == Some(b"OBR")
+    known_names(m).nth(ordinal - 1) == Some(SegmentName::Obr)
 }
 
-fn known_names(m: &[u8]) -> impl Iterator<Item = &[u8]> {
-    const KNOWN: [&[u8]; 7] = [b"MSH", b"PID", b"PV1", b"SPM", b"OBR", b"ORC", b"OBX"];
-    lines(m, b'\r')
-        .map(|segment| &segment[..segment.len().min(3)])
-        .filter(|name| KNOWN.contains(name))
+fn known_names(m: &[u8]) -> impl Iterator<Item = SegmentName> + '_ {
+    lines(m, b'\r').filter_map(SegmentName::of)
 }
 
 #[test]
@@ -303,7 +348,7 @@ fn every_call_is_accepted_in_a_run() {
         let count = accepted.entry(case.call.name()).or_insert(0);
         *count += usize::from(case.answer().refusal().is_none());
     }
-    assert_eq!(accepted.len(), 10, "{accepted:?}");
+    assert_eq!(accepted.len(), 11, "{accepted:?}");
     for (call, count) in accepted {
         let least = if call.starts_with("csv") { 50 } else { 200 };
         assert!(count > least, "{call}: {count}");
@@ -311,29 +356,80 @@ fn every_call_is_accepted_in_a_run() {
 }
 
 #[test]
-fn every_call_that_knows_files_gives_each_of_its_answers_in_a_run() {
+fn some_calls_give_each_of_their_answers_in_a_run() {
     for seed in [0, 1, 2, u64::MAX] {
         let mut met = BTreeSet::new();
-        for case in run_of_files(seed) {
-            let refusal = match case.call {
-                Call::CsvSpot => csv_count(&case.input).err(),
-                _ => case.answer().refusal(),
-            };
-            met.insert((
-                case.call.name(),
+        for case in run(seed).chain(run_of_files(seed)) {
+            let refusal = case.answer().refusal();
+            met.insert(generate::answered(
+                &case,
                 refusal.map_or(0, |refusal| refusal.number),
             ));
         }
-        for (call, numbers) in generate::OF_FILES {
-            for &number in numbers {
-                assert!(
-                    met.contains(&(call, number)),
-                    "seed {seed}: {call} {number}"
-                );
-            }
+        for (call, numbers) in generate::ANSWERS {
             let answers = met.iter().filter(|(name, _)| *name == call);
-            assert_eq!(answers.count(), numbers.len(), "seed {seed}: {call}");
+            let given: Vec<u8> = answers.map(|&(_, number)| number).collect();
+            assert_eq!(given, numbers, "seed {seed}: {call}");
         }
+    }
+}
+
+#[test]
+fn every_kind_of_text_is_asked_for_in_a_run() {
+    let mut met = BTreeSet::new();
+    for case in run(28) {
+        let Call::PartText { part, room } = case.call else {
+            continue;
+        };
+        let Ok(stretch) = part.locate(&case.input) else {
+            continue;
+        };
+        let raw = &case.input[stretch];
+        let d = Delimiters::of_header(&case.input).unwrap();
+        let name = known_names(&case.input).nth(part.ordinal - 1).unwrap();
+        let read = read_components(name, part.field).contains(&part.component);
+        let text = part.text(&case.input, usize::MAX);
+        let kind = match &text {
+            Ok(text) if text.is_empty() => "no byte",
+            Ok(text) if text == raw => "as it stands",
+            Ok(_) => "with escapes",
+            Err(_) if (name, part.field) == (SegmentName::Msh, 2) => "MSH-2",
+            Err(_) if find_unshifted(raw, |byte| byte == d.escape).is_none() => "divided",
+            Err(_) if find_unshifted(raw, |byte| byte == d.subcomponent).is_none() => "bad escape",
+            Err(_) => "both",
+        };
+        met.insert((kind, read));
+        if let Ok(text) = text {
+            let among_kanji = [d.escape, d.subcomponent].map(|byte| raw.contains(&byte));
+            met.insert((
+                "delimiters among kanji",
+                text == raw && among_kanji == [true; 2],
+            ));
+            met.insert(("kanji beside escapes", text != raw && raw.contains(&SHIFT)));
+            met.insert(("too short", room < text.len()));
+            met.insert(("a byte too short", room + 1 == text.len()));
+            met.insert(("no room", room == 0 && !text.is_empty()));
+            met.insert(("just enough", room == text.len() && !text.is_empty()));
+        }
+    }
+    for kind in ["no byte", "as it stands", "with escapes"] {
+        assert!(
+            met.contains(&(kind, true)) && met.contains(&(kind, false)),
+            "{kind}"
+        );
+    }
+    for kind in ["MSH-2", "divided", "bad escape", "both"] {
+        assert!(met.contains(&(kind, false)), "{kind}");
+    }
+    for kind in [
+        "delimiters among kanji",
+        "kanji beside escapes",
+        "too short",
+        "a byte too short",
+        "no room",
+        "just enough",
+    ] {
+        assert!(met.contains(&(kind, true)), "{kind}");
     }
 }
 
@@ -417,32 +513,28 @@ fn kind_of_place(text: &[u8], refusal: usize) -> &'static str {
 
 #[test]
 fn every_read_field_meets_each_of_its_refusals_in_a_run() {
-    let required = "MSH7 MSH9 MSH10 MSH11 MSH12 PID3 PID5 PID8 PV12 SPM4 SPM17 OBR2 OBR4 ORC1 \
-                    ORC2 OBX2 OBX3 OBX5 OBX11";
-    let single = "MSH7 MSH9 MSH10 MSH11 MSH12 PID3 PID7 PID8 PV12 SPM4 SPM17 OBR2 OBR4 ORC1 ORC2 \
-                  OBX2 OBX3 OBX5 OBX6 OBX8 OBX11";
-    let texts = "MSH10 PID3 PID5 OBX3 OBX5 OBX6";
-    let values = "MSH7 MSH9 MSH11 MSH12 MSH18 PID7 PID8 PV12 SPM4 SPM17 OBR2 OBR4 ORC1 ORC2 OBX2 \
-                  OBX3 OBX5 OBX8 OBX11";
-    let components = &format!("{single} PID5");
-    let mut expected = BTreeSet::new();
-    for (number, fields) in [
-        (20, required),
-        (21, components),
-        (22, single),
-        (23, components),
-        (24, texts),
-        (25, values),
-        (26, "OBX11"),
-        (27, "ORC2"),
-    ] {
-        expected.extend(fields.split(' ').map(|field| format!("{number} {field}")));
+    let field = |place: &Place| format!("{}{}", place.segment.text(), place.field);
+    let mut expected = BTreeSet::from(["20 OBX5", "26 OBX11", "27 ORC2"].map(String::from));
+    for place in &READ {
+        let whole = field(place) == "MSH18";
+        let repeated = whole || field(place) == "PID5";
+        for (number, given) in [
+            (20, place.rule.is_required() && !whole),
+            (21, !whole),
+            (22, !repeated),
+            (23, !whole),
+            (24, place.rule.limit().is_some()),
+            (25, !place.rule.is_of_text()),
+        ] {
+            if given {
+                expected.insert(format!("{number} {}", field(place)));
+            }
+        }
     }
     let met: BTreeSet<String> = messages(10)
         .filter_map(|m| {
             let refusal = check(&m).err().filter(|refusal| refusal.field > 0)?;
-            let name = known_names(&m).nth(refusal.place - 1)?;
-            let name = String::from_utf8_lossy(name);
+            let name = known_names(&m).nth(refusal.place - 1)?.text();
             Some(format!("{} {name}{}", refusal.number, refusal.field))
         })
         .collect();
@@ -524,7 +616,7 @@ fn the_limit_of_a_sheet_is_met_from_both_sides_by_files() {
 
 #[test]
 fn the_limits_of_text_are_met_from_both_sides() {
-    let given = lengths_of_values(sheets(13));
+    let given = lengths_of_values((29..32).flat_map(sheets));
     let accepted = lengths_of_values(messages(13).filter_map(|m| sheet_of(&m).ok()));
     for (key, limit) in [
         ("control", 20),
@@ -564,34 +656,19 @@ fn every_delimiter_serves_for_every_purpose_in_a_run() {
     assert_eq!(met.len(), 5 * ADMITTED.len(), "{met:?}");
 }
 
-type ReadFields = &'static [(usize, &'static [usize])];
-
-/// The known segments' fields that the profile reads, with the components read; none for a
-/// closed field, where nothing is unread.
-#[rustfmt::skip]
-const READ: &[(&str, ReadFields)] = &[
-    ("MSH", &[(1, &[]), (2, &[]), (7, &[1]), (9, &[1, 2, 3]), (10, &[1]), (11, &[1]), (12, &[1]), (18, &[])]),
-    ("PID", &[(3, &[1]), (5, &[]), (7, &[1]), (8, &[1])]),
-    ("PV1", &[(2, &[1])]),
-    ("SPM", &[(4, &[1, 3]), (17, &[1])]),
-    ("OBR", &[(2, &[1]), (4, &[1, 3])]),
-    ("ORC", &[(1, &[1]), (2, &[1])]),
-    ("OBX", &[(2, &[1]), (3, &[1, 2, 3]), (5, &[]), (6, &[1]), (8, &[1]), (11, &[1])]),
-];
-
 #[test]
 fn every_unread_place_is_filled_in_accepted_messages_of_a_run() {
     let mut expected = BTreeSet::new();
-    for &(name, read) in READ {
-        let (last, _) = read[read.len() - 1];
-        for number in 1..=last + 1 {
-            match read.iter().find(|&&(field, _)| field == number) {
-                None => drop(expected.insert((name, number, 0))),
-                Some((_, [])) => (),
-                Some((_, components)) => {
-                    let behind = components[components.len() - 1] + 1;
-                    let unread = (1..=behind).filter(|n| !components.contains(n));
-                    expected.extend(unread.map(|component| (name, number, component)));
+    for name in SegmentName::ALL {
+        let fields = READ.iter().filter(|place| place.segment == name);
+        let last = fields.map(|place| place.field).max().unwrap();
+        for field in (1..=last + 1).filter(|&field| !CLOSED.contains(&(name, field))) {
+            let read = read_components(name, field);
+            match read.last() {
+                None => drop(expected.insert((name, field, 0))),
+                Some(last) => {
+                    let unread = (1..=last + 1).filter(|n| !read.contains(n));
+                    expected.extend(unread.map(|component| (name, field, component)));
                 }
             }
         }
@@ -600,22 +677,16 @@ fn every_unread_place_is_filled_in_accepted_messages_of_a_run() {
     for m in messages(15).filter(|m| check(m).is_ok()) {
         let d = Delimiters::of_header(&m).unwrap();
         for segment in lines(&m, b'\r') {
-            let fields = parts::split(segment, d.field);
+            let Some(name) = SegmentName::of(segment) else {
+                continue;
+            };
             // the first separator of MSH is itself field 1
-            let first = usize::from(segment.starts_with(b"MSH"));
-            let known = READ
-                .iter()
-                .find(|(name, _)| segment.starts_with(name.as_bytes()));
-            let Some(&(name, read)) = known else { continue };
-            for (number, field) in (first..).zip(fields).skip(1) {
-                let open = read
-                    .iter()
-                    .any(|&(n, components)| n == number && !components.is_empty());
-                if !field.is_empty() {
-                    met.insert((name, number, 0));
-                }
+            let first = usize::from(name == SegmentName::Msh);
+            let fields = (first..).zip(parts::split(segment, d.field)).skip(1);
+            for (number, field) in fields.filter(|(_, field)| !field.is_empty()) {
+                met.insert((name, number, 0));
                 for (n, component) in (1..).zip(parts::split(field, d.component)) {
-                    if open && !component.is_empty() {
+                    if !component.is_empty() {
                         met.insert((name, number, n));
                     }
                 }
@@ -630,15 +701,12 @@ fn every_unread_place_is_filled_in_accepted_messages_of_a_run() {
 fn segments_of_other_names_stand_behind_every_known_one_in_a_run() {
     let mut met = BTreeSet::new();
     for m in messages(16).filter(|m| check(m).is_ok()) {
-        let segments: Vec<&[u8]> = lines(&m, b'\r').map(|segment| &segment[..3]).collect();
-        let known = |name: &[u8]| READ.iter().any(|(known, _)| known.as_bytes() == name);
-        for pair in segments.windows(2).filter(|pair| !known(pair[1])) {
-            met.insert(pair[0].to_vec());
+        let names: Vec<_> = lines(&m, b'\r').map(SegmentName::of).collect();
+        for pair in names.windows(2).filter(|pair| pair[1].is_none()) {
+            met.extend(pair[0]);
         }
     }
-    for (name, _) in READ {
-        assert!(met.contains(name.as_bytes()), "{name}");
-    }
+    assert!(met.iter().eq(&SegmentName::ALL), "{met:?}");
 }
 
 #[test]

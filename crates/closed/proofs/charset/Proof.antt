@@ -5,17 +5,8 @@ use Rattle.closed.proofs.Laws.{charset-right, charset-wrong}
 use Rattle.closed.proofs.charset.Statement.{statement}
 use Rattle.closed.proofs.charset.Tie as tie
 
-finish-requires : tie.Need-finish-requires
-finish-requires c κs = search needs
-
 slice-aggregate-led : tie.Need-slice-aggregate-led
 slice-aggregate-led c = search (part-length, needs)
-
-slice-aggregate-led-2 : tie.Need-slice-aggregate-led-2
-slice-aggregate-led-2 c = search needs
-
-led-requires : tie.Need-led-requires
-led-requires c κs = search needs
 
 returns : tie.Need-returns
 returns c = search (charset-right, needs)
@@ -27,9 +18,8 @@ pub charset-spec : {M : Type 1} → statement M
 charset-spec =
     tie.close
     (tie.spec
-    finish-requires
+    (λ c κs. search needs)
     slice-aggregate-led
-    slice-aggregate-led-2
-    led-requires
+    (λ c. search needs) (λ c κs. search needs)
     returns
     returns-2)

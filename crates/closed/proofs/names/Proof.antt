@@ -5,9 +5,6 @@ use Rattle.closed.proofs.Laws.{field-free, names-are}
 use Rattle.closed.proofs.names.Statement.{statement}
 use Rattle.closed.proofs.names.Tie as tie
 
-finish-requires : tie.Need-finish-requires
-finish-requires c κs = search needs
-
 slice-aggregate-both : tie.Need-slice-aggregate-both
 slice-aggregate-both c = search (part-length, needs)
 
@@ -18,4 +15,4 @@ returns : tie.Need-returns
 returns c = search (names-are, needs)
 
 pub names-spec : {M : Type 1} → statement M
-names-spec = tie.close (tie.spec finish-requires slice-aggregate-both both-requires returns)
+names-spec = tie.close (tie.spec (λ c κs. search needs) slice-aggregate-both both-requires returns)

@@ -16,23 +16,8 @@ abbrev μ-loop : tie.MeasureT-loop
 loop-holds : tie.Need-loop-holds Inv-loop μ-loop
 loop-holds c = search (looking-starts, needs)
 
-sub-r : tie.Need-sub-r Inv-loop μ-loop
-sub-r c = search needs
-
-part-r-start : tie.Need-part-r-start Inv-loop μ-loop
-part-r-start c = search needs
-
-part-r-end : tie.Need-part-r-end Inv-loop μ-loop
-part-r-end c = search needs
-
-marked-requires : tie.Need-marked-requires Inv-loop μ-loop
-marked-requires c κs = search needs
-
 returns : tie.Need-returns Inv-loop μ-loop
 returns c = search (looking-finds, rest-fits, needs)
-
-past-requires : tie.Need-past-requires Inv-loop μ-loop
-past-requires c κs = search needs
 
 add-at : tie.Need-add-at Inv-loop μ-loop
 add-at c = search (rest-within, needs)
@@ -42,15 +27,6 @@ loop-less c = search (past-less, needs)
 
 loop-again : tie.Need-loop-again Inv-loop μ-loop
 loop-again c = search (looking-on, rest-within, needs)
-
-sub-result : tie.Need-sub-result Inv-loop μ-loop
-sub-result c = search needs
-
-part-result-start : tie.Need-part-result-start Inv-loop μ-loop
-part-result-start c = search needs
-
-part-result-end : tie.Need-part-result-end Inv-loop μ-loop
-part-result-end c = search needs
 
 returns-2 : tie.Need-returns-2 Inv-loop μ-loop
 returns-2 c = search (looking-ends, rest-fits, needs)
@@ -62,16 +38,11 @@ repetition-spec =
     Inv-loop
     μ-loop
     loop-holds
-    sub-r
-    part-r-start
-    part-r-end
-    marked-requires
+    (λ c. search needs) (λ c. search needs) (λ c. search needs) (λ c κs. search needs)
     returns
-    past-requires
+    (λ c κs. search needs)
     add-at
     loop-less
     loop-again
-    sub-result
-    part-result-start
-    part-result-end
+    (λ c. search needs) (λ c. search needs) (λ c. search needs)
     returns-2)

@@ -19,7 +19,6 @@ one-more-spec =
     (tie.spec
     (λ c. search needs)
     sub-result
-    (λ c. search needs)
-    (λ c. search needs)
+    (λ c. search needs) (λ c. search needs)
     returns
     returns-2)

@@ -36,7 +36,6 @@ blank-at-spec =
     loop-holds
     (λ c. search needs)
     returns
-    (λ c κs. search needs)
-    (λ c. search needs)
+    (λ c κs. search needs) (λ c. search needs)
     loop-again
     returns-2)

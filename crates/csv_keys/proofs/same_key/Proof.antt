@@ -39,8 +39,7 @@ same-key-spec =
     (tie.spec
     Inv-loop
     μ-loop
-    (λ c. search needs)
-    (λ c. search needs)
+    (λ c. search needs) (λ c. search needs)
     loop-holds
     byte-at-requires
     byte-at-requires-2

@@ -11,6 +11,5 @@ pub same-order-spec : {M : Type 1} → statement M
 same-order-spec =
     tie.close
     (tie.spec
-    (λ c κs. search needs)
-    (λ c κs. search needs)
+    (λ c κs. search needs) (λ c κs. search needs)
     returns)

@@ -11,6 +11,5 @@ pub same-specimen-spec : {M : Type 1} → statement M
 same-specimen-spec =
     tie.close
     (tie.spec
-    (λ c κs. search needs)
-    (λ c κs. search needs)
+    (λ c κs. search needs) (λ c κs. search needs)
     returns)

@@ -20,8 +20,7 @@ pub sex-spec : {M : Type 1} → statement M
 sex-spec =
     tie.close
     (tie.spec
-    (λ c κs. search needs)
-    (λ c κs. search needs)
+    (λ c κs. search needs) (λ c κs. search needs)
     returns
     (λ c κs. search needs)
     returns-2

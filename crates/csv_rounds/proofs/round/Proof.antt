@@ -47,8 +47,7 @@ round-spec =
     (tie.spec
     Inv-loop
     μ-loop
-    (λ c κs. search needs)
-    (λ c. search needs)
+    (λ c κs. search needs) (λ c. search needs)
     loop-holds
     row-requires
     returns

@@ -47,8 +47,7 @@ settled-spec =
     part-round-start
     (λ c. search needs)
     round-requires
-    (λ c κs. search needs)
-    (λ c κs. search needs)
+    (λ c κs. search needs) (λ c κs. search needs)
     place-behind-requires
     loop-less
     loop-again

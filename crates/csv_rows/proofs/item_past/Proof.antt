@@ -18,8 +18,7 @@ pub item-past-spec : {M : Type 1} → statement M
 item-past-spec =
     tie.close
     (tie.spec
-    (λ c. search needs)
-    (λ c κs. search needs)
+    (λ c. search needs) (λ c κs. search needs)
     returns
     (λ c. search needs)
     after-close-requires

@@ -23,5 +23,4 @@ next-item-spec =
     returns-2
     (λ c. search needs) (λ c κs. search needs) (λ c κs. search needs) (λ c. search needs) (λ c. search needs) (λ c. search needs)
     returns-3
-    (λ c κs. search needs)
-    (λ c. search needs))
+    (λ c κs. search needs) (λ c. search needs))

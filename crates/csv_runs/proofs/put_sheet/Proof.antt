@@ -51,9 +51,7 @@ put-sheet-spec =
     returns
     put-first-requires
     loop-holds
-    (λ c. search needs)
-    (λ c κs. search needs)
-    (λ c. search needs)
+    (λ c. search needs) (λ c κs. search needs) (λ c. search needs)
     put-next-requires
     loop-less
     loop-again

@@ -37,9 +37,7 @@ run-spec =
     (λ c κs. search needs)
     returns
     loop-holds
-    (λ c. search needs)
-    (λ c κs. search needs)
-    (λ c. search needs)
+    (λ c. search needs) (λ c κs. search needs) (λ c. search needs)
     loop-less
     loop-again
     returns-2)

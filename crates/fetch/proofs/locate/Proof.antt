@@ -4,18 +4,6 @@ use Rattle.fetch.proofs.Laws.{locate-accepted, locate-refused, refused-
 use Rattle.fetch.proofs.locate.Statement.{statement}
 use Rattle.fetch.proofs.locate.Tie as tie
 
-check-requires : tie.Need-check-requires
-check-requires c κs = search needs
-
-enum-known-r : tie.Need-enum-known-r
-enum-known-r c = search needs
-
-enum-told : tie.Need-enum-told
-enum-told c = search needs
-
-place-requires : tie.Need-place-requires
-place-requires c κs = search needs
-
 returns : tie.Need-returns
 returns c = search (locate-refused, refused-within, needs)
 
@@ -24,4 +12,4 @@ returns-2 c = search (locate-accepted, needs)
 
 pub locate-spec : {M : Type 1} → statement M
 locate-spec =
-    tie.close (tie.spec check-requires enum-known-r enum-told place-requires returns returns-2)
+    tie.close (tie.spec (λ c κs. search needs) (λ c. search needs) (λ c. search needs) (λ c κs. search needs) returns returns-2)

@@ -7,11 +7,8 @@ use Rattle.fetch.proofs.undivided.Tie as tie
 returns : tie.Need-returns
 returns c = search (undivided-one, needs)
 
-add-t5 : tie.Need-add-t5
-add-t5 c = search needs
-
 returns-2 : tie.Need-returns-2
 returns-2 c = search (undivided-more, needs)
 
 pub undivided-spec : {M : Type 1} → statement M
-undivided-spec = tie.close (tie.spec returns add-t5 returns-2)
+undivided-spec = tie.close (tie.spec returns (λ c. search needs) returns-2)

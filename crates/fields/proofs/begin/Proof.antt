@@ -1,4 +1,4 @@
--- `fields::begin` meets its contract. Assumes nothing.
+-- `fields::begin` meets its contract.
 use borrow.Author.Needs.{needs}
 use Rattle.value.specs.Rules.{faultNo, fineOf}
 use Rattle.fields.proofs.begin.Statement.{statement}

@@ -1,47 +1,21 @@
--- `frame::frame` meets its contract. Assumes nothing.
+-- `frame` meets its contract. Assumes nothing.
 use borrow.Author.Needs.{needs}
-use Rattle.frame.proofs.Laws.{frame-10, frame-11, frame-12, frame-13, frame-close, header-long, sound-by, whole-within}
+use Rattle.header.proofs.Laws.{header-long}
+use Rattle.frame.proofs.Laws.{frame-10, frame-11, frame-12, frame-13, frame-close, sound-by, whole-within}
 use Rattle.frame.proofs.frame.Statement.{statement}
 use Rattle.frame.proofs.frame.Tie as tie
-
-refused-requires : tie.Need-refused-requires
-refused-requires c κs = search needs
 
 returns : tie.Need-returns
 returns c = search (frame-10, sound-by, needs)
 
-is-header-requires : tie.Need-is-header-requires
-is-header-requires c κs = search needs
-
-refused-requires-2 : tie.Need-refused-requires-2
-refused-requires-2 c κs = search needs
-
 returns-2 : tie.Need-returns-2
 returns-2 c = search (frame-11, sound-by, needs)
-
-keeps-requires : tie.Need-keeps-requires
-keeps-requires c κs = search needs
-
-refused-requires-3 : tie.Need-refused-requires-3
-refused-requires-3 c κs = search needs
 
 returns-3 : tie.Need-returns-3
 returns-3 c = search (frame-12, sound-by, needs)
 
 delims-requires : tie.Need-delims-requires
 delims-requires c κs = search (header-long, needs)
-
-pass-requires : tie.Need-pass-requires
-pass-requires c κs = search needs
-
-enum-told : tie.Need-enum-told
-enum-told c = search needs
-
-refused-requires-4 : tie.Need-refused-requires-4
-refused-requires-4 c κs = search needs
-
-enum-known-seen : tie.Need-enum-known-seen
-enum-known-seen c = search needs
 
 close-requires : tie.Need-close-requires
 close-requires c κs = search (whole-within, needs)
@@ -56,19 +30,14 @@ pub frame-spec : {M : Type 1} → statement M
 frame-spec =
     tie.close
     (tie.spec
-    refused-requires
+    (λ c κs. search needs)
     returns
-    is-header-requires
-    refused-requires-2
+    (λ c κs. search needs) (λ c κs. search needs)
     returns-2
-    keeps-requires
-    refused-requires-3
+    (λ c κs. search needs) (λ c κs. search needs)
     returns-3
     delims-requires
-    pass-requires
-    enum-told
-    refused-requires-4
-    enum-known-seen
+    (λ c κs. search needs) (λ c. search needs) (λ c κs. search needs) (λ c. search needs)
     close-requires
     returns-4
     returns-5)

@@ -5,26 +5,8 @@ use Rattle.rules.proofs.Lists.{rest-is, rest-shorter}
 use Rattle.lines.proofs.behind_key.Statement.{statement}
 use Rattle.lines.proofs.behind_key.Tie as tie
 
-sub-result : tie.Need-sub-result
-sub-result c = search needs
-
-part-result-start : tie.Need-part-result-start
-part-result-start c = search needs
-
-part-result-end : tie.Need-part-result-end
-part-result-end c = search needs
-
 returns : tie.Need-returns
 returns c = (search (value-none, needs), search (rest-shorter, needs))
-
-sub-result-2 : tie.Need-sub-result-2
-sub-result-2 c = search needs
-
-part-result-start-2 : tie.Need-part-result-start-2
-part-result-start-2 c = search needs
-
-part-result-end-2 : tie.Need-part-result-end-2
-part-result-end-2 c = search needs
 
 returns-2 : tie.Need-returns-2
 returns-2 c = (search (rest-is, needs), search (rest-shorter, needs))
@@ -33,11 +15,7 @@ pub behind-key-spec : {M : Type 1} → statement M
 behind-key-spec =
     tie.close
     (tie.spec
-    sub-result
-    part-result-start
-    part-result-end
+    (λ c. search needs) (λ c. search needs) (λ c. search needs)
     returns
-    sub-result-2
-    part-result-start-2
-    part-result-end-2
+    (λ c. search needs) (λ c. search needs) (λ c. search needs)
     returns-2)

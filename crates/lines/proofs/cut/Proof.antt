@@ -15,29 +15,8 @@ abbrev μ-loop : tie.MeasureT-loop
 loop-holds : tie.Need-loop-holds Inv-loop μ-loop
 loop-holds c = search (cut-start, needs)
 
-mul-next-line : tie.Need-mul-next-line Inv-loop μ-loop
-mul-next-line c = search needs
-
-array-read-next-line : tie.Need-array-read-next-line Inv-loop μ-loop
-array-read-next-line c = search needs
-
 next-line-requires : tie.Need-next-line-requires Inv-loop μ-loop
 next-line-requires c κs = search (cut-place, needs)
-
-add-at : tie.Need-add-at Inv-loop μ-loop
-add-at c = search needs
-
-mul-at : tie.Need-mul-at Inv-loop μ-loop
-mul-at c = search needs
-
-array-write-at : tie.Need-array-write-at Inv-loop μ-loop
-array-write-at c = search needs
-
-add-i : tie.Need-add-i Inv-loop μ-loop
-add-i c = search needs
-
-loop-less : tie.Need-loop-less Inv-loop μ-loop
-loop-less c = search needs
 
 loop-again : tie.Need-loop-again Inv-loop μ-loop
 loop-again c = search (cut-on, needs)
@@ -52,13 +31,8 @@ cut-spec =
     Inv-loop
     μ-loop
     loop-holds
-    mul-next-line
-    array-read-next-line
+    (λ c. search needs) (λ c. search needs)
     next-line-requires
-    add-at
-    mul-at
-    array-write-at
-    add-i
-    loop-less
+    (λ c. search needs) (λ c. search needs) (λ c. search needs) (λ c. search needs) (λ c. search needs)
     loop-again
     returns)

@@ -5,15 +5,6 @@ use borrow.Author.Needs.{needs}
 use Rattle.lines.proofs.first.Statement.{statement}
 use Rattle.lines.proofs.first.Tie as tie
 
-enum-told : tie.Need-enum-told
-enum-told c = search needs
-
-enum-known-a : tie.Need-enum-known-a
-enum-known-a c = search needs
-
-enum-known-a-2 : tie.Need-enum-known-a-2
-enum-known-a-2 c = search needs
-
 returns : tie.Need-returns
 unfolding andThen
 returns c = search (first-is, needs)
@@ -27,4 +18,4 @@ unfolding andThen
 returns-3 c = search (first-is, needs)
 
 pub first-spec : {M : Type 1} → statement M
-first-spec = tie.close (tie.spec enum-told enum-known-a enum-known-a-2 returns returns-2 returns-3)
+first-spec = tie.close (tie.spec (λ c. search needs) (λ c. search needs) (λ c. search needs) returns returns-2 returns-3)

@@ -4,20 +4,8 @@ use Rattle.lines.proofs.Laws.{line-if-is}
 use Rattle.lines.proofs.line_if.Statement.{statement}
 use Rattle.lines.proofs.line_if.Tie as tie
 
-line-at-requires : tie.Need-line-at-requires
-line-at-requires c κs = search needs
-
-behind-key-requires : tie.Need-behind-key-requires
-behind-key-requires c κs = search needs
-
-keeps-place-requires : tie.Need-keeps-place-requires
-keeps-place-requires c κs = search needs
-
-judged-requires : tie.Need-judged-requires
-judged-requires c κs = search needs
-
 returns : tie.Need-returns
 returns c = search (line-if-is, needs)
 
 pub line-if-spec : {M : Type 1} → statement M
-line-if-spec = tie.close (tie.spec line-at-requires behind-key-requires keeps-place-requires judged-requires returns)
+line-if-spec = tie.close (tie.spec (λ c κs. search needs) (λ c κs. search needs) (λ c κs. search needs) (λ c κs. search needs) returns)

@@ -12,11 +12,8 @@ returns c = search (starts-short, needs)
 slice-aggregate-equal : tie.Need-slice-aggregate-equal
 slice-aggregate-equal c = search (part-length, needs)
 
-equal-requires : tie.Need-equal-requires
-equal-requires c κs = search needs
-
 returns-2 : tie.Need-returns-2
 returns-2 c = search (starts-is, needs)
 
 pub starts-spec : {M : Type 1} → statement M
-starts-spec = tie.close (tie.spec returns slice-aggregate-equal equal-requires returns-2)
+starts-spec = tie.close (tie.spec returns slice-aggregate-equal (λ c κs. search needs) returns-2)

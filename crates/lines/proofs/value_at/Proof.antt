@@ -4,14 +4,8 @@ use Rattle.lines.proofs.Laws.{value-is}
 use Rattle.lines.proofs.value_at.Statement.{statement}
 use Rattle.lines.proofs.value_at.Tie as tie
 
-line-at-requires : tie.Need-line-at-requires
-line-at-requires c κs = search needs
-
-behind-key-requires : tie.Need-behind-key-requires
-behind-key-requires c κs = search needs
-
 returns : tie.Need-returns
 returns c = (search (value-is, needs), search needs)
 
 pub value-at-spec : {M : Type 1} → statement M
-value-at-spec = tie.close (tie.spec line-at-requires behind-key-requires returns)
+value-at-spec = tie.close (tie.spec (λ c κs. search needs) (λ c κs. search needs) returns)

@@ -8,7 +8,7 @@ returns : tie.Need-returns
 returns c =
     let found = c .before .before .before .before .known-segment .ensures in
     let is = c .before .before .s .given .1 in
-    (found-number _ _ _ (found .0) _ is, found-segment _ _ _ (found .0) _ is (found .1 _ is))
+    (found-number _ _ _ (found .told) _ is, found-segment _ _ _ (found .told) _ is (found .within _ is))
 
 returns-2 : tie.Need-returns-2
 returns-2 c = search (absent-number, absent-place, needs)

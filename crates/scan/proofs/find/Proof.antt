@@ -2,7 +2,7 @@
 use borrow.Author.Needs.{needs}
 use Prim.Native.Nat.{_-_, _≤_}
 use lib.ListN.{length}
-use Rattle.scan.specs.Scan.{is}
+use Rattle.bytes.specs.Bytes.{is}
 use Rattle.scan.proofs.Walk.{Before, find-on, find-plain, find-here, find-over}
 use Rattle.scan.proofs.find.Statement.{statement}
 use Rattle.scan.proofs.find.Tie as tie
@@ -16,29 +16,11 @@ abbrev μ-loop : tie.MeasureT-loop
 loop-holds : tie.Need-loop-holds Inv-loop μ-loop
 loop-holds c = search (find-plain, find-on, find-here, find-over, needs)
 
-shared-slice-read-b : tie.Need-shared-slice-read-b Inv-loop μ-loop
-shared-slice-read-b c = search needs
-
 returns : tie.Need-returns Inv-loop μ-loop
 returns c = search (find-here, find-over, needs)
 
-plain-requires : tie.Need-plain-requires Inv-loop μ-loop
-plain-requires c κs = search needs
-
-add-i : tie.Need-add-i Inv-loop μ-loop
-add-i c = search needs
-
-loop-less : tie.Need-loop-less Inv-loop μ-loop
-loop-less c = search needs
-
 loop-again : tie.Need-loop-again Inv-loop μ-loop
 loop-again c = search (find-plain, find-on, find-here, find-over, needs)
-
-advance-requires : tie.Need-advance-requires Inv-loop μ-loop
-advance-requires c κs = search needs
-
-loop-less-2 : tie.Need-loop-less-2 Inv-loop μ-loop
-loop-less-2 c = search needs
 
 loop-again-2 : tie.Need-loop-again-2 Inv-loop μ-loop
 loop-again-2 c = search (find-on, needs)
@@ -53,13 +35,10 @@ find-spec =
     Inv-loop
     μ-loop
     loop-holds
-    shared-slice-read-b
+    (λ c. search needs)
     returns
-    plain-requires
-    add-i
-    loop-less
+    (λ c κs. search needs) (λ c. search needs) (λ c. search needs)
     loop-again
-    advance-requires
-    loop-less-2
+    (λ c κs. search needs) (λ c. search needs)
     loop-again-2
     returns-2)

@@ -14,47 +14,14 @@ Inv-loop s end i₀ i = (i ≤ length s) × (keeps end s ≡ keeps end (drop i s
 abbrev μ-loop : tie.MeasureT-loop
 μ-loop s end i₀ i = length s - i
 
-loop-holds : tie.Need-loop-holds Inv-loop μ-loop
-loop-holds c = search needs
-
-shared-slice-read-plain : tie.Need-shared-slice-read-plain Inv-loop μ-loop
-shared-slice-read-plain c = search needs
-
-plain-requires : tie.Need-plain-requires Inv-loop μ-loop
-plain-requires c κs = search needs
-
-add-i : tie.Need-add-i Inv-loop μ-loop
-add-i c = search needs
-
-loop-less : tie.Need-loop-less Inv-loop μ-loop
-loop-less c = search needs
-
 loop-again : tie.Need-loop-again Inv-loop μ-loop
 loop-again c = search (keeps-plain, needs)
-
-shared-slice-read-ends-line : tie.Need-shared-slice-read-ends-line Inv-loop μ-loop
-shared-slice-read-ends-line c = search needs
-
-ends-line-requires : tie.Need-ends-line-requires Inv-loop μ-loop
-ends-line-requires c κs = search needs
-
-add-i-2 : tie.Need-add-i-2 Inv-loop μ-loop
-add-i-2 c = search needs
-
-loop-less-2 : tie.Need-loop-less-2 Inv-loop μ-loop
-loop-less-2 c = search needs
 
 loop-again-2 : tie.Need-loop-again-2 Inv-loop μ-loop
 loop-again-2 c = search (keeps-line, needs)
 
-advance-requires : tie.Need-advance-requires Inv-loop μ-loop
-advance-requires c κs = search needs
-
 returns : tie.Need-returns Inv-loop μ-loop
 returns c = search (keeps-not, needs)
-
-loop-less-3 : tie.Need-loop-less-3 Inv-loop μ-loop
-loop-less-3 c = search needs
 
 loop-again-3 : tie.Need-loop-again-3 Inv-loop μ-loop
 loop-again-3 c = search (keeps-on, needs)
@@ -68,19 +35,12 @@ keeps-spec =
     (tie.spec
     Inv-loop
     μ-loop
-    loop-holds
-    shared-slice-read-plain
-    plain-requires
-    add-i
-    loop-less
+    (λ c. search needs) (λ c. search needs) (λ c κs. search needs) (λ c. search needs) (λ c. search needs)
     loop-again
-    shared-slice-read-ends-line
-    ends-line-requires
-    add-i-2
-    loop-less-2
+    (λ c. search needs) (λ c κs. search needs) (λ c. search needs) (λ c. search needs)
     loop-again-2
-    advance-requires
+    (λ c κs. search needs)
     returns
-    loop-less-3
+    (λ c. search needs)
     loop-again-3
     returns-2)

@@ -5,14 +5,8 @@ use Rattle.rules.proofs.Logic.{never}
 use Rattle.scan.proofs.two.Statement.{statement}
 use Rattle.scan.proofs.two.Tie as tie
 
-enum-told : tie.Need-enum-told
-enum-told c = search needs
-
-returns : tie.Need-returns
-returns c = search needs
-
 returns-2 : tie.Need-returns-2
 returns-2 c = λ h. never (sym h)
 
 pub two-spec : {M : Type 1} → statement M
-two-spec = tie.close (tie.spec enum-told returns returns-2)
+two-spec = tie.close (tie.spec (λ c. search needs) (λ c. search needs) returns-2)

@@ -14,38 +14,14 @@ Inv-loop s at i₀ i = Units s Two at i
 abbrev μ-loop : tie.MeasureT-loop
 μ-loop s at i₀ i = length s - i
 
-two-requires : tie.Need-two-requires Inv-loop μ-loop
-two-requires c κs = search needs
-
 returns : tie.Need-returns Inv-loop μ-loop
 returns c = search (units-none, units-done, needs)
 
 loop-holds : tie.Need-loop-holds Inv-loop μ-loop
 loop-holds c = search (units-none, units-done, needs)
 
-add-loop : tie.Need-add-loop Inv-loop μ-loop
-add-loop c = search needs
-
-shared-slice-read-unit : tie.Need-shared-slice-read-unit Inv-loop μ-loop
-shared-slice-read-unit c = search needs
-
-add-unit : tie.Need-add-unit Inv-loop μ-loop
-add-unit c = search needs
-
-shared-slice-read-unit-2 : tie.Need-shared-slice-read-unit-2 Inv-loop μ-loop
-shared-slice-read-unit-2 c = search needs
-
-unit-requires : tie.Need-unit-requires Inv-loop μ-loop
-unit-requires c κs = search needs
-
 returns-2 : tie.Need-returns-2 Inv-loop μ-loop
 returns-2 c = search (units-done, needs)
-
-add-i : tie.Need-add-i Inv-loop μ-loop
-add-i c = search needs
-
-loop-less : tie.Need-loop-less Inv-loop μ-loop
-loop-less c = search needs
 
 loop-again : tie.Need-loop-again Inv-loop μ-loop
 loop-again c = search (units-on, units-done, needs)
@@ -59,16 +35,11 @@ units-spec =
     (tie.spec
     Inv-loop
     μ-loop
-    two-requires
+    (λ c κs. search needs)
     returns
     loop-holds
-    add-loop
-    shared-slice-read-unit
-    add-unit
-    shared-slice-read-unit-2
-    unit-requires
+    (λ c. search needs) (λ c. search needs) (λ c. search needs) (λ c. search needs) (λ c κs. search needs)
     returns-2
-    add-i
-    loop-less
+    (λ c. search needs) (λ c. search needs)
     loop-again
     returns-3)

@@ -1,6 +1,6 @@
 -- `sheets::index` meets its contract. Assumes nothing.
 use borrow.Author.Needs.{needs}
-use Rattle.lines.specs.Lines.{indexOf}
+use Rattle.groups.specs.Groups.{indexOf}
 use Rattle.sheets.proofs.Judging.{index-named}
 use Rattle.sheets.proofs.index.Statement.{statement}
 use Rattle.sheets.proofs.index.Tie as tie

@@ -4,8 +4,8 @@ use Rattle.sheets.proofs.Telling.{readable-short, judged-wrong, judged-
 use Rattle.sheets.proofs.judge.Statement.{statement}
 use Rattle.sheets.proofs.judge.Tie as tie
 
-groups-requires : tie.Need-groups-requires
-groups-requires c κs = search (readable-short, needs)
+read-groups-requires : tie.Need-read-groups-requires
+read-groups-requires c κs = search (readable-short, needs)
 
 returns : tie.Need-returns
 returns c = search (judged-wrong, needs)
@@ -14,4 +14,4 @@ returns-2 : tie.Need-returns-2
 returns-2 c = search (judged-right, needs)
 
 pub judge-spec : {M : Type 1} → statement M
-judge-spec = tie.close (tie.spec (λ c κs. search needs) (λ c. search needs) (λ c. search needs) groups-requires returns returns-2)
+judge-spec = tie.close (tie.spec (λ c κs. search needs) (λ c. search needs) (λ c. search needs) read-groups-requires returns returns-2)

@@ -4,7 +4,7 @@ use Prim.Native.Nat.{_+_, _-_, _≤_}
 use mathlib.Core.Path.{_≡_}
 use lib.ListN.{length, drop}
 use Rattle.rules.specs.Lists.{count}
-use Rattle.scan.specs.Scan.{is}
+use Rattle.bytes.specs.Bytes.{is}
 use Rattle.spot.proofs.Laws.{ends-on, ends-over}
 use Rattle.spot.proofs.line_ends.Statement.{statement}
 use Rattle.spot.proofs.line_ends.Tie as tie

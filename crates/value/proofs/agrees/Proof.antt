@@ -5,24 +5,6 @@ use Rattle.value.proofs.Laws.{agrees-empty, agrees-filled, three-words}
 use Rattle.value.proofs.agrees.Statement.{statement}
 use Rattle.value.proofs.agrees.Tie as tie
 
-slice-aggregate-equal : tie.Need-slice-aggregate-equal
-slice-aggregate-equal c = search needs
-
-equal-requires : tie.Need-equal-requires
-equal-requires c κs = search needs
-
-slice-aggregate-equal-2 : tie.Need-slice-aggregate-equal-2
-slice-aggregate-equal-2 c = search needs
-
-equal-requires-2 : tie.Need-equal-requires-2
-equal-requires-2 c κs = search needs
-
-slice-aggregate-equal-3 : tie.Need-slice-aggregate-equal-3
-slice-aggregate-equal-3 c = search needs
-
-equal-requires-3 : tie.Need-equal-requires-3
-equal-requires-3 c κs = search needs
-
 returns : tie.Need-returns
 unfolding bytes split onto
 returns c = search (agrees-filled, three-words, needs)
@@ -35,11 +17,6 @@ pub agrees-spec : {M : Type 1} → statement M
 agrees-spec =
     tie.close
     (tie.spec
-    slice-aggregate-equal
-    equal-requires
-    slice-aggregate-equal-2
-    equal-requires-2
-    slice-aggregate-equal-3
-    equal-requires-3
+    (λ c. search needs) (λ c κs. search needs) (λ c. search needs) (λ c κs. search needs) (λ c. search needs) (λ c κs. search needs)
     returns
     returns-2)

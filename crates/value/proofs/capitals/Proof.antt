@@ -7,11 +7,8 @@ use Rattle.value.proofs.capitals.Tie as tie
 returns : tie.Need-returns
 returns c = search (capitals·laws, needs)
 
-all-capitals-or-digits-requires : tie.Need-all-capitals-or-digits-requires
-all-capitals-or-digits-requires c κs = search needs
-
 returns-2 : tie.Need-returns-2
 returns-2 c = search (capitals·laws, needs)
 
 pub capitals-spec : {M : Type 1} → statement M
-capitals-spec = tie.close (tie.spec returns all-capitals-or-digits-requires returns-2)
+capitals-spec = tie.close (tie.spec returns (λ c κs. search needs) returns-2)

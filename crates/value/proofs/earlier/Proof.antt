@@ -4,9 +4,6 @@ use Rattle.value.proofs.Laws.{earlier·laws}
 use Rattle.value.proofs.earlier.Statement.{statement}
 use Rattle.value.proofs.earlier.Tie as tie
 
-fine-requires : tie.Need-fine-requires
-fine-requires c κs = search needs
-
 returns : tie.Need-returns
 returns c = search (earlier·laws, needs)
 
@@ -14,4 +11,4 @@ returns-2 : tie.Need-returns-2
 returns-2 c = search (earlier·laws, needs)
 
 pub earlier-spec : {M : Type 1} → statement M
-earlier-spec = tie.close (tie.spec fine-requires returns returns-2)
+earlier-spec = tie.close (tie.spec (λ c κs. search needs) returns returns-2)

@@ -10,14 +10,8 @@ returns c = search (fault_of·laws, needs)
 returns-2 : tie.Need-returns-2
 returns-2 c = search (fault_of·laws, needs)
 
-too-long-requires : tie.Need-too-long-requires
-too-long-requires c κs = search needs
-
 returns-3 : tie.Need-returns-3
 returns-3 c = search (fault_of·laws, needs)
-
-holds-requires : tie.Need-holds-requires
-holds-requires c κs = search needs
 
 returns-4 : tie.Need-returns-4
 returns-4 c = search (fault_of·laws, needs)
@@ -28,4 +22,4 @@ returns-5 c = search (fault_of·laws, needs)
 pub fault-of-spec : {M : Type 1} → statement M
 fault-of-spec =
     tie.close
-    (tie.spec returns returns-2 too-long-requires returns-3 holds-requires returns-4 returns-5)
+    (tie.spec returns returns-2 (λ c κs. search needs) returns-3 (λ c κs. search needs) returns-4 returns-5)

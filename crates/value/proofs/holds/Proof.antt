@@ -6,45 +6,6 @@ use Rattle.value.proofs.Laws.{holds-is}
 use Rattle.value.proofs.holds.Statement.{statement}
 use Rattle.value.proofs.holds.Tie as tie
 
-enum-told : tie.Need-enum-told
-enum-told c = search needs
-
-is-time-requires : tie.Need-is-time-requires
-is-time-requires c κs = search needs
-
-enum-told-2 : tie.Need-enum-told-2
-enum-told-2 c = search needs
-
-is-date-requires : tie.Need-is-date-requires
-is-date-requires c κs = search needs
-
-enum-told-3 : tie.Need-enum-told-3
-enum-told-3 c = search needs
-
-is-number-requires : tie.Need-is-number-requires
-is-number-requires c κs = search needs
-
-enum-told-4 : tie.Need-enum-told-4
-enum-told-4 c = search needs
-
-enum-known-rule : tie.Need-enum-known-rule
-enum-known-rule c = search needs
-
-digits-requires : tie.Need-digits-requires
-digits-requires c κs = search needs
-
-enum-known-rule-2 : tie.Need-enum-known-rule-2
-enum-known-rule-2 c = search needs
-
-capitals-requires : tie.Need-capitals-requires
-capitals-requires c κs = search needs
-
-enum-known-rule-3 : tie.Need-enum-known-rule-3
-enum-known-rule-3 c = search needs
-
-is-word-requires : tie.Need-is-word-requires
-is-word-requires c κs = search needs
-
 returns : tie.Need-returns
 unfolding ruleOf holds
 returns c = search (holds-is, needs)
@@ -77,19 +38,8 @@ pub holds-spec : {M : Type 1} → statement M
 holds-spec =
     tie.close
     (tie.spec
-    enum-told
-    is-time-requires
-    enum-told-2
-    is-date-requires
-    enum-told-3
-    is-number-requires
-    enum-told-4
-    enum-known-rule
-    digits-requires
-    enum-known-rule-2
-    capitals-requires
-    enum-known-rule-3
-    is-word-requires
+    (λ c. search needs) (λ c κs. search needs) (λ c. search needs) (λ c κs. search needs) (λ c. search needs) (λ c κs. search needs) (λ c. search needs)
+    (λ c. search needs) (λ c κs. search needs) (λ c. search needs) (λ c κs. search needs) (λ c. search needs) (λ c κs. search needs)
     returns
     returns-2
     returns-3

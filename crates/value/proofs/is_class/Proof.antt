@@ -6,18 +6,6 @@ use Rattle.value.proofs.Laws.{two-words}
 use Rattle.value.proofs.is_class.Statement.{statement}
 use Rattle.value.proofs.is_class.Tie as tie
 
-slice-aggregate-equal : tie.Need-slice-aggregate-equal
-slice-aggregate-equal c = search needs
-
-equal-requires : tie.Need-equal-requires
-equal-requires c κs = search needs
-
-slice-aggregate-equal-2 : tie.Need-slice-aggregate-equal-2
-slice-aggregate-equal-2 c = search needs
-
-equal-requires-2 : tie.Need-equal-requires-2
-equal-requires-2 c κs = search needs
-
 returns : tie.Need-returns
 unfolding textOf bytes split onto
 returns c = search (two-words, needs)
@@ -26,8 +14,5 @@ pub is-class-spec : {M : Type 1} → statement M
 is-class-spec =
     tie.close
     (tie.spec
-    slice-aggregate-equal
-    equal-requires
-    slice-aggregate-equal-2
-    equal-requires-2
+    (λ c. search needs) (λ c κs. search needs) (λ c. search needs) (λ c κs. search needs)
     returns)

@@ -1,6 +1,6 @@
 -- `words::breach_words` meets its contract. Assumes nothing.
 use Rattle.rules.specs.Lists.{bytes}
-use Rattle.scan.specs.Scan.{until}
+use Rattle.bytes.specs.Bytes.{until}
 use Rattle.words.specs.Words.{saying, breachWords}
 use Rattle.words.proofs.Laws.{breach-words}
 use borrow.Author.Needs.{needs}

@@ -1,7 +1,7 @@
 -- `words::spelled` meets its contract. Assumes nothing.
 use Rattle.rules.specs.Lists.{bytes}
 use Rattle.rules.specs.Frame.{spelling}
-use Rattle.scan.specs.Scan.{until}
+use Rattle.bytes.specs.Bytes.{until}
 use Rattle.words.proofs.Laws.{spelled-is}
 use borrow.Author.Needs.{needs}
 use Rattle.words.proofs.spelled.Statement.{statement}

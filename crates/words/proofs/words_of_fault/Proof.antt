@@ -1,6 +1,6 @@
 -- `words::words_of_fault` meets its contract. Assumes nothing.
 use Rattle.rules.specs.Lists.{bytes}
-use Rattle.scan.specs.Scan.{until}
+use Rattle.bytes.specs.Bytes.{until}
 use Rattle.words.specs.Words.{faultWords}
 use Rattle.words.proofs.Laws.{fault-words}
 use borrow.Author.Needs.{needs}

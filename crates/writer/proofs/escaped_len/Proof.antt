@@ -19,44 +19,8 @@ abbrev μ-loop : tie.MeasureT-loop
 loop-holds : tie.Need-loop-holds Inv-loop μ-loop
 loop-holds c = search (measure-begins, needs)
 
-shared-slice-read-b : tie.Need-shared-slice-read-b Inv-loop μ-loop
-shared-slice-read-b c = search needs
-
-simple-requires : tie.Need-simple-requires Inv-loop μ-loop
-simple-requires c κs = search needs
-
-add-n : tie.Need-add-n Inv-loop μ-loop
-add-n c = search needs
-
-add-i : tie.Need-add-i Inv-loop μ-loop
-add-i c = search needs
-
-loop-less : tie.Need-loop-less Inv-loop μ-loop
-loop-less c = search needs
-
 loop-again : tie.Need-loop-again Inv-loop μ-loop
 loop-again c = search (simple-measured, needs)
-
-next-byte-requires : tie.Need-next-byte-requires Inv-loop μ-loop
-next-byte-requires c κs = search needs
-
-unit-len-requires : tie.Need-unit-len-requires Inv-loop μ-loop
-unit-len-requires c κs = search needs
-
-add-n-2 : tie.Need-add-n-2 Inv-loop μ-loop
-add-n-2 c = search needs
-
-sub-n : tie.Need-sub-n Inv-loop μ-loop
-sub-n c = search needs
-
-add-n-3 : tie.Need-add-n-3 Inv-loop μ-loop
-add-n-3 c = search needs
-
-add-n-4 : tie.Need-add-n-4 Inv-loop μ-loop
-add-n-4 c = search needs
-
-loop-less-2 : tie.Need-loop-less-2 Inv-loop μ-loop
-loop-less-2 c = search needs
 
 loop-again-2 : tie.Need-loop-again-2 Inv-loop μ-loop
 loop-again-2 c = search (measure-goes, needs)
@@ -71,18 +35,8 @@ escaped-len-spec =
     Inv-loop
     μ-loop
     loop-holds
-    shared-slice-read-b
-    simple-requires
-    add-n
-    add-i
-    loop-less
+    (λ c. search needs) (λ c κs. search needs) (λ c. search needs) (λ c. search needs) (λ c. search needs)
     loop-again
-    next-byte-requires
-    unit-len-requires
-    add-n-2
-    sub-n
-    add-n-3
-    add-n-4
-    loop-less-2
+    (λ c κs. search needs) (λ c κs. search needs) (λ c. search needs) (λ c. search needs) (λ c. search needs) (λ c. search needs) (λ c. search needs)
     loop-again-2
     returns)

@@ -19,56 +19,23 @@ abbrev μ-loop : tie.MeasureT-loop
 loop-holds : tie.Need-loop-holds Inv-loop μ-loop
 loop-holds c = search (escape-begins, needs)
 
-shared-slice-read-b : tie.Need-shared-slice-read-b Inv-loop μ-loop
-shared-slice-read-b c = search needs
-
-simple-requires : tie.Need-simple-requires Inv-loop μ-loop
-simple-requires c κs = search needs
-
 slice-write-out : tie.Need-slice-write-out Inv-loop μ-loop
 slice-write-out c = search (simple-room, needs)
 
 add-at : tie.Need-add-at Inv-loop μ-loop
 add-at c = search (simple-few, needs)
 
-add-i : tie.Need-add-i Inv-loop μ-loop
-add-i c = search needs
-
-loop-less : tie.Need-loop-less Inv-loop μ-loop
-loop-less c = search needs
-
 loop-again : tie.Need-loop-again Inv-loop μ-loop
 loop-again c = search (simple-goes, needs)
-
-next-byte-requires : tie.Need-next-byte-requires Inv-loop μ-loop
-next-byte-requires c κs = search needs
-
-add-after : tie.Need-add-after Inv-loop μ-loop
-add-after c = search needs
 
 put-unit-requires : tie.Need-put-unit-requires Inv-loop μ-loop
 put-unit-requires c κs = search (byte-room, needs)
 
-sub-put-at : tie.Need-sub-put-at Inv-loop μ-loop
-sub-put-at c = search needs
-
-part-put-at-start : tie.Need-part-put-at-start Inv-loop μ-loop
-part-put-at-start c = search needs
-
-part-put-at-end : tie.Need-part-put-at-end Inv-loop μ-loop
-part-put-at-end c = search needs
-
 put-at-requires : tie.Need-put-at-requires Inv-loop μ-loop
 put-at-requires c κs = search (stretch-room, needs)
 
-loop-less-2 : tie.Need-loop-less-2 Inv-loop μ-loop
-loop-less-2 c = search needs
-
 loop-again-2 : tie.Need-loop-again-2 Inv-loop μ-loop
 loop-again-2 c = search (escape-goes, needs)
-
-same-length : tie.Need-same-length Inv-loop μ-loop
-same-length c = search needs
 
 returns : tie.Need-returns Inv-loop μ-loop
 returns c = search (escape-ends, needs)
@@ -80,21 +47,16 @@ put-escaped-spec =
     Inv-loop
     μ-loop
     loop-holds
-    shared-slice-read-b
-    simple-requires
+    (λ c. search needs) (λ c κs. search needs)
     slice-write-out
     add-at
-    add-i
-    loop-less
+    (λ c. search needs) (λ c. search needs)
     loop-again
-    next-byte-requires
-    add-after
+    (λ c κs. search needs) (λ c. search needs)
     put-unit-requires
-    sub-put-at
-    part-put-at-start
-    part-put-at-end
+    (λ c. search needs) (λ c. search needs) (λ c. search needs)
     put-at-requires
-    loop-less-2
+    (λ c. search needs)
     loop-again-2
-    same-length
+    (λ c. search needs)
     returns)

@@ -5,23 +5,14 @@ use borrow.Author.Needs.{needs}
 use Rattle.writer.proofs.put_slot.Statement.{statement}
 use Rattle.writer.proofs.put_slot.Tie as tie
 
-mul-put-escaped-at : tie.Need-mul-put-escaped-at
-mul-put-escaped-at c = search needs
-
 shared-slice-copy-out-put-escaped-at : tie.Need-shared-slice-copy-out-put-escaped-at
 shared-slice-copy-out-put-escaped-at c = search (there-text, there-plain, needs)
 
 put-escaped-at-requires : tie.Need-put-escaped-at-requires
 put-escaped-at-requires c κs = search (room-text, needs)
 
-same-length : tie.Need-same-length
-same-length c = search needs
-
 returns : tie.Need-returns
 returns c = search (put-text, put-plain, put-itself, needs)
-
-mul-put-at : tie.Need-mul-put-at
-mul-put-at c = search needs
 
 shared-slice-copy-out-put-at : tie.Need-shared-slice-copy-out-put-at
 shared-slice-copy-out-put-at c = search (there-text, there-plain, needs)
@@ -29,23 +20,11 @@ shared-slice-copy-out-put-at c = search (there-text, there-plain, needs)
 put-at-requires : tie.Need-put-at-requires
 put-at-requires c κs = search (room-plain, needs)
 
-same-length-2 : tie.Need-same-length-2
-same-length-2 c = search needs
-
 returns-2 : tie.Need-returns-2
 returns-2 c = search (put-text, put-plain, put-itself, needs)
 
-delimiter-requires : tie.Need-delimiter-requires
-delimiter-requires c κs = search needs
-
-slice-aggregate-put-at : tie.Need-slice-aggregate-put-at
-slice-aggregate-put-at c = search needs
-
 put-at-requires-2 : tie.Need-put-at-requires-2
 put-at-requires-2 c κs = search (room-itself, needs)
-
-same-length-3 : tie.Need-same-length-3
-same-length-3 c = search needs
 
 returns-3 : tie.Need-returns-3
 returns-3 c = search (put-text, put-plain, put-itself, needs)
@@ -54,18 +33,17 @@ pub put-slot-spec : {M : Type 1} → statement M
 put-slot-spec =
     tie.close
     (tie.spec
-    mul-put-escaped-at
+    (λ c. search needs)
     shared-slice-copy-out-put-escaped-at
     put-escaped-at-requires
-    same-length
+    (λ c. search needs)
     returns
-    mul-put-at
+    (λ c. search needs)
     shared-slice-copy-out-put-at
     put-at-requires
-    same-length-2
+    (λ c. search needs)
     returns-2
-    delimiter-requires
-    slice-aggregate-put-at
+    (λ c κs. search needs) (λ c. search needs)
     put-at-requires-2
-    same-length-3
+    (λ c. search needs)
     returns-3)

@@ -17,29 +17,11 @@ abbrev μ-loop : tie.MeasureT-loop
 loop-holds : tie.Need-loop-holds Inv-loop μ-loop
 loop-holds c = search (woven-begins, woven-room, woven-goes, woven-ends, one-hole, holes-go, needs)
 
-shared-slice-read-slot : tie.Need-shared-slice-read-slot Inv-loop μ-loop
-shared-slice-read-slot c = search needs
-
 put-slot-requires : tie.Need-put-slot-requires Inv-loop μ-loop
 put-slot-requires c κs = search (woven-room, one-hole, needs)
 
-texts-for-requires : tie.Need-texts-for-requires Inv-loop μ-loop
-texts-for-requires c κs = search needs
-
-add-next : tie.Need-add-next Inv-loop μ-loop
-add-next c = search needs
-
-add-i : tie.Need-add-i Inv-loop μ-loop
-add-i c = search needs
-
-loop-less : tie.Need-loop-less Inv-loop μ-loop
-loop-less c = search needs
-
 loop-again : tie.Need-loop-again Inv-loop μ-loop
 loop-again c = search (woven-begins, woven-room, woven-goes, woven-ends, one-hole, holes-go, needs)
-
-same-length : tie.Need-same-length Inv-loop μ-loop
-same-length c = search needs
 
 returns : tie.Need-returns Inv-loop μ-loop
 returns c = search (woven-ends, needs)
@@ -51,12 +33,9 @@ put-woven-spec =
     Inv-loop
     μ-loop
     loop-holds
-    shared-slice-read-slot
+    (λ c. search needs)
     put-slot-requires
-    texts-for-requires
-    add-next
-    add-i
-    loop-less
+    (λ c κs. search needs) (λ c. search needs) (λ c. search needs) (λ c. search needs)
     loop-again
-    same-length
+    (λ c. search needs)
     returns)

@@ -17,23 +17,8 @@ abbrev μ-loop : tie.MeasureT-loop
 loop-holds : tie.Need-loop-holds Inv-loop μ-loop
 loop-holds c = search (sizes-begin, needs)
 
-mul-length-of : tie.Need-mul-length-of Inv-loop μ-loop
-mul-length-of c = search needs
-
-shared-slice-copy-out-length-of : tie.Need-shared-slice-copy-out-length-of Inv-loop μ-loop
-shared-slice-copy-out-length-of c = search needs
-
-length-of-requires : tie.Need-length-of-requires Inv-loop μ-loop
-length-of-requires c κs = search needs
-
 add-n : tie.Need-add-n Inv-loop μ-loop
 add-n c = search (sizes-few, needs)
-
-add-i : tie.Need-add-i Inv-loop μ-loop
-add-i c = search needs
-
-loop-less : tie.Need-loop-less Inv-loop μ-loop
-loop-less c = search needs
 
 loop-again : tie.Need-loop-again Inv-loop μ-loop
 loop-again c = search (sizes-go, needs)
@@ -48,11 +33,8 @@ sizes-of-spec =
     Inv-loop
     μ-loop
     loop-holds
-    mul-length-of
-    shared-slice-copy-out-length-of
-    length-of-requires
+    (λ c. search needs) (λ c. search needs) (λ c κs. search needs)
     add-n
-    add-i
-    loop-less
+    (λ c. search needs) (λ c. search needs)
     loop-again
     returns)

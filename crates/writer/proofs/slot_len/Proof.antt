@@ -5,9 +5,6 @@ use borrow.Author.Needs.{needs}
 use Rattle.writer.proofs.slot_len.Statement.{statement}
 use Rattle.writer.proofs.slot_len.Tie as tie
 
-mul-escaped-len : tie.Need-mul-escaped-len
-mul-escaped-len c = search needs
-
 shared-slice-copy-out-escaped-len : tie.Need-shared-slice-copy-out-escaped-len
 shared-slice-copy-out-escaped-len c = search (there-text, there-plain, needs)
 
@@ -17,14 +14,8 @@ escaped-len-requires c κs = search (small-text, needs)
 returns : tie.Need-returns
 returns c = search (len-text, len-plain, needs)
 
-mul-length-of : tie.Need-mul-length-of
-mul-length-of c = search needs
-
 shared-slice-copy-out-length-of : tie.Need-shared-slice-copy-out-length-of
 shared-slice-copy-out-length-of c = search (there-text, there-plain, needs)
-
-length-of-requires : tie.Need-length-of-requires
-length-of-requires c κs = search needs
 
 returns-2 : tie.Need-returns-2
 returns-2 c = search (len-text, len-plain, needs)
@@ -36,12 +27,12 @@ pub slot-len-spec : {M : Type 1} → statement M
 slot-len-spec =
     tie.close
     (tie.spec
-    mul-escaped-len
+    (λ c. search needs)
     shared-slice-copy-out-escaped-len
     escaped-len-requires
     returns
-    mul-length-of
+    (λ c. search needs)
     shared-slice-copy-out-length-of
-    length-of-requires
+    (λ c κs. search needs)
     returns-2
     returns-3)

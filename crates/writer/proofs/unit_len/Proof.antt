@@ -4,9 +4,6 @@ use Rattle.writer.proofs.Escapes.{len-plain, len-escaped}
 use Rattle.writer.proofs.unit_len.Statement.{statement}
 use Rattle.writer.proofs.unit_len.Tie as tie
 
-is-delimiter-requires : tie.Need-is-delimiter-requires
-is-delimiter-requires c κs = search needs
-
 returns : tie.Need-returns
 returns c = search (len-escaped, needs)
 
@@ -14,4 +11,4 @@ returns-2 : tie.Need-returns-2
 returns-2 c = search (len-plain, needs)
 
 pub unit-len-spec : {M : Type 1} → statement M
-unit-len-spec = tie.close (tie.spec is-delimiter-requires returns returns-2)
+unit-len-spec = tie.close (tie.spec (λ c κs. search needs) returns returns-2)

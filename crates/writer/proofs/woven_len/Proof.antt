@@ -17,26 +17,11 @@ abbrev μ-loop : tie.MeasureT-loop
 loop-holds : tie.Need-loop-holds Inv-loop μ-loop
 loop-holds c = search (sum-begins, sum-goes, sum-ends, one-hole, holes-go, needs)
 
-shared-slice-read-slot : tie.Need-shared-slice-read-slot Inv-loop μ-loop
-shared-slice-read-slot c = search needs
-
 slot-len-requires : tie.Need-slot-len-requires Inv-loop μ-loop
 slot-len-requires c κs = search (one-hole, needs)
 
 add-n : tie.Need-add-n Inv-loop μ-loop
 add-n c = search (sum-few, needs)
-
-texts-for-requires : tie.Need-texts-for-requires Inv-loop μ-loop
-texts-for-requires c κs = search needs
-
-add-next : tie.Need-add-next Inv-loop μ-loop
-add-next c = search needs
-
-add-i : tie.Need-add-i Inv-loop μ-loop
-add-i c = search needs
-
-loop-less : tie.Need-loop-less Inv-loop μ-loop
-loop-less c = search needs
 
 loop-again : tie.Need-loop-again Inv-loop μ-loop
 loop-again c = search (sum-begins, sum-goes, sum-ends, one-hole, holes-go, needs)
@@ -51,12 +36,9 @@ woven-len-spec =
     Inv-loop
     μ-loop
     loop-holds
-    shared-slice-read-slot
+    (λ c. search needs)
     slot-len-requires
     add-n
-    texts-for-requires
-    add-next
-    add-i
-    loop-less
+    (λ c κs. search needs) (λ c. search needs) (λ c. search needs) (λ c. search needs)
     loop-again
     returns)

@@ -2,13 +2,14 @@
 //! many generated cases; PROGRAM answers for it (`tests/c/answers.c`).
 //!
 //! The cases come in runs of 10,000 with the seeds SEED, SEED + 1, and so on; each run meets
-//! every refusal number, and every one of each call that knows files. Prints the differences, how
-//! often each answer occurred, and last how many runs passed and how many failed.
+//! every refusal number, and every answer of `part_text` and of each call that knows files. Prints
+//! the differences, how often each answer occurred, and last how many runs passed and how many
+//! failed.
 
 use oul_tests::bridge::{self, Said};
-use oul_tests::cases::{Call, Case};
+use oul_tests::cases::Case;
+use oul_tests::generate;
 use oul_tests::refusal::number;
-use oul_tests::{csv_count, generate};
 use std::collections::BTreeMap;
 use std::io::{self, BufReader, BufWriter};
 use std::process::{Command, ExitCode, Stdio};
@@ -64,24 +65,25 @@ struct Run {
     count: u64,
 }
 
-/// How often each answer occurred to each call, by its number (0 where nothing is refused), and
-/// the differences.
+/// How often each answer occurred, as [`generate::answered`] counts them.
+type Answers = BTreeMap<(&'static str, u8), u64>;
+
+/// The answers of a run, and the differences.
 #[derive(Default)]
 struct Told {
-    answers: BTreeMap<(&'static str, u64), u64>,
+    answers: Answers,
     differences: Vec<String>,
 }
 
 impl Told {
     /// What a whole run is to meet and did not.
     fn missed(&self) -> Option<String> {
-        let met = |refusal: u8| self.answers.keys().any(|&(_, n)| n == refusal.into());
-        let answered = |call, n: u8| self.answers.contains_key(&(call, n.into()));
+        let met = |refusal: u8| self.answers.keys().any(|&(_, n)| n == refusal);
         let refusal = number::ALL.into_iter().find(|&refusal| !met(refusal));
-        let answer = generate::OF_FILES
+        let answer = generate::ANSWERS
             .into_iter()
             .flat_map(|(call, numbers)| numbers.iter().map(move |&n| (call, n)))
-            .find(|&(call, n)| !answered(call, n));
+            .find(|answer| !self.answers.contains_key(answer));
         refusal
             .map(|number| format!("no refusal {number}"))
             .or(answer.map(|(call, number)| format!("no answer {number} from {call}")))
@@ -120,7 +122,7 @@ impl Run {
             let mut told = Told::default();
             for (place, (case, ours)) in answered.iter().enumerate() {
                 let theirs = Said::read(&case, &mut from)?;
-                let answer = (case.call.name(), number_of(&case, &ours));
+                let answer = generate::answered(&case, ours.numbers[0] as u8);
                 *told.answers.entry(answer).or_default() += 1;
                 if ours != theirs {
                     let seed = self.seed;
@@ -137,23 +139,15 @@ impl Run {
     }
 }
 
-/// The number of an answer; of a file's spot that of the refusal whose line is told.
-fn number_of(case: &Case, said: &Said) -> u64 {
-    match case.call {
-        Call::CsvSpot => csv_count(&case.input).map_or_else(|refusal| refusal.number.into(), |_| 0),
-        _ => said.numbers[0],
-    }
-}
-
 #[derive(Default)]
 struct Tally {
-    answers: BTreeMap<(&'static str, u64), u64>,
+    answers: Answers,
     passed: usize,
     failed: usize,
 }
 
 impl Tally {
-    /// A run fails where an answer differs, and where a whole run leaves a refusal out.
+    /// A run fails where an answer differs, and where a whole run leaves one out.
     fn add(&mut self, run: &Run, told: io::Result<Told>) {
         let seed = run.seed;
         let told = match told {

@@ -5,12 +5,17 @@ use super::random::Random;
 use super::words::{self, Outcome};
 use crate::delimiters::{Delimiters, ADMITTED};
 use crate::parts;
+use crate::places::{self, Place};
+use crate::shift::{TO_ONE_BYTE, TO_TWO_BYTE};
+use crate::SegmentName;
+use std::collections::BTreeMap;
 use std::ops::RangeInclusive;
 
 /// A segment: field n stands at n, the name at 0.
 pub type Segment = Vec<Vec<u8>>;
 
-pub const KNOWN: &[&str] = &["MSH", "PID", "PV1", "SPM", "OBR", "ORC", "OBX"];
+/// Fields by their numbers.
+type Fields = BTreeMap<usize, Vec<u8>>;
 
 pub struct Draft {
     pub delimiters: Delimiters,
@@ -77,19 +82,25 @@ impl Draft {
         let sent = words::time(random);
         let control = words::text(random, 1..=20);
         let mode = words::word(random, words::MODES);
-        let message_type: [(usize, &[u8]); 3] = [(1, b"OUL"), (2, b"R22"), (3, b"OUL_R22")];
+        let mut read = self.fields(
+            random,
+            &[
+                (places::SENT, &sent),
+                (places::MESSAGE_CODE, b"OUL"),
+                (places::MESSAGE_EVENT, b"R22"),
+                (places::MESSAGE_STRUCTURE, b"OUL_R22"),
+                (places::CONTROL, &control),
+                (places::MODE, &mode),
+                (places::HL7_VERSION, b"2.5"),
+            ],
+        );
         let character_set = [&[d.repetition], b"ISO IR87" as &[u8]].concat();
-        let read = vec![
+        read.extend([
             (1, vec![d.field]),
             (2, vec![d.component, d.repetition, d.escape, d.subcomponent]),
-            (7, self.field(random, &[(1, &sent)])),
-            (9, self.field(random, &message_type)),
-            (10, self.field(random, &[(1, &control)])),
-            (11, self.field(random, &[(1, &mode)])),
-            (12, self.field(random, &[(1, b"2.5")])),
-            (18, character_set),
-        ];
-        self.add_segment(random, "MSH", read);
+            (places::CHARACTER_SET.field, character_set),
+        ]);
+        self.add_segment(random, SegmentName::Msh, read);
     }
 
     fn add_patient(&mut self, random: &mut Random) {
@@ -100,13 +111,16 @@ impl Draft {
             words::date(random)
         };
         let sex = words::word(random, words::SEXES);
-        let read = vec![
-            (3, self.field(random, &[(1, &number)])),
-            (5, self.names(random)),
-            (7, self.field(random, &[(1, &birth)])),
-            (8, self.field(random, &[(1, &sex)])),
-        ];
-        self.add_segment(random, "PID", read);
+        let mut read = self.fields(
+            random,
+            &[
+                (places::PATIENT, &number),
+                (places::BIRTH, &birth),
+                (places::SEX, &sex),
+            ],
+        );
+        read.insert(places::FAMILY.field, self.names(random));
+        self.add_segment(random, SegmentName::Pid, read);
     }
 
     /// PID-5: a kanji name, perhaps a kana name, and repetitions that are neither, in any order.
@@ -128,43 +142,59 @@ impl Draft {
         names.join(&self.delimiters.repetition)
     }
 
-    /// A repetition of PID-5 whose component 8 is `mark`.
+    /// A repetition of PID-5 with this mark.
     pub fn name(&self, random: &mut Random, mark: &[u8], family: RangeInclusive<usize>) -> Vec<u8> {
         let family = words::text(random, family);
         let given = words::text(random, 0..=48);
-        self.field(random, &[(1, &family), (2, &given), (8, mark)])
+        let components = [
+            (places::FAMILY.component, &family[..]),
+            (places::GIVEN.component, &given),
+            (places::NAME_MARK, mark),
+        ];
+        self.field(random, &components)
     }
 
     fn add_visit(&mut self, random: &mut Random) {
         let class = words::word(random, words::CLASSES);
-        let read = vec![(2, self.field(random, &[(1, &class)]))];
-        self.add_segment(random, "PV1", read);
+        let read = self.fields(random, &[(places::CLASS, &class)]);
+        self.add_segment(random, SegmentName::Pv1, read);
     }
 
     pub fn add_specimen(&mut self, random: &mut Random) {
         let code = words::digits(random, 3);
         let collected = words::time(random);
-        let read = vec![
-            (4, self.field(random, &[(1, &code), (3, b"JC10")])),
-            (17, self.field(random, &[(1, &collected)])),
-        ];
-        self.add_segment(random, "SPM", read);
+        let read = self.fields(
+            random,
+            &[
+                (places::SPECIMEN, &code),
+                (places::SPECIMEN_TABLE, b"JC10"),
+                (places::COLLECTED, &collected),
+            ],
+        );
+        self.add_segment(random, SegmentName::Spm, read);
     }
 
     /// OBR and ORC.
     pub fn add_order(&mut self, random: &mut Random) {
         let number = words::digits(random, 15);
         let group = words::code(random, 8);
-        let read = vec![
-            (2, self.field(random, &[(1, &number)])),
-            (4, self.field(random, &[(1, &group), (3, b"99003")])),
-        ];
-        self.add_segment(random, "OBR", read);
-        let read = vec![
-            (1, self.field(random, &[(1, b"RE")])),
-            (2, self.field(random, &[(1, &number)])),
-        ];
-        self.add_segment(random, "ORC", read);
+        let read = self.fields(
+            random,
+            &[
+                (places::ORDER_NUMBER, &number),
+                (places::GROUP, &group),
+                (places::GROUP_TABLE, b"99003"),
+            ],
+        );
+        self.add_segment(random, SegmentName::Obr, read);
+        let again = self.fields(
+            random,
+            &[
+                (places::ORDER_CONTROL, b"RE"),
+                (places::ORDER_NUMBER_AGAIN, &number),
+            ],
+        );
+        self.add_segment(random, SegmentName::Orc, again);
     }
 
     pub fn add_result(&mut self, random: &mut Random) {
@@ -173,16 +203,20 @@ impl Draft {
         let name = words::text(random, 0..=48);
         let unit = words::text(random, 0..=20);
         let flag = words::word(random, words::FLAGS);
-        let observed: [(usize, &[u8]); 3] = [(1, &item), (2, &name), (3, b"JC10")];
-        let read = vec![
-            (2, self.field(random, &[(1, outcome.value_type.as_bytes())])),
-            (3, self.field(random, &observed)),
-            (5, self.value(random, &outcome)),
-            (6, self.field(random, &[(1, &unit)])),
-            (8, self.field(random, &[(1, &flag)])),
-            (11, self.field(random, &[(1, outcome.status.as_bytes())])),
-        ];
-        self.add_segment(random, "OBX", read);
+        let mut read = self.fields(
+            random,
+            &[
+                (places::VALUE_TYPE, outcome.value_type.as_bytes()),
+                (places::ITEM, &item),
+                (places::ITEM_NAME, &name),
+                (places::ITEM_TABLE, b"JC10"),
+                (places::UNIT, &unit),
+                (places::FLAG, &flag),
+                (places::STATUS, outcome.status.as_bytes()),
+            ],
+        );
+        read.insert(places::NUMBER.field, self.value(random, &outcome));
+        self.add_segment(random, SegmentName::Obx, read);
     }
 
     /// OBX-5 as one component, or for SN as four, of which empty ones at the end may be left out.
@@ -200,8 +234,8 @@ impl Draft {
         parts.join(&self.delimiters.component)
     }
 
-    fn add_segment(&mut self, random: &mut Random, name: &str, read: Vec<(usize, Vec<u8>)>) {
-        let mut segment = vec![name.as_bytes().to_vec()];
+    fn add_segment(&mut self, random: &mut Random, name: SegmentName, read: Fields) {
+        let mut segment = vec![name.text().into()];
         for (number, field) in read {
             while segment.len() < number {
                 segment.push(self.unread_field(random));
@@ -212,6 +246,20 @@ impl Draft {
             segment.push(self.unread_field(random));
         }
         self.segments.push(segment);
+    }
+
+    /// The fields of these places with their plain values, by rising number.
+    fn fields(&self, random: &mut Random, values: &[(Place, &[u8])]) -> Fields {
+        let of_one_field = values.chunk_by(|(one, _), (other, _)| one.field == other.field);
+        of_one_field
+            .map(|values| {
+                let components: Vec<(usize, &[u8])> = values
+                    .iter()
+                    .map(|(place, plain)| (place.component, *plain))
+                    .collect();
+                (values[0].0.field, self.field(random, &components))
+            })
+            .collect()
     }
 
     /// A field of these components (number and plain value, by rising number), with unread ones
@@ -302,9 +350,46 @@ impl Draft {
     }
 
     /// The segments of a known name.
-    pub fn named(&self, name: &str) -> Vec<usize> {
-        let named = |&at: &usize| self.segments[at][0] == name.as_bytes();
+    pub fn named(&self, name: SegmentName) -> Vec<usize> {
+        let named = |&at: &usize| self.segments[at][0] == name.text().as_bytes();
         (0..self.segments.len()).filter(named).collect()
+    }
+
+    /// The segments of all known names: the n-th has the ordinal n + 1.
+    pub fn known(&self) -> Vec<(usize, SegmentName)> {
+        (0..self.segments.len())
+            .filter_map(|at| Some((at, SegmentName::of(&self.segments[at][0])?)))
+            .collect()
+    }
+
+    /// A component that isn't read: letters, good escapes and kanji, and what looks like an escape
+    /// among kanji or once it is unescaped; in some a bad escape or a subcomponent separator stands
+    /// before, among or behind them.
+    pub fn unread_text(&self, random: &mut Random) -> Vec<u8> {
+        let d = self.delimiters;
+        let mut pieces = Vec::new();
+        for _ in 0..random.pick(&[0, 1, 2, 6, 40]) {
+            let escape = [d.escape, random.pick(b"FSTRE"), d.escape];
+            pieces.push(match random.below(8) {
+                0 => escape.to_vec(),
+                1 => self.escaped(&escape),
+                2 => [&TO_TWO_BYTE, &escape[..], &[d.subcomponent], &TO_ONE_BYTE].concat(),
+                3 => {
+                    let pairs = random.below(4);
+                    words::kanji(random, pairs)
+                }
+                _ => self.escaped(&[words::letter(random)]),
+            });
+        }
+        let fault = match random.below(6) {
+            0 => self.some_escape(random),
+            1 => vec![d.escape],
+            2 => vec![d.subcomponent],
+            _ => Vec::new(),
+        };
+        let at = random.within(0..=pieces.len());
+        pieces.insert(at, fault);
+        remove_unshifted(&pieces.concat(), &[d.field, d.component, d.repetition])
     }
 
     /// A field of a segment, made if it is missing.

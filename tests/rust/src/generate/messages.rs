@@ -2,35 +2,24 @@
 //! ones.
 
 use super::damage::{damage, damage_shifts};
-use super::drafts::{Draft, KNOWN};
+use super::drafts::Draft;
 use super::random::Random;
 use super::{sheets, words};
+use crate::cases::Part;
 use crate::delimiters::ADMITTED;
-use crate::{to_message, MESSAGE_LIMIT};
-
-/// The places that the profile reads: segment, field, component.
-#[rustfmt::skip]
-const READ: &[(&str, usize, usize)] = &[
-    ("MSH", 7, 1), ("MSH", 9, 1), ("MSH", 9, 2), ("MSH", 9, 3), ("MSH", 10, 1), ("MSH", 11, 1),
-    ("MSH", 12, 1), ("PID", 3, 1), ("PID", 5, 1), ("PID", 5, 2), ("PID", 7, 1), ("PID", 8, 1),
-    ("PV1", 2, 1), ("SPM", 4, 1), ("SPM", 4, 3), ("SPM", 17, 1), ("OBR", 2, 1), ("OBR", 4, 1),
-    ("OBR", 4, 3), ("ORC", 1, 1), ("ORC", 2, 1), ("OBX", 2, 1), ("OBX", 3, 1), ("OBX", 3, 2),
-    ("OBX", 3, 3), ("OBX", 5, 1), ("OBX", 5, 2), ("OBX", 6, 1), ("OBX", 8, 1), ("OBX", 11, 1),
-];
-
-/// The texts among them that have a fixed limit.
-#[rustfmt::skip]
-const TEXTS: &[(&str, usize, usize, usize)] = &[
-    ("MSH", 10, 1, 20), ("PID", 3, 1, 20), ("PID", 5, 1, 48), ("PID", 5, 2, 48),
-    ("OBX", 3, 2, 48), ("OBX", 6, 1, 20),
-];
+use crate::places::{
+    read_components, Place, CHARACTER_SET, CLOSED, FAMILY, GIVEN, NAME_MARK, NUMBER, ORDER_NUMBER,
+    ORDER_NUMBER_AGAIN, READ, STATUS, VALUE_TYPE,
+};
+use crate::report::ValueType;
+use crate::{to_message, SegmentName, MESSAGE_LIMIT, SEGMENT_LIMIT};
 
 /// A name and its 0D.
 const SHORTEST_SEGMENT: usize = 4;
 
-/// A read place of a draft: the segment's index, the field and the component.
-type Place = (usize, usize, usize);
-type FaultInPlace = fn(&mut Random, &mut Draft, Place);
+/// A place of a draft: the segment's index, the field and the component.
+type At = (usize, usize, usize);
+type FaultInPlace = fn(&mut Random, &mut Draft, At);
 type Fault = fn(&mut Random, &mut Draft);
 type Recipe = fn(&mut Random) -> Vec<u8>;
 
@@ -60,7 +49,8 @@ pub fn message(turn: usize, random: &mut Random) -> Vec<u8> {
     const TURNS: usize = FAULTS_IN_PLACES.len() + FAULTS.len() + RECIPES.len() + 1;
     let (round, turn) = (turn / TURNS, turn % TURNS);
     if let Some(fault) = FAULTS_IN_PLACES.get(turn) {
-        return with_fault_in_place(random, READ[round % READ.len()], fault);
+        let places = places();
+        return with_fault_in_place(random, places[round % places.len()], fault);
     }
     let turn = turn - FAULTS_IN_PLACES.len();
     if let Some(&fault) = FAULTS.get(turn) {
@@ -69,6 +59,91 @@ pub fn message(turn: usize, random: &mut Random) -> Vec<u8> {
     match RECIPES.get(turn - FAULTS.len()) {
         Some(recipe) => recipe(random),
         None => at_limit(round, random),
+    }
+}
+
+/// The read places, each once. MSH-18, which is compared raw, has faults of its own.
+fn places() -> Vec<&'static Place> {
+    let character_set = (SegmentName::Msh, CHARACTER_SET.field);
+    READ.iter()
+        .filter(|place| place.is_for(ValueType::Structured))
+        .filter(|place| (place.segment, place.field) != character_set)
+        .collect()
+}
+
+/// A message that keeps every rule, and a part of it: mostly one that isn't read and was filled on
+/// purpose, sometimes a read place, or one of the fields of MSH that hold delimiters.
+pub fn with_part(random: &mut Random) -> (Vec<u8>, Part) {
+    let mut draft = Draft::new(random);
+    let known = draft.known();
+    let ordinal = random.within(1..=known.len());
+    let (segment, name) = known[ordinal - 1];
+    let part = match random.below(8) {
+        0 => Part {
+            ordinal: 1,
+            field: random.pick(&[1, 2, CHARACTER_SET.field]),
+            component: random.pick(&[1, 1, 2]),
+        },
+        1 => {
+            let read = places().into_iter().filter(|place| place.segment == name);
+            let place = random.pick(&read.collect::<Vec<_>>());
+            Part {
+                ordinal,
+                field: place.field,
+                component: place.component,
+            }
+        }
+        _ => {
+            let (field, component) = fill_unread(random, &mut draft, segment, name);
+            Part {
+                ordinal,
+                field,
+                component,
+            }
+        }
+    };
+    (draft.to_bytes(), part)
+}
+
+/// Fills an unread component of a read field, or an unread field with several components and
+/// perhaps a repetition; gives the field and the component.
+fn fill_unread(
+    random: &mut Random,
+    draft: &mut Draft,
+    segment: usize,
+    name: SegmentName,
+) -> (usize, usize) {
+    let (field, unread) = some_field(random, name);
+    let component = random.pick(&unread);
+    if unread.contains(&1) {
+        let texts = [(); 3].map(|()| draft.unread_text(random));
+        let mut raw = texts.join(&draft.delimiters.component);
+        if random.one_in(3) {
+            raw.push(draft.delimiters.repetition);
+            raw.extend(draft.unread_text(random));
+        }
+        *draft.field_mut(segment, field) = raw;
+    } else {
+        let text = draft.unread_text(random);
+        draft.set_component(segment, field, component, &text);
+    }
+    (field, component)
+}
+
+/// A field of a segment, and components of it that aren't read. Of PID-5 these stand before the
+/// mark; the other closed fields are left out.
+fn some_field(random: &mut Random, name: SegmentName) -> (usize, Vec<usize>) {
+    loop {
+        let field = random.within(1..=22);
+        if (name, field) == (SegmentName::Pid, FAMILY.field) {
+            return (field, (GIVEN.component + 1..NAME_MARK).collect());
+        }
+        if !CLOSED.contains(&(name, field)) {
+            let read = read_components(name, field);
+            let last = read.last().map_or(3, |last| last + 1);
+            let unread = (1..=last).filter(|component| !read.contains(component));
+            return (field, unread.collect());
+        }
     }
 }
 
@@ -81,14 +156,10 @@ fn written(random: &mut Random) -> Vec<u8> {
     to_message(&sheets::valid(random), MESSAGE_LIMIT).unwrap_or_default()
 }
 
-fn with_fault_in_place(
-    random: &mut Random,
-    (name, field, component): (&str, usize, usize),
-    fault: &FaultInPlace,
-) -> Vec<u8> {
+fn with_fault_in_place(random: &mut Random, place: &Place, fault: &FaultInPlace) -> Vec<u8> {
     let mut draft = Draft::new(random);
-    let segment = some_named(random, &draft, name);
-    fault(random, &mut draft, (segment, field, component));
+    let at = some_such(random, &draft, place);
+    fault(random, &mut draft, at);
     draft.to_bytes()
 }
 
@@ -168,7 +239,7 @@ fn at_limit(round: usize, random: &mut Random) -> Vec<u8> {
     match round / 2 % 5 {
         0 => filled_up(random, MESSAGE_LIMIT + past),
         1 => full_of_results(random, MESSAGE_LIMIT + past),
-        2 => with_longest_segment(random, 4_096 + past),
+        2 => with_longest_segment(random, SEGMENT_LIMIT + past),
         3 => with_skipped_segments(random, 512 + past),
         _ => with_many_results(random, 512 + past),
     }
@@ -200,10 +271,10 @@ fn fill_up(random: &mut Random, draft: &Draft, length: usize) -> Vec<u8> {
     let mut message = draft.to_bytes();
     while message.len() < length {
         let left = length - message.len();
-        let ended = if left <= 4_097 {
+        let ended = if left <= SEGMENT_LIMIT + 1 {
             left
         } else {
-            random.within(SHORTEST_SEGMENT..=4_097.min(left - SHORTEST_SEGMENT))
+            random.within(SHORTEST_SEGMENT..=(SEGMENT_LIMIT + 1).min(left - SHORTEST_SEGMENT))
         };
         message.extend(skipped_segment(random, draft, ended - 1));
     }
@@ -278,18 +349,24 @@ fn filling(random: &mut Random, draft: &Draft, length: usize) -> Vec<u8> {
 }
 
 /// A segment of the draft that has this name; a draft always holds one of each.
-fn some_named(random: &mut Random, draft: &Draft, name: &str) -> usize {
+fn some_named(random: &mut Random, draft: &Draft, name: SegmentName) -> usize {
     random.pick(&draft.named(name))
 }
 
+/// A read place in such a segment.
+fn some_such(random: &mut Random, draft: &Draft, place: &Place) -> At {
+    let segment = some_named(random, draft, place.segment);
+    (segment, place.field, place.component)
+}
+
 fn spoil_some_place(random: &mut Random, draft: &mut Draft) {
-    let (name, field, component) = random.pick(READ);
-    let segment = some_named(random, draft, name);
-    random.pick(FAULTS_IN_PLACES)(random, draft, (segment, field, component));
+    let place = random.pick(&places());
+    let at = some_such(random, draft, place);
+    random.pick(FAULTS_IN_PLACES)(random, draft, at);
 }
 
 /// Aims at 20.
-fn empty(random: &mut Random, draft: &mut Draft, (segment, field, component): Place) {
+fn empty(random: &mut Random, draft: &mut Draft, (segment, field, component): At) {
     if random.one_in(2) {
         draft.set_component(segment, field, component, b"");
     } else {
@@ -298,12 +375,12 @@ fn empty(random: &mut Random, draft: &mut Draft, (segment, field, component): Pl
 }
 
 /// Aims at 21.
-fn quotes(_: &mut Random, draft: &mut Draft, (segment, field, component): Place) {
+fn quotes(_: &mut Random, draft: &mut Draft, (segment, field, component): At) {
     draft.set_component(segment, field, component, b"\"\"");
 }
 
 /// Aims at 22: a repetition separator anywhere in a read field.
-fn repeat(random: &mut Random, draft: &mut Draft, (segment, field, _): Place) {
+fn repeat(random: &mut Random, draft: &mut Draft, (segment, field, _): At) {
     let repetition = draft.delimiters.repetition;
     let field = draft.field_mut(segment, field);
     match random.below(3) {
@@ -317,7 +394,7 @@ fn repeat(random: &mut Random, draft: &mut Draft, (segment, field, _): Place) {
 }
 
 /// Aims at 23, but good escapes come too.
-fn spoil_escape(random: &mut Random, draft: &mut Draft, (segment, field, component): Place) {
+fn spoil_escape(random: &mut Random, draft: &mut Draft, (segment, field, component): At) {
     let value = draft.component(segment, field, component);
     let escape = draft.some_escape(random);
     let spoilt = match random.below(3) {
@@ -329,7 +406,7 @@ fn spoil_escape(random: &mut Random, draft: &mut Draft, (segment, field, compone
 }
 
 /// Aims at 23: a subcomponent separator.
-fn divide(_: &mut Random, draft: &mut Draft, (segment, field, component): Place) {
+fn divide(_: &mut Random, draft: &mut Draft, (segment, field, component): At) {
     let value = draft.component(segment, field, component);
     let divided = [value, Vec::new()].join(&draft.delimiters.subcomponent);
     draft.set_component(segment, field, component, &divided);
@@ -337,20 +414,26 @@ fn divide(_: &mut Random, draft: &mut Draft, (segment, field, component): Place)
 
 /// Aims at 23: a component too many in OBX-5, even an empty one.
 fn excess_component(random: &mut Random, draft: &mut Draft) {
-    let segment = some_named(random, draft, "OBX");
-    let excess = if draft.component(segment, 2, 1) == b"SN" {
+    let segment = some_named(random, draft, SegmentName::Obx);
+    let excess = if draft.component(segment, VALUE_TYPE.field, 1) == b"SN" {
         random.within(4..=6)
     } else {
         random.within(2..=3)
     };
     let content = random.pick(&["", "1", "x", "\"\""]);
-    draft.set_component(segment, 5, excess, content.as_bytes());
+    draft.set_component(segment, NUMBER.field, excess, content.as_bytes());
 }
 
-/// Aims at 24: a text as long as may be, or by a byte longer, before it is escaped.
+/// Aims at 24: a text as long as may be, or by a byte longer, before it is escaped. ST has a fault
+/// of its own.
 fn lengthen_text(random: &mut Random, draft: &mut Draft) {
-    let (name, field, component, limit) = random.pick(TEXTS);
-    let segment = some_named(random, draft, name);
+    let texts: Vec<(&Place, usize)> = READ
+        .iter()
+        .filter(|place| place.value_type.is_none())
+        .filter_map(|place| Some((place, place.rule.limit()?)))
+        .collect();
+    let (place, limit) = random.pick(&texts);
+    let (segment, field, component) = some_such(random, draft, place);
     let length = limit + random.below(2);
     let text = words::text_of(random, length);
     let text = draft.escaped(&text);
@@ -389,21 +472,19 @@ fn lengthen_number(random: &mut Random, draft: &mut Draft) {
 }
 
 fn set_value(random: &mut Random, draft: &mut Draft, value_type: &str, value: Vec<u8>) {
-    let segment = some_named(random, draft, "OBX");
-    draft.set_component(segment, 2, 1, value_type.as_bytes());
-    *draft.field_mut(segment, 5) = value;
-    draft.set_component(segment, 11, 1, b"F");
+    let segment = some_named(random, draft, SegmentName::Obx);
+    set_outcome(draft, segment, value_type, value, "F");
 }
 
 /// Aims at 25: a value that belongs elsewhere.
-fn misvalue(random: &mut Random, draft: &mut Draft, (segment, field, component): Place) {
+fn misvalue(random: &mut Random, draft: &mut Draft, (segment, field, component): At) {
     let value = words::nearly(random);
     let value = draft.escaped(&value);
     draft.set_component(segment, field, component, &value);
 }
 
 /// Aims at 25: one byte of a value changed, taken out or put in.
-fn misspell(random: &mut Random, draft: &mut Draft, (segment, field, component): Place) {
+fn misspell(random: &mut Random, draft: &mut Draft, (segment, field, component): At) {
     let mut value = draft.component(segment, field, component);
     let at = random.within(0..=value.len());
     let letter = random.pick(b" 0123456789ABCXabcx.+-<>=_\"");
@@ -427,9 +508,9 @@ fn spoil_character_set(random: &mut Random, draft: &mut Draft) {
         2 => [&[d.repetition], name, &[last]].concat(),
         3 => [&[first], name].concat(),
         4 => b"\"\"".to_vec(),
-        _ => return draft.segments[0].truncate(18),
+        _ => return draft.segments[0].truncate(CHARACTER_SET.field),
     };
-    *draft.field_mut(0, 18) = spoilt;
+    *draft.field_mut(0, CHARACTER_SET.field) = spoilt;
 }
 
 /// PID-5 with names in any order, some of them without a mark or with a bad name.
@@ -451,33 +532,38 @@ fn spoil_names(random: &mut Random, draft: &mut Draft) {
         }
         names.push(name);
     }
-    let segment = some_named(random, draft, "PID");
-    *draft.field_mut(segment, 5) = names.join(&draft.delimiters.repetition);
+    let segment = some_named(random, draft, SegmentName::Pid);
+    *draft.field_mut(segment, FAMILY.field) = names.join(&draft.delimiters.repetition);
 }
 
 /// Aims at 20, 23, 25 and 26 in OBX-5 and OBX-11.
 fn mismatch_outcome(random: &mut Random, draft: &mut Draft) {
     let outcome = words::odd_outcome(random);
-    let segment = some_named(random, draft, "OBX");
+    let segment = some_named(random, draft, SegmentName::Obx);
     let value = draft.value(random, &outcome);
-    draft.set_component(segment, 2, 1, outcome.value_type.as_bytes());
-    *draft.field_mut(segment, 5) = value;
-    draft.set_component(segment, 11, 1, outcome.status.as_bytes());
+    set_outcome(draft, segment, outcome.value_type, value, outcome.status);
+}
+
+/// OBX-2, OBX-5 and OBX-11.
+fn set_outcome(draft: &mut Draft, segment: usize, value_type: &str, value: Vec<u8>, status: &str) {
+    draft.set_component(segment, VALUE_TYPE.field, 1, value_type.as_bytes());
+    *draft.field_mut(segment, NUMBER.field) = value;
+    draft.set_component(segment, STATUS.field, 1, status.as_bytes());
 }
 
 /// Aims at 26: the status changed, the value left.
 fn spoil_status(random: &mut Random, draft: &mut Draft) {
-    let segment = some_named(random, draft, "OBX");
+    let segment = some_named(random, draft, SegmentName::Obx);
     let status = random.pick(&["F", "P", "C", "I", "X"]);
-    draft.set_component(segment, 11, 1, status.as_bytes());
+    draft.set_component(segment, STATUS.field, 1, status.as_bytes());
 }
 
 /// Aims at 27: another good number in OBR or ORC.
 fn spoil_order_number(random: &mut Random, draft: &mut Draft) {
-    let name = random.pick(&["OBR", "ORC"]);
-    let segment = some_named(random, draft, name);
+    let place = random.pick(&[ORDER_NUMBER, ORDER_NUMBER_AGAIN]);
+    let (segment, field, component) = some_such(random, draft, &place);
     let number = words::digits(random, 15);
-    draft.set_component(segment, 2, 1, &number);
+    draft.set_component(segment, field, component, &number);
 }
 
 /// Aims at 15: segments taken out, doubled or swapped.
@@ -488,7 +574,10 @@ fn disorder_segments(random: &mut Random, draft: &mut Draft) {
         0 => drop(draft.segments.remove(at)),
         1 => draft.segments.insert(at, draft.segments[other].clone()),
         2 => draft.segments.swap(at, other),
-        _ => draft.segments.insert(at, vec![words::word(random, KNOWN)]),
+        _ => {
+            let name = random.pick(&SegmentName::ALL).text();
+            draft.segments.insert(at, vec![name.into()]);
+        }
     }
 }
 

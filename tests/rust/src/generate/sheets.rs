@@ -4,6 +4,7 @@ use super::damage::{damage, damage_shifts};
 use super::messages;
 use super::random::Random;
 use super::words::{self, Outcome};
+use crate::places::{CONTROL, FAMILY, GIVEN, ITEM_NAME, PATIENT, STRING, UNIT};
 use crate::{to_message, to_sheet, MESSAGE_LIMIT, SHEET_LIMIT};
 
 struct Line {
@@ -370,12 +371,13 @@ fn empty(_: &mut Random, lines: &mut Lines, at: usize) {
 /// Aims at 43: a text as long as may be, or by a byte longer.
 fn lengthen_text(random: &mut Random, lines: &mut Lines) {
     #[rustfmt::skip]
-    let limits = [
-        ("control", 20), ("patient", 20), ("family", 48), ("given", 48), ("kanafamily", 48),
-        ("kanagiven", 48), ("name", 48), ("value", 200), ("unit", 20),
+    let texts = [
+        ("control", CONTROL), ("patient", PATIENT), ("family", FAMILY), ("given", GIVEN),
+        ("kanafamily", FAMILY), ("kanagiven", GIVEN), ("name", ITEM_NAME), ("value", STRING),
+        ("unit", UNIT),
     ];
-    let (key, limit) = random.pick(&limits);
-    let length = limit + random.below(2);
+    let (key, place) = random.pick(&texts);
+    let length = place.rule.limit().unwrap_or(0) + random.below(2);
     let at = some_line_of(random, lines, key);
     lines[at].value = words::text_of(random, length);
     match key {

@@ -3,7 +3,7 @@
 use super::damage::MEANINGFUL;
 use super::random::Random;
 use super::{messages, sheets};
-use crate::SHEET_LIMIT;
+use crate::{SEGMENT_LIMIT, SHEET_LIMIT};
 
 /// Beginnings of segments and of headers, good and bad.
 #[rustfmt::skip]
@@ -22,10 +22,15 @@ pub fn text(turn: usize, random: &mut Random) -> Vec<u8> {
     }
 }
 
-/// Up to twenty pieces; most begin a segment. Some are filled up to the longest text that has a
-/// spot, or to one byte more.
+/// Up to twenty pieces; most begin a segment. Some follow a segment as long as may be, or by a byte
+/// longer; some are filled up to the longest text that has a spot, or to one byte more.
 fn loose_pieces(random: &mut Random) -> Vec<u8> {
     let mut text = Vec::new();
+    if random.one_in(16) {
+        text.extend(b"ZZZ|");
+        text.resize(SEGMENT_LIMIT + random.below(2), b'x');
+        text.push(b'\r');
+    }
     for _ in 0..random.below(20) {
         let piece = random.pick(&[BEGINNINGS, BEGINNINGS, MEANINGFUL]);
         text.extend(random.pick(piece));

@@ -1,4 +1,4 @@
--- `frame::segments::first_fault` meets its contract. Assumes nothing.
+-- `segments::first_fault` meets its contract. Assumes nothing.
 use borrow.Author.Needs.{needs}
 use Rattle.frame.proofs.Laws.{fault-fine, fault-new, fault-old}
 use Rattle.frame.proofs.segments.first_fault.Statement.{statement}

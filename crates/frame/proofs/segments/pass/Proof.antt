@@ -1,37 +1,22 @@
--- `frame::segments::pass` meets its contract. Assumes nothing.
+-- `segments::pass` meets its contract. Assumes nothing.
 use borrow.Author.Needs.{needs}
 use Prim.Native.Nat.{_-_, _≤_}
 use mathlib.Core.Path.{_≡_}
 use lib.ListN.{length, drop}
 use Rattle.rules.proofs.Lists.{part-length, rest-inside, rest-further}
-use Rattle.frame.specs.Frame.{start, passFrom, Within}
+use Rattle.frame.specs.Frame.{nothingSeen, passFrom, Within}
 use Rattle.frame.proofs.Laws.{pass-bad, pass-end, pass-on, pass-open, pass-starts, within-all, within-bad, within-on, within-starts}
 use Rattle.frame.proofs.segments.pass.Statement.{statement}
 use Rattle.frame.proofs.segments.pass.Tie as tie
 
 abbrev Inv-loop : tie.InvT-loop
-Inv-loop m field seen₀ at₀ seen at = (at ≤ length m) × (passFrom start field m ≡ passFrom seen field (drop at m)) × Within at seen
+Inv-loop m field seen₀ at₀ seen at = (at ≤ length m) × (passFrom nothingSeen field m ≡ passFrom seen field (drop at m)) × Within at seen
 
 abbrev μ-loop : tie.MeasureT-loop
 μ-loop m field seen₀ at₀ seen at = length m - at
 
-none-requires : tie.Need-none-requires Inv-loop μ-loop
-none-requires c κs = search needs
-
 loop-holds : tie.Need-loop-holds Inv-loop μ-loop
 loop-holds c = search (pass-starts, within-starts, needs)
-
-sub-rest : tie.Need-sub-rest Inv-loop μ-loop
-sub-rest c = search needs
-
-part-rest-start : tie.Need-part-rest-start Inv-loop μ-loop
-part-rest-start c = search needs
-
-part-rest-end : tie.Need-part-rest-end Inv-loop μ-loop
-part-rest-end c = search needs
-
-before-requires : tie.Need-before-requires Inv-loop μ-loop
-before-requires c κs = search needs
 
 returns : tie.Need-returns Inv-loop μ-loop
 returns c = search (pass-open, within-bad, needs)
@@ -39,23 +24,11 @@ returns c = search (pass-open, within-bad, needs)
 slice-aggregate-s : tie.Need-slice-aggregate-s Inv-loop μ-loop
 slice-aggregate-s c = search (part-length, needs)
 
-good-requires : tie.Need-good-requires Inv-loop μ-loop
-good-requires c κs = search needs
-
 returns-2 : tie.Need-returns-2 Inv-loop μ-loop
 returns-2 c = search (pass-bad, within-bad, needs)
 
-name-of-requires : tie.Need-name-of-requires Inv-loop μ-loop
-name-of-requires c κs = search needs
-
-counted-requires : tie.Need-counted-requires Inv-loop μ-loop
-counted-requires c κs = search needs
-
 add-at : tie.Need-add-at Inv-loop μ-loop
 add-at c = search (rest-further, rest-inside, needs)
-
-add-at-2 : tie.Need-add-at-2 Inv-loop μ-loop
-add-at-2 c = search needs
 
 loop-less : tie.Need-loop-less Inv-loop μ-loop
 loop-less c = search (rest-further, rest-inside, needs)
@@ -72,20 +45,16 @@ pass-spec =
     (tie.spec
     Inv-loop
     μ-loop
-    none-requires
+    (λ c κs. search needs)
     loop-holds
-    sub-rest
-    part-rest-start
-    part-rest-end
-    before-requires
+    (λ c. search needs) (λ c. search needs) (λ c. search needs) (λ c κs. search needs)
     returns
     slice-aggregate-s
-    good-requires
+    (λ c κs. search needs)
     returns-2
-    name-of-requires
-    counted-requires
+    (λ c κs. search needs) (λ c κs. search needs)
     add-at
-    add-at-2
+    (λ c. search needs)
     loop-less
     loop-again
     returns-3)

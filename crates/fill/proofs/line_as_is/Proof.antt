@@ -1,0 +1,15 @@
+-- `fill::line_as_is` meets its contract.
+use borrow.Author.Needs.{needs}
+use Rattle.fill.proofs.Laws.{line-is}
+use Rattle.fill.proofs.line_as_is.Statement.{statement}
+use Rattle.fill.proofs.line_as_is.Tie as tie
+
+returns : tie.Need-returns
+returns c = (search (line-is, needs), search needs)
+
+pub line-as-is-spec : {M : Type 1} → statement M
+line-as-is-spec =
+    tie.close
+    (tie.spec
+    (λ c κs. search needs) (λ c κs. search needs) (λ c. search needs) (λ c κs. search needs) (λ c. search needs)
+    returns)

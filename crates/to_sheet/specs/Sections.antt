@@ -1,0 +1,13 @@
+-- The sheet, segment by segment.
+use mathlib.Core.List.{List, [], _∷_, _++_}
+use Prim.Native.Nat.{ℕ}
+use Rattle.rules.specs.declared.Delims.{Delims}
+use Rattle.rules.specs.Lists.{ended}
+use Rattle.rules.specs.Shift.{met}
+use Rattle.rules.specs.Frame.{nameOf}
+use Rattle.sources.specs.Sources.{linesIn}
+
+-- the text of all segments' lines; an ORC and an unknown segment have none
+unfoldable pub sections : Delims → List (List ℕ) → List ℕ
+sections d [] = []
+sections d (s ∷ ss) = ended 0x0A (linesIn d (nameOf s) (met s)) ++ sections d ss

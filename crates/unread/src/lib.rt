@@ -1,0 +1,1 @@
+// Demand 3, a theorem over the rules: no code.
