@@ -12,7 +12,7 @@ use Rattle.rules.specs.Frame.{digit}
 use Rattle.rules.specs.Value as Val
 use Rattle.rules.proofs.Logic.{cases}
 use Rattle.rules.proofs.Lists.{here, over}
-use Rattle.bytes.specs.Bytes.{until, is}
+use Rattle.bytes.specs.Bytes.{until, isByte}
 
 -- ---- one byte
 pub either-is : (p q a b : Bool) → a ≡ p → b ≡ q → (a || b) ≡ (p || q)
@@ -59,27 +59,27 @@ module _ (a b : List ℕ) (i : ℕ) (inv : same a b ≡ same (drop i a) (drop i 
 pub ruleset equal·laws = (same-long, same-stops, same-goes, same-ends)
 
 -- ---- general: what stands before the first separator
-until-length : (sep x : ℕ) (s : List ℕ) → length (until (is sep) (x ∷ s)) ≡ cond (eqb x sep) 0 (suc (length (until (is sep) s)))
+until-length : (sep x : ℕ) (s : List ℕ) → length (until (isByte sep) (x ∷ s)) ≡ cond (eqb x sep) 0 (suc (length (until (isByte sep) s)))
 unfolding until
 until-length sep x s = cases (eqb x sep) (λ e. cc) (λ e. cc)
 
-module _ (s : List ℕ) (sep i : ℕ) (inv : length (until (is sep) s) ≡ i + length (until (is sep) (drop i s))) where
-  before-at : i < length s → length (until (is sep) s) ≡ i + cond (eqb (getD s i 0) sep) 0 (suc (length (until (is sep) (drop (i + 1) s))))
-  before-at h = inv ∙ ap (λ (l : List ℕ). i + length (until (is sep) l)) (here 0 s i h) ∙ ap (λ (n : ℕ). i + n) (until-length sep (getD s i 0) (drop (i + 1) s))
+module _ (s : List ℕ) (sep i : ℕ) (inv : length (until (isByte sep) s) ≡ i + length (until (isByte sep) (drop i s))) where
+  before-at : i < length s → length (until (isByte sep) s) ≡ i + cond (eqb (getD s i 0) sep) 0 (suc (length (until (isByte sep) (drop (i + 1) s))))
+  before-at h = inv ∙ ap (λ (l : List ℕ). i + length (until (isByte sep) l)) (here 0 s i h) ∙ ap (λ (n : ℕ). i + n) (until-length sep (getD s i 0) (drop (i + 1) s))
 
-  pub before-found : i < length s → getD s i 0 ≡ sep → i ≡ length (until (is sep) s)
+  pub before-found : i < length s → getD s i 0 ≡ sep → i ≡ length (until (isByte sep) s)
   before-found h e = omega (arith, rw (eq-eqb (getD s i 0) sep e) at (before-at h))
 
-  pub before-goes : i < length s → (getD s i 0 ≡ sep → ⊥) → length (until (is sep) s) ≡ i + 1 + length (until (is sep) (drop (i + 1) s))
+  pub before-goes : i < length s → (getD s i 0 ≡ sep → ⊥) → length (until (isByte sep) s) ≡ i + 1 + length (until (isByte sep) (drop (i + 1) s))
   before-goes h e = omega (arith, rw (ne-eqb (getD s i 0) sep e) at (before-at h))
 
-  pub before-ends : length s ≤ i → i ≡ length (until (is sep) s)
+  pub before-ends : length s ≤ i → i ≡ length (until (isByte sep) s)
   unfolding until
-  before-ends h = let e : length (until (is sep) (drop i s)) ≡ 0 = cc (over s i h) in omega arith
+  before-ends h = let e : length (until (isByte sep) (drop i s)) ≡ 0 = cc (over s i h) in omega arith
 
 pub ruleset before·laws = (before-found, before-goes, before-ends)
 
-pub split-last : (sep : ℕ) (s : List ℕ) → length (until (is sep) s) ≡ length s → split sep s ≡ s ∷ []
+pub split-last : (sep : ℕ) (s : List ℕ) → length (until (isByte sep) s) ≡ length s → split sep s ≡ s ∷ []
 unfolding split until onto
 split-last sep [] h = refl
 split-last sep (x ∷ s) h =
@@ -87,14 +87,14 @@ split-last sep (x ∷ s) h =
     (λ e. absurd (omega (arith, rw e at (until-length sep x s))))
     (λ e. cc (split-last sep s (omega (arith, rw e at (until-length sep x s)))))
 
-pub split-more : (sep : ℕ) (s : List ℕ) → length (until (is sep) s) < length s
-    → split sep s ≡ take (length (until (is sep) s)) s ∷ split sep (drop (suc (length (until (is sep) s))) s)
+pub split-more : (sep : ℕ) (s : List ℕ) → length (until (isByte sep) s) < length s
+    → split sep s ≡ take (length (until (isByte sep) s)) s ∷ split sep (drop (suc (length (until (isByte sep) s))) s)
 unfolding split until onto
 split-more sep [] h = absurd (omega arith)
 split-more sep (x ∷ s) h =
     cases (eqb x sep)
     (λ e. cc)
-    (λ e. let z : length (until (is sep) (x ∷ s)) ≡ suc (length (until (is sep) s)) = cc in
+    (λ e. let z : length (until (isByte sep) (x ∷ s)) ≡ suc (length (until (isByte sep) s)) = cc in
     cc (split-more sep s (omega arith)))
 
 -- ---- n digits

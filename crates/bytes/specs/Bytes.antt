@@ -4,8 +4,8 @@ use mathlib.Core.List.{List, [], _∷_}
 use Prim.Native.Nat.{ℕ}
 use lib.Dec.{eqb}
 
-abbrev pub is : ℕ → ℕ → Bool
-is a b = eqb b a
+abbrev pub isByte : ℕ → ℕ → Bool
+isByte a b = eqb b a
 
 -- what stands before the first element that p holds of
 unfoldable pub until : (ℕ → Bool) → List ℕ → List ℕ

@@ -2,21 +2,35 @@
 ghost use mathlib.Core.Path.{_≡_};
 ghost use Prim.Native.Nat.{_≤_};
 ghost use lib.ListN.{length};
+ghost use Rattle.rules.specs.Shift.{within};
 ghost use Rattle.rules.specs.Lists.{all, same};
 ghost use Rattle.rules.specs.Frame.{capital, digit, capitalOrDigit};
 ghost use Rattle.rules.specs.Value.{digitsOk};
-ghost use Rattle.bytes.specs.Bytes.{until, is};
+ghost use Rattle.bytes.specs.Bytes.{until, isByte};
+
+pub fn in_range(lo: u8, hi: u8, b: u8) -> bool
+    ensures { λ r. ⌜ r ≡ within lo hi b ⌝ }
+{
+    (lo <= b) & (b <= hi)
+}
+
+// A byte of one-byte mode that is no end.
+pub fn is_plain(b: u8) -> bool
+    ensures { λ r. ⌜ r ≡ within 0x20 0x7E b ⌝ }
+{
+    in_range(0x20, 0x7E, b)
+}
 
 pub fn is_digit(b: u8) -> bool
     ensures { λ r. ⌜ r ≡ digit b ⌝ }
 {
-    (48 <= b) & (b <= 57)
+    in_range(48, 57, b)
 }
 
 pub fn is_capital(b: u8) -> bool
     ensures { λ r. ⌜ r ≡ capital b ⌝ }
 {
-    (65 <= b) & (b <= 90)
+    in_range(65, 90, b)
 }
 
 pub fn is_capital_or_digit(b: u8) -> bool
@@ -80,7 +94,7 @@ pub fn equal(a: &[u8], b: &[u8]) -> bool
 
 // How many bytes stand before the first sep.
 pub fn before(s: &[u8], sep: u8) -> usize
-    ensures { λ r. ⌜ r ≡ length (until (is sep) (now (s .entry))) ⌝ }
+    ensures { λ r. ⌜ r ≡ length (until (isByte sep) (now (s .entry))) ⌝ }
     ensures within { λ r. ⌜ r ≤ length (now (s .entry)) ⌝ }
 {
     let mut i = 0;

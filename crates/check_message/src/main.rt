@@ -27,7 +27,7 @@ fn check(m: &[u8]) {
             program::output(&NAME, &lines[..n], b"");
         }
         Answer::Refused(refusal) => {
-            program::refuse_message(&NAME, m, refusal);
+            refusals::tell_message(&NAME, m, refusal);
         }
     }
 }

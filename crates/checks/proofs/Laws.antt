@@ -52,7 +52,7 @@ known-is d n at body =
     inNames (λ n. segmentOf d (record { name = n; start = at; body = body }) ≡ segmentOf d (asKnown n body)) refl refl refl refl refl refl refl refl n
 
 -- ---- one turn, at a segment of n bytes
-module _ (d : Delims) (x : Context) (i at : ℕ) (r : List ℕ) (n : ℕ) (en : n ≡ length (until (Bytes.is 0x0D) r)) (h : n < length r) where
+module _ (d : Delims) (x : Context) (i at : ℕ) (r : List ℕ) (n : ℕ) (en : n ≡ length (until (Bytes.isByte 0x0D) r)) (h : n < length r) where
   abbrev seg : List ℕ
   seg = take n r
 
@@ -106,7 +106,7 @@ unfolding faultTold
 stopped f i field t h = rw (fault-some f h)
 
 module _ (d : Delims) (m order : List ℕ) (i at n : ℕ) (g : Going d m order i at) (k : at < length m)
-    (en : n ≡ length (until (Bytes.is 0x0D) (take (length m - at) (drop at m)))) (l : n ≤ length (take (length m - at) (drop at m))) where
+    (en : n ≡ length (until (Bytes.isByte 0x0D) (take (length m - at) (drop at m)))) (l : n ≤ length (take (length m - at) (drop at m))) where
   short : n < length (drop at m)
   short = ends-inside m at n en (d .field) (g .whole) k l
 

@@ -24,8 +24,8 @@ use Rattle.rules.proofs.Split.{split-nil, split-none}
 use Rattle.rules.proofs.Modes.{length-marks}
 use Rattle.rules.proofs.Clean.{same-met}
 use Rattle.rules.proofs.Header.{delim-within}
-use Rattle.bytes.specs.Bytes.{until, is}
-use Rattle.scan.specs.Scan.{ends, after, next, CutOf, TailOf}
+use Rattle.bytes.specs.Bytes.{until, isByte}
+use Rattle.scan.specs.Scan.{ends, afterSep, next, CutOf, TailOf}
 use Rattle.scan.proofs.Laws.{piece-met}
 use Rattle.value.specs.Rules.{faultNo, ruleOf}
 use Rattle.value.specs.declared.Fault.the-variants.{Nothing, Value}
@@ -46,7 +46,7 @@ same-one (a ∷ c ∷ s) b = cases (eqb a b) (λ e. cc) (λ e. cc)
 -- ---- the field at the start of t, by itself
 module _ (t : List ℕ) (d : Delims) (n : ℕ) (more : Bool) (e : TailOf d (met t) n more) where
   field-met : met (take n t) ≡ fieldAt d t
-  field-met = ap (λ k. met (take k t)) (e .long) ∙ piece-met (is (d .field)) t
+  field-met = ap (λ k. met (take k t)) (e .long) ∙ piece-met (isByte (d .field)) t
 
   pub field-free : has (d .field) (met (take n t)) ≡ false
   field-free = ap (has (d .field)) field-met ∙ until-free (d .field) (met t)
@@ -127,17 +127,17 @@ none-marked d mark = refl
 
 -- the first repetition of a text, or the first of the others
 first-marked : (d : Delims) (mark : ℕ) (m : List ℕ) → firstMarked d (mark ∷ []) (split (d .repetition) m)
-    ≡ cond (same (componentOf d (until (is (d .repetition)) m) 8) (mark ∷ [])) (some (until (is (d .repetition)) m))
-    (firstMarked d (mark ∷ []) (split (d .repetition) (after (d .repetition) m)))
+    ≡ cond (same (componentOf d (until (isByte (d .repetition)) m) 8) (mark ∷ [])) (some (until (isByte (d .repetition)) m))
+    (firstMarked d (mark ∷ []) (split (d .repetition) (afterSep (d .repetition) m)))
 unfolding firstMarked
 first-marked d mark m =
     cases (has (d .repetition) m)
-    (λ h. rw (split-after (d .repetition) m h) (first-step d (mark ∷ []) (until (is (d .repetition)) m) (split (d .repetition) (after (d .repetition) m))))
+    (λ h. rw (split-after (d .repetition) m h) (first-step d (mark ∷ []) (until (isByte (d .repetition)) m) (split (d .repetition) (afterSep (d .repetition) m))))
     (λ h. rw (split-none (d .repetition) m h, until-none (d .repetition) m h, after-none (d .repetition) m h, split-nil (d .repetition), none-marked d mark) (first-step d (mark ∷ []) m []))
 
 -- in a text without field separators a repetition ends at a repetition separator alone
-repetition-only : (d : Delims) (m : List ℕ) → has (d .field) m ≡ false → until (endsRepetition d) m ≡ until (is (d .repetition)) m
-repetition-only d m h = sym (repetition-is d m) ∙ ap (until (is (d .repetition))) (until-none (d .field) m h)
+repetition-only : (d : Delims) (m : List ℕ) → has (d .field) m ≡ false → until (endsRepetition d) m ≡ until (isByte (d .repetition)) m
+repetition-only d m h = sym (repetition-is d m) ∙ ap (until (isByte (d .repetition))) (until-none (d .field) m h)
 
 abbrev pub Looking : Delims → ℕ → List ℕ → ℕ → Type 0
 Looking d mark f at =
@@ -149,7 +149,7 @@ looking-starts d mark f h = (h, refl)
 
 module _ (d : Delims) (mark : ℕ) (f : List ℕ) (at : ℕ) (look : Looking d mark f at) where
   module _ (y : Bool) (h : at < length f) (e : y ≡ same (componentOf d (repetitionAt d (take (length f - at) (drop at f))) 8) (mark ∷ [])) where
-    marked-here : y ≡ same (componentOf d (until (is (d .repetition)) (met (drop at f))) 8) (mark ∷ [])
+    marked-here : y ≡ same (componentOf d (until (isByte (d .repetition)) (met (drop at f))) 8) (mark ∷ [])
     marked-here = e ∙ ap (λ l. same (componentOf d l 8) (mark ∷ [])) (ap (repetitionAt d) (rest-is f at) ∙ repetition-only d (met (drop at f)) (look .0))
 
     pub looking-finds : y ≡ true → MarkedOf d mark (met f) (take (length f - at) (drop at f))
@@ -160,9 +160,9 @@ module _ (d : Delims) (mark : ℕ) (f : List ℕ) (at : ℕ) (look : Looking d m
       found = marked-filled d mark (repetitionAt d (take (length f - at) (drop at f))) (sym e ∙ g) ∙ sym (rw (rest-is f at, here 0 f at h));
     }
 
-    pub looking-on : (k : ℕ) → y ≡ false → met (drop k (take (length f - at) (drop at f))) ≡ after (d .repetition) (met (take (length f - at) (drop at f))) → Looking d mark f (at + k)
+    pub looking-on : (k : ℕ) → y ≡ false → met (drop k (take (length f - at) (drop at f))) ≡ afterSep (d .repetition) (met (take (length f - at) (drop at f))) → Looking d mark f (at + k)
     looking-on k g q =
-        let z : met (drop (at + k) f) ≡ after (d .repetition) (met (drop at f)) = rw (rest-is f at, drop-drop) at q in (
+        let z : met (drop (at + k) f) ≡ afterSep (d .repetition) (met (drop at f)) = rw (rest-is f at, drop-drop) at q in (
           ap (has (d .field)) z ∙ after-free (d .repetition) (d .field) (met (drop at f)) (look .0),
           look .1 ∙ first-marked d mark (met (drop at f)) ∙ rw (sym marked-here ∙ g, z),
         )
@@ -177,7 +177,7 @@ module _ (d : Delims) (mark : ℕ) (f : List ℕ) (at : ℕ) (look : Looking d m
 
 -- the search goes on, within the field
 module _ (d : Delims) (f : List ℕ) (at k : ℕ) where
-  pub past-less : at < length f → met (drop k (take (length f - at) (drop at f))) ≡ after (d .repetition) (met (take (length f - at) (drop at f))) → length f - (at + k) < length f - at
+  pub past-less : at < length f → met (drop k (take (length f - at) (drop at f))) ≡ afterSep (d .repetition) (met (take (length f - at) (drop at f))) → length f - (at + k) < length f - at
   unfolding met
   past-less h e =
       let r : List ℕ = take (length f - at) (drop at f) in

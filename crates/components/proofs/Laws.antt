@@ -14,7 +14,7 @@ use Rattle.rules.specs.Judge.{judge}
 use Rattle.rules.proofs.Logic.{then-zero}
 use Rattle.rules.proofs.Lists.{rest-is}
 use Rattle.rules.proofs.Modes.{length-met}
-use Rattle.bytes.specs.Bytes.{until, is}
+use Rattle.bytes.specs.Bytes.{until, isByte}
 use Rattle.scan.specs.Scan.{ends, next, plainText, CutOf, TailOf}
 use Rattle.scan.proofs.Laws.{from-met, piece-met, ends-far}
 use Rattle.value.specs.Rules.{ruleOf, faultNo}
@@ -90,9 +90,9 @@ one-read d p place t f n k more j e =
     let m : List ℕ = met t in
     let a : met (take (length t - n) (drop n t)) ≡ drop (length (until (ends d) m)) m
     = ap met (rest-is t n) ∙ ap (λ i. met (drop i t)) (j .long) ∙ sym (from-met (ends d) (ends-far d p) t) in
-    let b : k ≡ length (until (is (d .field)) (drop (length (until (ends d) m)) m)) = e .long ∙ ap (λ l. length (until (is (d .field)) l)) a in
+    let b : k ≡ length (until (isByte (d .field)) (drop (length (until (ends d) m)) m)) = e .long ∙ ap (λ l. length (until (isByte (d .field)) l)) a in
     record {
-      more = e .more ∙ ap (λ l. has (d .repetition) (until (is (d .field)) l)) a ∙ sym (rest-more d m);
+      more = e .more ∙ ap (λ l. has (d .repetition) (until (isByte (d .field)) l)) a ∙ sym (rest-more d m);
       told = j .told ∙ sym (then-zero (placeFault d place (until (ends d) m)));
       short = j .long;
       raw = j .raw;
@@ -105,11 +105,11 @@ module _ (d : Delims) (p : Proper d) (t u : List ℕ) (e : met u ≡ next d (met
       → h ≡ (f then g) → ComponentsOf d (place ∷ ps) t more h n (length t - length u + l)
   unfolding componentsFault forward
   led-read place ps f g h n k l more j r q = record {
-    more = r .more ∙ ap (λ m. has (d .repetition) (until (is (d .field)) m)) e ∙ forward-repeats d p 1 (met t);
+    more = r .more ∙ ap (λ m. has (d .repetition) (until (isByte (d .field)) m)) e ∙ forward-repeats d p 1 (met t);
     told = q ∙ cc (j .told, r .told);
     short = j .long;
     raw = j .raw;
-    long = let a : l ≡ length (until (is (d .field)) (next d (met t))) = r .long ∙ ap (λ m. length (until (is (d .field)) m)) e in
+    long = let a : l ≡ length (until (isByte (d .field)) (next d (met t))) = r .long ∙ ap (λ m. length (until (isByte (d .field)) m)) e in
         omega (arith, forward-long d p 1 (met t), length-met t, length-met u, ap length e, next-within t u d p e);
   }
 

@@ -10,7 +10,7 @@ use Rattle.rules.specs.Told.{_then_}
 use Rattle.rules.specs.Lists.{has}
 use Rattle.rules.specs.Shift.{met, byteOf}
 use Rattle.rules.specs.Judge.{judge}
-use Rattle.bytes.specs.Bytes.{until, is}
+use Rattle.bytes.specs.Bytes.{until, isByte}
 use Rattle.scan.specs.Scan.{ends, next}
 use Rattle.value.specs.Rules.{ruleOf}
 use Rattle.value.specs.declared.Place.{Place}
@@ -24,7 +24,7 @@ endsRepetition d b = eqb b (d .field) || eqb b (d .repetition)
 
 -- the field at the start of t, the repetition and the component, as their bytes are met
 abbrev pub fieldAt : Delims → List ℕ → List ℕ
-fieldAt d t = until (is (d .field)) (met t)
+fieldAt d t = until (isByte (d .field)) (met t)
 
 abbrev pub repetitionAt : Delims → List ℕ → List ℕ
 repetitionAt d t = until (endsRepetition d) (met t)

@@ -19,7 +19,7 @@ use Rattle.rules.specs.Sheet.{linesOf, pastGroup}
 use Rattle.rules.specs.Message.{zeros, counted, written, messageOf}
 use Rattle.order.specs.declared.Reached.{Reached}
 use Rattle.order.specs.Order.{reachedOf}
-use Rattle.writer.specs.Over.{over, Wrote, Put}
+use Rattle.writer.specs.Over.{overFront, Wrote, Put}
 use Rattle.writer.proofs.Laws.{then}
 use Rattle.lines.specs.declared.Verdict.{Verdict}
 use Rattle.lines.specs.declared.Verdict.the-variants.{Fine}
@@ -32,14 +32,14 @@ use Rattle.sheets.proofs.Judging.{Reading}
 use Rattle.numbered.specs.declared.Numbers.{Numbers}
 use Rattle.numbered.specs.Numbered.{numbersOf}
 use Rattle.compose.specs.declared.Passed.the-variants.{All, Not}
-use Rattle.compose.specs.Compose.{groupText, FitAt, longestGroup, Right, Pass}
+use Rattle.compose.specs.Compose.{groupText, FitAt, longestGroup, FaultFree, Pass}
 use Rattle.compose.proofs.Messages.{numbersIn, message-more, segments-more, numbers-more, message-none, segments-none}
 
 -- behind the groups that have led to a: what is read and still to be told, as in judging; what is written and counted
 pub record Passing (d : Delims) (s : List ℕ) (known : Bool) (out₀ : List ℕ) (a : Reached) (at line bytes segments : ℕ) (numbers : Numbers) (places out : List ℕ) : Type 0 where
   pub rows : List Row
   pub read : Reading s rows a at line places
-  pub right : known ≡ true → Right s
+  pub right : known ≡ true → FaultFree s
   pub proper : Proper d
   pub bytes-few : bytes ≤ longestGroup * at
   pub segments-few : segments ≤ 2 * at
@@ -49,7 +49,7 @@ pub record Passing (d : Delims) (s : List ℕ) (known : Bool) (out₀ : List ℕ
   pub segments-are : segments ≡ length (written d rows)
   pub numbers-are : numbersOf numbers ≡ numbersIn zeros rows
   pub same : length out ≡ length out₀
-  pub wrote : length (messageOf d rows) ≤ length out₀ → out ≡ over (messageOf d rows) out₀
+  pub wrote : length (messageOf d rows) ≤ length out₀ → out ≡ overFront (messageOf d rows) out₀
 
 -- ---- a verdict that is known
 pub unjudged : (known : Bool) (h : Name) (ts : List (List ℕ)) → (known ≡ true → VerdictOn (lines h) ts Fine) → known ≡ true → VerdictOn (lines h) ts Fine
@@ -59,9 +59,9 @@ unjudged known h ts f k = f k
 refuses : (d : Delims) (s x y : List ℕ) (r : Refusal) → rowsIn s ≡ refusal r → Pass d s x (Not r) y
 refuses d s x y r e = record { told = rw e; wrote = λ rows g m. cc }
 
-pub begins : (d : Delims) (s : List ℕ) (known : Bool) (out places : List ℕ) (a : Reached) → (length s ≤ longestSheet) × (known ≡ true → Right s) × Proper d → Cut 10 s places → reachedOf a ≡ start
+pub begins : (d : Delims) (s : List ℕ) (known : Bool) (out places : List ℕ) (a : Reached) → (length s ≤ longestSheet) × (known ≡ true → FaultFree s) × Proper d → Cut 10 s places → reachedOf a ≡ start
     → Passing d s known out a 0 1 0 0 (record { specimen = 0; result = 0 }) places out
-unfolding numbersIn over
+unfolding numbersIn overFront
 begins d s known out places a h cut e = record {
   rows = [];
   read = Judging.reads s places a (h .0) cut e;

@@ -18,9 +18,9 @@ use Rattle.rules.specs.Message.{Numbers, zeros}
 use Rattle.rules.specs.Message as Message
 use Rattle.rules.proofs.Logic.{cases, never, not-true, not-false}
 use Rattle.rules.proofs.Names.{name-is}
-use Rattle.writer.specs.Over.{over, overAt, Wrote, Put, fitted, Fit}
+use Rattle.writer.specs.Over.{overFront, overAt, Wrote, Put, fitted, Fit}
 use Rattle.writer.proofs.Laws.{back, then}
-use Rattle.segments.specs.Segments.{segmentOf}
+use Rattle.segments.specs.Segments.{groupSegment}
 use Rattle.segments.proofs.Texts.{shapes}
 use Rattle.numbered.specs.declared.Numbers.{Numbers as Coded}
 use Rattle.numbered.specs.Numbered.{numbersOf}
@@ -28,7 +28,7 @@ use Rattle.compose.specs.Compose.{groupText, FitAt}
 
 -- ---- a write where there is room, at a place
 fitted-length : (w old : List ℕ) → length (fitted w old) ≡ length old
-unfolding fitted over
+unfolding fitted overFront
 fitted-length w old =
     cases (leb (length w) (length old))
     (λ e. rw e (simp (length-append, length-drop) (omega (arith, leb-true (length w) (length old) e))))
@@ -52,13 +52,13 @@ added x text y at from k h g p =
 
 -- ---- one behind another
 front-own : (at : ℕ) (x : List ℕ) → at ≤ length x → Wrote at x (take at x) x
-unfolding over
+unfolding overFront
 front-own at x h =
     let l : length (take at x) ≡ at = length-take-le at x h in
     record { ends = sym l; is = sym (ap (λ (n : ℕ). take at x ++ drop n x) l ∙ take-append-drop at x) }
 
-over-two : (at : ℕ) (x b : List ℕ) → at ≤ length x → over (take at x ++ b) x ≡ overAt at b x
-unfolding over overAt
+over-two : (at : ℕ) (x b : List ℕ) → at ≤ length x → overFront (take at x ++ b) x ≡ overAt at b x
+unfolding overFront overAt
 over-two at x b h =
     let l : length (take at x ++ b) ≡ at + length b = length-append (take at x) b ∙ ap (λ (n : ℕ). n + length b) (length-take-le at x h) in
     rw (l, drop-drop (length b) at x, append-assoc)
@@ -76,11 +76,11 @@ both-put x y z b c at m r p q = record {
 
 -- ---- a group's segments
 module _ (d : Delims) (n : Numbers) (ts : List (List ℕ)) where
-  order-two : segmentOf d n Obr 0 ts ++ segmentOf d zeros Obr 1 ts ≡ groupText d n Obr ts
+  order-two : groupSegment d n Obr 0 ts ++ groupSegment d zeros Obr 1 ts ≡ groupText d n Obr ts
   unfolding shapes groupText
   order-two = simp (append-assoc, append-nil)
 
-  one-only : (g : Name) → is g Obr ≡ false → segmentOf d n g 0 ts ≡ groupText d n g ts
+  one-only : (g : Name) → is g Obr ≡ false → groupSegment d n g 0 ts ≡ groupText d n g ts
   unfolding shapes groupText
   one-only Msh h = refl
   one-only Pid h = refl
@@ -92,21 +92,21 @@ module _ (d : Delims) (n : Numbers) (ts : List (List ℕ)) where
   one-only Other h = refl
 
   -- the first in what remains of x from the place from on: it has k bytes and leaves y there
-  module _ (g : Name) (x y : List ℕ) (at from k : ℕ) (h : from ≤ length x) (f : at ≤ length x → from ≡ at) (p : Fit k y (segmentOf d n g 0 ts) (take (length x - from) (drop from x)))
+  module _ (g : Name) (x y : List ℕ) (at from k : ℕ) (h : from ≤ length x) (f : at ≤ length x → from ≡ at) (p : Fit k y (groupSegment d n g 0 ts) (take (length x - from) (drop from x)))
       (q : Bool) (e : q ≡ is g Obr) where
     abbrev whole : List ℕ
     whole = take from x ++ (y ++ drop (length x - from) (drop from x))
 
     pub one-put : not q ≡ true → FitAt at x (groupText d n g ts) (at + k) whole
-    one-put o = rw (one-only g (sym e ∙ not-true q o)) at (added x (segmentOf d n g 0 ts) y at from k h f p)
+    one-put o = rw (one-only g (sym e ∙ not-true q o)) at (added x (groupSegment d n g 0 ts) y at from k h f p)
 
     pub order-put : not q ≡ false → (z : List ℕ) (behind m : ℕ) → behind ≤ length whole → (at + k ≤ length whole → behind ≡ at + k)
-        → Fit m z (segmentOf d zeros Obr 1 ts) (take (length whole - behind) (drop behind whole))
+        → Fit m z (groupSegment d zeros Obr 1 ts) (take (length whole - behind) (drop behind whole))
         → FitAt at x (groupText d n g ts) (at + k + m) (take behind whole ++ (z ++ drop (length whole - behind) (drop behind whole)))
     order-put o z behind m l j r =
         let b : g ≡ Obr = name-is g Obr (sym e ∙ not-false q o) in
-        let one : FitAt at x (segmentOf d n Obr 0 ts) (at + k) whole = rw b at (added x (segmentOf d n g 0 ts) y at from k h f p) in
-        rw (b, ← order-two) (both-put x whole _ (segmentOf d n Obr 0 ts) (segmentOf d zeros Obr 1 ts) at (at + k) (at + k + m) one (added whole (segmentOf d zeros Obr 1 ts) z (at + k) behind m l j r))
+        let one : FitAt at x (groupSegment d n Obr 0 ts) (at + k) whole = rw b at (added x (groupSegment d n g 0 ts) y at from k h f p) in
+        rw (b, ← order-two) (both-put x whole _ (groupSegment d n Obr 0 ts) (groupSegment d zeros Obr 1 ts) at (at + k) (at + k + m) one (added whole (groupSegment d zeros Obr 1 ts) z (at + k) behind m l j r))
 
 -- ---- counting
 module _ (x a g : Name) (n : ℕ) (p : Bool) (e : p ≡ is g x) where

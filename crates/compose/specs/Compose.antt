@@ -9,7 +9,7 @@ use Rattle.rules.specs.Told.{Told, gives, refusal, _>>=_}
 use Rattle.rules.specs.Lists.{ended}
 use Rattle.rules.specs.Row.{Row}
 use Rattle.rules.specs.Message.{Numbers, segmentText, written, messageOf}
-use Rattle.writer.specs.Over.{over, overAt}
+use Rattle.writer.specs.Over.{overFront, overAt}
 use Rattle.lines.specs.Lines.{longestSheet}
 use Rattle.sheets.specs.Sheet.{rowsIn}
 use Rattle.segments.specs.Segments.{groupPieces, longestSegment}
@@ -47,11 +47,11 @@ abbrev pub sizeTold : Delims → List ℕ → Told Size
 sizeTold d s = rowsIn s >>= λ rows. gives (sizeOf d rows)
 
 -- the sheet s has no fault
-pub record Right (s : List ℕ) : Type 0 where
+pub record FaultFree (s : List ℕ) : Type 0 where
   pub rows : List Row
   pub told : rowsIn s ≡ gives rows
 
 -- a pass over the sheet s: what it tells, and that where there is room for the message, it is written
 pub record Pass (d : Delims) (s x : List ℕ) (r : Passed) (y : List ℕ) : Type 0 where
   pub told : toldSize r ≡ sizeTold d s
-  pub wrote : (rows : List Row) → rowsIn s ≡ gives rows → length (messageOf d rows) ≤ length x → y ≡ over (messageOf d rows) x
+  pub wrote : (rows : List Row) → rowsIn s ≡ gives rows → length (messageOf d rows) ≤ length x → y ≡ overFront (messageOf d rows) x

@@ -18,7 +18,7 @@ ghost use Rattle.rules.specs.Message as Message;
 ghost use Rattle.lines.specs.Lines.{longestSheet, Cut};
 ghost use Rattle.groups.specs.Groups.{VerdictOn};
 ghost use Rattle.numbered.specs.Numbered.{numbersOf, Sources};
-ghost use Rattle.compose.specs.Compose.{groupText, FitAt, longestGroup, farthestEnd, Right, Pass};
+ghost use Rattle.compose.specs.Compose.{groupText, FitAt, longestGroup, farthestEnd, FaultFree, Pass};
 
 // ---- a group written
 
@@ -111,7 +111,7 @@ fn verdict(known: bool, name: Name, s: &[u8], places: &[usize; 11]) -> Verdict
 
 // A pass over the groups of a sheet. A buffer too short for the message is left in any state, and one with room has the message over its front.
 pub fn pass(out: &mut [u8], sheet: &[u8], d: Delims, known: bool) -> Passed
-    requires { ⌜ (length (now sheet) ≤ longestSheet) × (known ≡ true → Right (now sheet)) × Proper d ⌝ }
+    requires { ⌜ (length (now sheet) ≤ longestSheet) × (known ≡ true → FaultFree (now sheet)) × Proper d ⌝ }
     ensures { λ r. ⌜ Pass d (now (sheet .entry)) (now (out .entry)) r (now (out .exit)) ⌝ }
 {
     let mut reached = order::start();

@@ -13,21 +13,22 @@ use Rattle.rules.specs.declared.Kind.the-variants.{NoOrdinal, Room}
 use Rattle.rules.specs.declared.Refusal.{Refusal}
 use Rattle.rules.specs.Told.{Told, gives, refused, refusal, over}
 use Rattle.rules.specs.Lists.{all}
+use Rattle.rules.specs.Fetch.{ordinal}
 use Rattle.rules.specs.Sheet.{sheetOf, readSheet}
 use Rattle.rules.proofs.Logic.{cases, toldCases, not-given, not-true, not-false}
 use Rattle.writer.specs.Over.{Wrote}
 use Rattle.writer.specs.Over as Over
-use Rattle.sheets.specs.declared.Judged.{Judged}
-use Rattle.sheets.specs.declared.Judged.the-variants.{Right as Fit, Wrong as Bad}
+use Rattle.sheets.specs.declared.SheetVerdict.{SheetVerdict}
+use Rattle.sheets.specs.declared.SheetVerdict.the-variants.{Right as Fit, Wrong as Bad}
 use Rattle.sheets.specs.Sheet.{toldJudged, judgedTold}
-use Rattle.csv_rules.specs.declared.Fault.{Fault}
-use Rattle.csv_rules.specs.declared.Fault.the-variants.{Quoting, Unconverted, HeaderDiffers}
+use Rattle.csv_rules.specs.declared.FileFault.{FileFault}
+use Rattle.csv_rules.specs.declared.FileFault.the-variants.{Quoting, Unconverted, HeaderDiffers}
 use Rattle.csv_rules.specs.declared.CsvSheets.{CsvSheets}
 use Rattle.csv_rules.specs.declared.Made.{Made}
 use Rattle.csv_rules.specs.declared.Made.the-variants.{Sheet, Unfit, Faulty}
 use Rattle.csv_rules.specs.declared.Next.{Next}
 use Rattle.csv_rules.specs.Quote.{cut, linesAt, linesIn, isBroken}
-use Rattle.csv_rules.specs.Sheets.{Run, rowsIn, rowConverts, differ, runs, Given, rowsOf, sheetTold, csvTold, csvCount, ordinal, csvSheet, firstRow, firstTold, runsFrom, csvNext, behind, placeAfter}
+use Rattle.csv_rules.specs.Sheets.{Run, runLines, rowConverts, differ, runs, Given, sheetRows, runTold, csvTold, csvCount, csvSheet, firstRow, firstTold, runsFrom, csvNext, behindRun, placeAfter}
 use Rattle.csv_rules.specs.Answers.{toldFault, SheetCall, NextCall}
 use Rattle.csv_rules.specs.Claims.{placeOf}
 use Rattle.csv_rules.proofs.Order.{sheet-by-place}
@@ -36,8 +37,8 @@ use Rattle.reach.proofs.Laws.{front-cut, front-is}
 use Rattle.csv_runs.specs.Runs.{RunIs}
 use Rattle.csv_runs.specs.Sheet.{sheetAt, PutIs}
 use Rattle.csv_check.specs.declared.Blame.{Blame}
-use Rattle.csv_check.specs.declared.Verdict.{Verdict}
-use Rattle.csv_check.specs.declared.Verdict.the-variants.{Wrong}
+use Rattle.csv_check.specs.declared.FileVerdict.{FileVerdict}
+use Rattle.csv_check.specs.declared.FileVerdict.the-variants.{Wrong}
 use Rattle.csv_check.specs.Verdicts.{toldVerdict}
 use Rattle.csv.specs.Calls.{Convertible, copiedTold, madeTold}
 
@@ -48,7 +49,7 @@ told-as e p = rw e p
 unfit : (x : List ℕ) (k : Refusal) → SheetCall (refusal k) x (Unfit k) x
 unfit x k = record { told = refl; buffer = refl; within = λ n e. let z : _≡_ {A = ℕ} 0 1 = cc in absurd (omega arith) }
 
-faulty : (x : List ℕ) (f : Fault) → SheetCall (toldFault f) x (Faulty f) x
+faulty : (x : List ℕ) (f : FileFault) → SheetCall (toldFault f) x (Faulty f) x
 faulty x f = record { told = refl; buffer = refl; within = λ n e. let z : _≡_ {A = ℕ} 0 1 = cc in absurd (omega arith) }
 
 -- ---- 45, or the sheet
@@ -58,11 +59,11 @@ module _ (s x : List ℕ) where
   copied-45 r h e = rw (e, lt-ltb (length x) (length s) h) (unfit x (record { kind = Room; segment = 0; field = 0 }))
 
   pub copied-all : (r : ℕ) (y : List ℕ) → length s ≤ length x → Wrote r y s x → SheetCall (copiedTold s (length x)) x (Sheet r) y
-  unfolding copiedTold Over.over
+  unfolding copiedTold Over.overFront
   copied-all r y h w = rw (le-ltb (length x) (length s) h) (record { told = ap gives (w .ends); buffer = w .is; within = λ n e. let z : n ≡ r = cc in omega (arith, w .ends) })
 
   -- 40 to 43 before that: p is what judging tells
-  module _ (p : Judged) (t : toldJudged p ≡ judgedTold s) where
+  module _ (p : SheetVerdict) (t : toldJudged p ≡ judgedTold s) where
     pub handed-not : (k : Refusal) → p ≡ Bad k → SheetCall (madeTold s (length x)) x (Unfit k) x
     unfolding madeTold judgedTold
     handed-not k f =
@@ -109,7 +110,7 @@ module _ (f : List ℕ) (at : ℕ) (C : Convertible f at) {size : ℕ} {good dif
       let F = R .found found-there in
       let e : F .run ∷ F .others ≡ C .run ∷ C .others = sym (F .begins) ∙ C .begins in
       let u : F .run ≡ C .run = cc in
-      F .converts ∙ ap (λ (v : Run). all rowConverts (rowsIn v)) u ∙ C .good
+      F .converts ∙ ap (λ (v : Run). all rowConverts (runLines v)) u ∙ C .good
 
 pub made-told : (f : List ℕ) (at : ℕ) → Convertible f at → (g : Given) (x : List ℕ) (size end : ℕ) (good differs bad : Bool) (y : List ℕ) → PutIs f at g x size end good differs bad y
     → length x ≡ 65537 → (old after : List ℕ) (r : Made) → SheetCall (madeTold (take end y) (length old)) old r after → SheetCall (madeTold (sheetAt f at g) (length old)) old r after
@@ -129,37 +130,37 @@ module _ (f : List ℕ) (at : ℕ) where
   none-there h = let e = drop-of-length-le f {i = at} h in (rw e, rw e)
 
   pub behind-none : length f ≤ at → length f ≡ placeAfter f at
-  unfolding placeAfter behind
+  unfolding placeAfter behindRun
   behind-none h = rw (none-there h .0)
 
   module _ {size : ℕ} {good differs bad : Bool} (R : RunIs f at size good differs bad) where
     pub behind-broken : bad ≡ true → length f ≡ placeAfter f at
-    unfolding placeAfter behind
+    unfolding placeAfter behindRun
     behind-broken h = rw (R .broken h .none)
 
     pub behind-run : bad ≡ false → at + size ≡ placeAfter f at
-    unfolding placeAfter behind
-    behind-run b = let F = R .found b in sym (ap (behind (length f) at) (F .begins) ∙ ap (λ (n : ℕ). at + n) (sym (F .bytes)))
+    unfolding placeAfter behindRun
+    behind-run b = let F = R .found b in sym (ap (behindRun (length f) at) (F .begins) ∙ ap (λ (n : ℕ). at + n) (sym (F .bytes)))
 
 -- ---- what begins at a place
 module _ (f : List ℕ) (at : ℕ) (g : Given) (x : List ℕ) where
   module _ (u : Run) (us : List Run) (e : runsFrom f at ≡ u ∷ us) where
-    found-52 : all rowConverts (rowsIn u) ≡ false → csvNext f at g (length x) ≡ refused 52 0 0
+    found-52 : all rowConverts (runLines u) ≡ false → csvNext f at g (length x) ≡ refused 52 0 0
     unfolding csvNext firstTold
     found-52 c = rw (e, c)
 
-    module _ (c : all rowConverts (rowsIn u) ≡ true) where
-      found-53 : differ (rowsIn u) ≡ true → csvNext f at g (length x) ≡ refused 53 0 0
+    module _ (c : all rowConverts (runLines u) ≡ true) where
+      found-53 : differ (runLines u) ≡ true → csvNext f at g (length x) ≡ refused 53 0 0
       unfolding csvNext firstTold
       found-53 d = rw (e, c, d)
 
-      found-made : differ (rowsIn u) ≡ false → csvNext f at g (length x) ≡ madeTold (sheetAt f at g) (length x)
-      unfolding csvNext firstTold sheetTold madeTold copiedTold sheetAt
+      found-made : differ (runLines u) ≡ false → csvNext f at g (length x) ≡ madeTold (sheetAt f at g) (length x)
+      unfolding csvNext firstTold runTold madeTold copiedTold sheetAt
       found-made d = rw (e, c, d) (ap (λ (us : List Run). madeTold (firstSheet us) (length x)) (sym e))
         where
           firstSheet : List Run → List ℕ
           firstSheet [] = []
-          firstSheet (v ∷ vs) = sheetOf (rowsOf g v)
+          firstSheet (v ∷ vs) = sheetOf (sheetRows g v)
 
   pub next-none : length f ≤ at → (r : Made) → r ≡ Unfit (record { kind = NoOrdinal; segment = 0; field = 0 }) → NextCall (csvNext f at g (length x)) (placeAfter f at) x (record { made = r; place = length f }) x
   unfolding csvNext firstTold
@@ -223,7 +224,7 @@ module _ (f : List ℕ) (first n at left : ℕ) (e : placeOf f first n ≡ place
   place-ends h = let z : left ≡ 0 = omega arith in sym (e ∙ ap (placeOf f at) z)
 
 -- ---- the which-th sheet
-pub sheet-faulty : (f : List ℕ) (which : ℕ) (g : Given) (x : List ℕ) (v : Verdict) (b : Blame) (r : Fault) → toldVerdict v ≡ csvCount f → v ≡ Wrong b → r ≡ b .fault → SheetCall (csvSheet f which g (length x)) x (Faulty r) x
+pub sheet-faulty : (f : List ℕ) (which : ℕ) (g : Given) (x : List ℕ) (v : FileVerdict) (b : Blame) (r : FileFault) → toldVerdict v ≡ csvCount f → v ≡ Wrong b → r ≡ b .fault → SheetCall (csvSheet f which g (length x)) x (Faulty r) x
 unfolding csvCount csvSheet
 sheet-faulty f which g x v b r t e k =
     let h : toldFault (b .fault) ≡ csvCount f = ap toldVerdict (sym e) ∙ t in

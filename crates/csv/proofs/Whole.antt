@@ -9,12 +9,12 @@ use Rattle.csv_rules.specs.Sheets.{csvCount}
 use Rattle.csv_rules.specs.Spot.{csvSpot}
 use Rattle.csv_rules.specs.Answers.{toldCount}
 use Rattle.csv_check.specs.declared.Blame.{Blame}
-use Rattle.csv_check.specs.declared.Verdict.{Verdict}
-use Rattle.csv_check.specs.declared.Verdict.the-variants.{Right, Wrong}
+use Rattle.csv_check.specs.declared.FileVerdict.{FileVerdict}
+use Rattle.csv_check.specs.declared.FileVerdict.the-variants.{Right, Wrong}
 use Rattle.csv_check.specs.Verdicts.{toldVerdict, lineOf}
 
 -- ---- the answers
-module _ (f : List ℕ) (v : Verdict) (t : toldVerdict v ≡ csvCount f) where
+module _ (f : List ℕ) (v : FileVerdict) (t : toldVerdict v ≡ csvCount f) where
   pub counted-right : (c : CsvSheets) → v ≡ Right c → toldCount (Sheets c) ≡ csvCount f
   counted-right c e = ap toldVerdict (sym e) ∙ t
 
@@ -24,8 +24,8 @@ module _ (f : List ℕ) (v : Verdict) (t : toldVerdict v ≡ csvCount f) where
   pub given-sheets : (c : CsvSheets) → v ≡ Right c → csvCount f ≡ gives c
   given-sheets c e = sym t ∙ ap toldVerdict e
 
-pub spot-right : (f : List ℕ) (v : Verdict) → lineOf v ≡ csvSpot f → (c : CsvSheets) → v ≡ Right c → 0 ≡ csvSpot f
+pub spot-right : (f : List ℕ) (v : FileVerdict) → lineOf v ≡ csvSpot f → (c : CsvSheets) → v ≡ Right c → 0 ≡ csvSpot f
 spot-right f v t c e = ap lineOf (sym e) ∙ t
 
-pub spot-wrong : (f : List ℕ) (v : Verdict) → lineOf v ≡ csvSpot f → (b : Blame) → v ≡ Wrong b → b .line ≡ csvSpot f
+pub spot-wrong : (f : List ℕ) (v : FileVerdict) → lineOf v ≡ csvSpot f → (b : Blame) → v ≡ Wrong b → b .line ≡ csvSpot f
 spot-wrong f v t b e = ap lineOf (sym e) ∙ t

@@ -8,14 +8,14 @@ use lib.ListN.{length}
 use Rattle.rules.specs.Told.{Told, gives, refuse_if_else_, _>>_}
 use Rattle.rules.specs.Lists.{all}
 use Rattle.rules.specs.Sheet.{readSheet}
-use Rattle.csv_rules.specs.Sheets.{Run, rowsIn, rowConverts, runsFrom}
+use Rattle.csv_rules.specs.Sheets.{Run, runLines, rowConverts, runsFrom}
 
 -- a run begins at a place, and each of its rows converts
 pub record Convertible (f : List ℕ) (at : ℕ) : Type 0 where
   pub run : Run
   pub others : List Run
   pub begins : runsFrom f at ≡ run ∷ others
-  pub good : all rowConverts (rowsIn run) ≡ true
+  pub good : all rowConverts (runLines run) ≡ true
 
 -- 45 "lent buffer too short", of a sheet s; and before it "the sheet's own"
 unfoldable pub copiedTold : List ℕ → ℕ → Told (List ℕ)

@@ -1,14 +1,14 @@
 // The calls on the commercial centre's file (Req 01): how many sheets it holds, one of them, the one that begins at a place; and where the file is
 // refused. They take any bytes, any ordinal and any place.
-use csv_check::Verdict;
+use csv_check::FileVerdict;
 use csv_rules::Counted;
 use csv_rules::CsvSheets;
-use csv_rules::Fault;
+use csv_rules::FileFault;
 use csv_rules::Made;
 use csv_rules::Next;
 use rules::Kind;
 use rules::Refusal;
-use sheets::Judged;
+use sheets::SheetVerdict;
 ghost use mathlib.Core.Path.{_≡_};
 ghost use Prim.Native.Nat.{_<_};
 ghost use lib.ListN.{length};
@@ -26,8 +26,8 @@ pub fn csv_count(file: &[u8]) -> Counted
     ensures { λ r. ⌜ SheetsCounted (now (file .entry)) r ⌝ }
 {
     match csv_check::verdict_on(file) {
-        Verdict::Right(sheets) => Counted::Sheets(sheets),
-        Verdict::Wrong(blame) => {
+        FileVerdict::Right(sheets) => Counted::Sheets(sheets),
+        FileVerdict::Wrong(blame) => {
             let fault = blame.fault;
             Counted::NotCounted(fault)
         }
@@ -39,8 +39,8 @@ pub fn csv_spot(file: &[u8]) -> usize
     ensures { λ r. ⌜ LineTold (now (file .entry)) r ⌝ }
 {
     match csv_check::verdict_on(file) {
-        Verdict::Right(_) => 0,
-        Verdict::Wrong(blame) => blame.line,
+        FileVerdict::Right(_) => 0,
+        FileVerdict::Wrong(blame) => blame.line,
     }
 }
 
@@ -77,8 +77,8 @@ fn handed(sheet: &[u8], out: &mut [u8]) -> Made
     ensures { λ r. ⌜ SheetCall (madeTold (now (sheet .entry)) (length (now (out .entry)))) (now (out .entry)) r (now (out .exit)) ⌝ }
 {
     match sheets::judge(sheet) {
-        Judged::Wrong(refusal) => Made::Unfit(refusal),
-        Judged::Right => copied(sheet, out),
+        SheetVerdict::Wrong(refusal) => Made::Unfit(refusal),
+        SheetVerdict::Right => copied(sheet, out),
     }
 }
 
@@ -146,20 +146,20 @@ fn next_in(
     let run = put.run;
     if run.bad {
         return Next {
-            made: Made::Faulty(Fault::Quoting),
+            made: Made::Faulty(FileFault::Quoting),
             place: file.len(),
         };
     }
     let place = at + run.size;
     if !run.good {
         return Next {
-            made: Made::Faulty(Fault::Unconverted),
+            made: Made::Faulty(FileFault::Unconverted),
             place,
         };
     }
     if run.differs {
         return Next {
-            made: Made::Faulty(Fault::HeaderDiffers),
+            made: Made::Faulty(FileFault::HeaderDiffers),
             place,
         };
     }
@@ -211,11 +211,11 @@ pub fn csv_sheet(
     ensures { λ r. ⌜ CsvSheetWritten (now (file .entry)) which (record { mode = now (mode .entry); sent = now (sent .entry); control = now (control .entry) }) (now (out .entry)) r (now (out .exit)) ⌝ }
 {
     match csv_check::verdict_on(file) {
-        Verdict::Wrong(blame) => {
+        FileVerdict::Wrong(blame) => {
             let fault = blame.fault;
             Made::Faulty(fault)
         }
-        Verdict::Right(sheets) => sheet_of(file, sheets, which, mode, sent, control, out),
+        FileVerdict::Right(sheets) => sheet_of(file, sheets, which, mode, sent, control, out),
     }
 }
 

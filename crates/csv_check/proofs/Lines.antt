@@ -10,13 +10,13 @@ use lib.Dec.{eqb, ltb}
 use lib.ListN.{length, take, drop}
 use Rattle.rules.specs.Lists.{empty, onto, nth, all}
 use Rattle.rules.proofs.Logic.{cases, never}
-use Rattle.csv_rules.specs.Quote.{Lines, end, broken, line, more, Stand, Begins, Comma, Inside, Quote, Cr, linesAt, cut, isBroken, Line, linesIn}
+use Rattle.csv_rules.specs.Quote.{Lines, end, broken, line, more, Stand, Begins, Comma, Inside, Quote, Cr, linesAt, cut, isBroken, FileLine, linesIn}
 use Rattle.csv_rules.specs.Count.{numeral, counts}
 use Rattle.csv_rules.specs.Kanji.{convertible}
-use Rattle.csv_rules.specs.Sheets.{rowConverts, sizes, firstRow}
+use Rattle.csv_rules.specs.Sheets.{rowConverts, bytesIn, firstRow}
 use Rattle.csv_rules.specs.Spot.{firstNot, countLine}
 use Rattle.csv_rules.specs.Written.{halved}
-use Rattle.csv_rows.specs.Rows.{stretch, itemAt, RowIs}
+use Rattle.csv_rows.specs.Rows.{itemBytes, itemAt, RowIs}
 use Rattle.csv_rows.proofs.Laws.{row-lines, row-unbroken, row-broken, rows-end}
 use Rattle.csv_check.specs.Walk.{capped, firstFound, countSpot, ColumnsAre, columnItem, WalkIs}
 use Rattle.csv_check.specs.Looked.{LookedIs}
@@ -78,11 +78,11 @@ lines-few Quote (b ∷ s) =
 lines-few Cr (b ∷ s) = cases (eqb b 0x0A) (λ e. rw (e, linesAt) (omega arith)) (λ e. rw (e, linesAt) tt)
 
 -- ---- 51 over all lines: the first two are no rows
-unfoldable pub firstOff : ℕ → ℕ → List Line → ℕ
+unfoldable pub firstOff : ℕ → ℕ → List FileLine → ℕ
 firstOff m k [] = 0
 firstOff m k (l ∷ ls) = elim (ltb k 3 || eqb (length (l .items)) m) [ true ↦ firstOff m (suc k) ls | false ↦ k ]
 
-off-later : (m k : ℕ) (ls : List Line) → 3 ≤ k → firstOff m k ls ≡ firstNot (λ (r : Line). eqb (length (r .items)) m) k ls
+off-later : (m k : ℕ) (ls : List FileLine) → 3 ≤ k → firstOff m k ls ≡ firstNot (λ (r : FileLine). eqb (length (r .items)) m) k ls
 unfolding firstOff firstNot
 off-later m k [] h = refl
 off-later m k (l ∷ ls) h =
@@ -90,7 +90,7 @@ off-later m k (l ∷ ls) h =
     (λ e. rw (le-ltb k 3 h, e, firstOff, firstNot) (off-later m (suc k) ls (omega arith)))
     (λ e. rw (le-ltb k 3 h, e, firstOff, firstNot))
 
-off-first : (m : ℕ) (ls : List Line) → firstOff m 1 ls ≡ firstNot (λ (r : Line). eqb (length (r .items)) m) 3 (drop 2 ls)
+off-first : (m : ℕ) (ls : List FileLine) → firstOff m 1 ls ≡ firstNot (λ (r : FileLine). eqb (length (r .items)) m) 3 (drop 2 ls)
 unfolding firstOff firstNot
 off-first m [] = refl
 off-first m (v ∷ []) = refl
@@ -128,7 +128,7 @@ pub before-no : (n size : ℕ) → 3 ≤ n → 0 ≡ cond (ltb n 3) size 0
 before-no n size h = rw (le-ltb n 3 h)
 
 -- ---- the lines from a place on
-abbrev from : List ℕ → ℕ → List Line
+abbrev from : List ℕ → ℕ → List FileLine
 from f at = linesIn (cut (drop at f))
 
 pub record Walking (f : List ℕ) (number at lines miscounted unconverted first : ℕ) : Type 0 where
@@ -136,7 +136,7 @@ pub record Walking (f : List ℕ) (number at lines miscounted unconverted first 
   pub counts : length (linesIn (cut f)) ≡ lines + length (from f at)
   pub counted : (m : ℕ) → capped number ≡ capped m → firstOff m 1 (linesIn (cut f)) ≡ orElse miscounted (firstOff m (suc lines) (from f at))
   pub converted : firstNot rowConverts 1 (linesIn (cut f)) ≡ orElse unconverted (firstNot rowConverts (suc lines) (from f at))
-  pub rows : sizes (take 2 (linesIn (cut f))) ≡ first + sizes (take (2 - lines) (from f at))
+  pub rows : bytesIn (take 2 (linesIn (cut f))) ≡ first + bytesIn (take (2 - lines) (from f at))
   pub place : at ≤ length f
   pub few : lines ≤ at
   pub before : first ≤ at
@@ -156,16 +156,16 @@ walk-starts f number = record {
 module _ (f : List ℕ) (number at lines miscounted unconverted first : ℕ) (p : Walking f number at lines miscounted unconverted first) where
   -- nothing more is read
   walk-ends : from f at ≡ [] → (b : Bool) → isBroken (cut (drop at f)) ≡ b → WalkIs f number b lines miscounted unconverted first
-  unfolding firstOff firstNot sizes
+  unfolding firstOff firstNot bytesIn
   walk-ends e b g = record {
     quoting = sym (p .quoting ∙ g);
     counts = let k : length (from f at) ≡ 0 = ap length e in omega (arith, p .counts);
-    counted = λ m h. sym (sym (off-first m (linesIn (cut f))) ∙ p .counted m h ∙ ap (λ (ls : List Line). orElse miscounted (firstOff m (suc lines) ls)) e ∙ found-all miscounted);
-    converted = sym (p .converted ∙ ap (λ (ls : List Line). orElse unconverted (firstNot rowConverts (suc lines) ls)) e ∙ found-all unconverted);
-    rows = let k : sizes (take (2 - lines) (from f at)) ≡ 0 = ap (λ (ls : List Line). sizes (take (2 - lines) ls)) e ∙ none (2 - lines) in omega (arith, p .rows);
+    counted = λ m h. sym (sym (off-first m (linesIn (cut f))) ∙ p .counted m h ∙ ap (λ (ls : List FileLine). orElse miscounted (firstOff m (suc lines) ls)) e ∙ found-all miscounted);
+    converted = sym (p .converted ∙ ap (λ (ls : List FileLine). orElse unconverted (firstNot rowConverts (suc lines) ls)) e ∙ found-all unconverted);
+    rows = let k : bytesIn (take (2 - lines) (from f at)) ≡ 0 = ap (λ (ls : List FileLine). bytesIn (take (2 - lines) ls)) e ∙ none (2 - lines) in omega (arith, p .rows);
   }
     where
-      none : (n : ℕ) → sizes (take n []) ≡ 0
+      none : (n : ℕ) → bytesIn (take n []) ≡ 0
       none zero = refl
       none (suc n) = refl
 
@@ -200,7 +200,7 @@ module _ (f : List ℕ) (number at lines miscounted unconverted first : ℕ) (p 
           let n : length (t .items) + length (t .items) ≤ size + 0 = rw c at (lines-few Begins (drop at f)) in
           omega (arith, t .counted, t .place)
 
-      abbrev row : Line
+      abbrev row : FileLine
       row = record { items = t .items; size = size }
 
       row-next : from f at ≡ row ∷ from f (at + size)
@@ -208,21 +208,21 @@ module _ (f : List ℕ) (number at lines miscounted unconverted first : ℕ) (p 
 
       module _ (x m u : ℕ) (a : m ≡ firstFound miscounted (lines + 1) (ltb (lines + 1) 3 || eqb count number))
           (b : u ≡ firstFound unconverted (lines + 1) good) (w : x ≡ cond (ltb (lines + 1) 3) size 0) where
-        more-rows : sizes (take 2 (linesIn (cut f))) ≡ (first + x) + sizes (take (2 - (lines + 1)) (from f (at + size)))
-        unfolding sizes
+        more-rows : bytesIn (take 2 (linesIn (cut f))) ≡ (first + x) + bytesIn (take (2 - (lines + 1)) (from f (at + size)))
+        unfolding bytesIn
         more-rows =
             cases (ltb (lines + 1) 3)
             (λ e.
             let k : 2 - lines ≡ suc (2 - (lines + 1)) = omega (arith, ltb-true (lines + 1) 3 e) in
-            let z : sizes (take (2 - lines) (from f at)) ≡ size + sizes (take (2 - (lines + 1)) (from f (at + size))) =
-            ap (λ (n : ℕ). sizes (take n (from f at))) k ∙ ap (λ (ls : List Line). sizes (take (suc (2 - (lines + 1))) ls)) row-next in
+            let z : bytesIn (take (2 - lines) (from f at)) ≡ size + bytesIn (take (2 - (lines + 1)) (from f (at + size))) =
+            ap (λ (n : ℕ). bytesIn (take n (from f at))) k ∙ ap (λ (ls : List FileLine). bytesIn (take (suc (2 - (lines + 1))) ls)) row-next in
             let y : x ≡ size = w ∙ rw e in
             omega (arith, p .rows))
             (λ e.
             let k : 2 - lines ≡ 0 = omega (arith, ltb-false (lines + 1) 3 e) in
             let n : 2 - (lines + 1) ≡ 0 = omega (arith, ltb-false (lines + 1) 3 e) in
-            let z : sizes (take (2 - lines) (from f at)) ≡ 0 = ap (λ (n : ℕ). sizes (take n (from f at))) k in
-            let o : sizes (take (2 - (lines + 1)) (from f (at + size))) ≡ 0 = ap (λ (n : ℕ). sizes (take n (from f (at + size)))) n in
+            let z : bytesIn (take (2 - lines) (from f at)) ≡ 0 = ap (λ (n : ℕ). bytesIn (take n (from f at))) k in
+            let o : bytesIn (take (2 - (lines + 1)) (from f (at + size))) ≡ 0 = ap (λ (n : ℕ). bytesIn (take n (from f (at + size)))) n in
             let y : x ≡ 0 = w ∙ rw e in
             omega (arith, p .rows))
 
@@ -234,12 +234,12 @@ module _ (f : List ℕ) (number at lines miscounted unconverted first : ℕ) (p 
           counted = λ n e.
               let q : eqb count number ≡ eqb (length (t .items)) n = same-count number n count e (row-few k) ∙ ap (λ (c : ℕ). eqb c n) (t .counted) in
               p .counted n e
-              ∙ ap (λ (ls : List Line). orElse miscounted (firstOff n (suc lines) ls)) row-next
+              ∙ ap (λ (ls : List FileLine). orElse miscounted (firstOff n (suc lines) ls)) row-next
               ∙ found-on miscounted lines (firstOff n (suc (suc lines)) (from f (at + size))) (ltb (suc lines) 3 || eqb (length (t .items)) n)
               ∙ rw (a, add-one, q);
           converted =
               p .converted
-              ∙ ap (λ (ls : List Line). orElse unconverted (firstNot rowConverts (suc lines) ls)) row-next
+              ∙ ap (λ (ls : List FileLine). orElse unconverted (firstNot rowConverts (suc lines) ls)) row-next
               ∙ found-on unconverted lines (firstNot rowConverts (suc (suc lines)) (from f (at + size))) (all convertible (t .items))
               ∙ rw (b, add-one, t .converts);
           rows = more-rows;
@@ -262,7 +262,7 @@ module _ (f : List ℕ) (known : Bool) (spans : List ℕ) (size count : ℕ) (go
   unfolding columnItem
   columns-broken h = let e = row-broken f 0 known spans size count good bad t h .0 in rw e no-columns
 
-  pub columns-read : bad ≡ false → (raw : List ℕ) → raw ≡ stretch f spans 1 → (g : Bool) (n : ℕ) → ColumnsAre (halved false raw) g n → ColumnsAre (columnItem (linesIn (cut f))) g n
+  pub columns-read : bad ≡ false → (raw : List ℕ) → raw ≡ itemBytes f spans 1 → (g : Bool) (n : ℕ) → ColumnsAre (halved false raw) g n → ColumnsAre (columnItem (linesIn (cut f))) g n
   unfolding columnItem itemAt
   columns-read h raw e g n c =
       let v : halved false raw ≡ nth (t .items) 1 = ap (halved false) e ∙ t .lies .each 1 (omega arith) in
@@ -288,8 +288,8 @@ module _ (lines : ℕ) (good : Bool) (miscounted : ℕ) where
     unfolding countSpot
     spot-columns h = rw (ne-eqb lines 0 a, ne-eqb lines 1 b, h)
 
-spot-line : (ls : List Line) (good : Bool) (number lines miscounted : ℕ) → ColumnsAre (columnItem ls) good number → lines ≡ length ls
-    → ((m : ℕ) → capped number ≡ capped m → miscounted ≡ firstNot (λ (r : Line). eqb (length (r .items)) m) 3 (drop 2 ls))
+spot-line : (ls : List FileLine) (good : Bool) (number lines miscounted : ℕ) → ColumnsAre (columnItem ls) good number → lines ≡ length ls
+    → ((m : ℕ) → capped number ≡ capped m → miscounted ≡ firstNot (λ (r : FileLine). eqb (length (r .items)) m) 3 (drop 2 ls))
     → countSpot lines good miscounted ≡ countLine ls
 unfolding countSpot countLine columnItem
 spot-line [] good number lines miscounted c n h = rw n

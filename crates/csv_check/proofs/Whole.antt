@@ -11,11 +11,11 @@ use lib.ListN.{length, take, drop, take-append-drop}
 use Rattle.rules.specs.Told.{gives}
 use Rattle.rules.specs.Lists.{nth, all}
 use Rattle.rules.proofs.Logic.{cases}
-use Rattle.csv_rules.specs.declared.Fault.{Fault}
-use Rattle.csv_rules.specs.declared.Fault.the-variants.{Quoting, Columns, Unconverted, HeaderDiffers, Returns}
+use Rattle.csv_rules.specs.declared.FileFault.{FileFault}
+use Rattle.csv_rules.specs.declared.FileFault.the-variants.{Quoting, Columns, Unconverted, HeaderDiffers, Returns}
 use Rattle.csv_rules.specs.declared.CsvSheets.{CsvSheets}
-use Rattle.csv_rules.specs.Quote.{cut, isBroken, Line, linesIn}
-use Rattle.csv_rules.specs.Count.{numeral, counts, counted}
+use Rattle.csv_rules.specs.Quote.{cut, isBroken, FileLine, linesIn}
+use Rattle.csv_rules.specs.Count.{numeral, counts, wellCounted}
 use Rattle.csv_rules.specs.Sheets.{rowConverts, differ, runs, returns, csvTold, firstRow, csvCount}
 use Rattle.csv_rules.specs.Spot.{firstNot, firstAfter, countLine, clashes, comesBack, csvSpot}
 use Rattle.csv_rules.proofs.Order.{skip, all-parts}
@@ -25,32 +25,32 @@ use Rattle.csv_rounds.specs.Settled.{Unsettled, Settled}
 use Rattle.csv_check.specs.Looked.{LookedIs}
 use Rattle.csv_check.specs.Repeats.{WalkedRows, RepeatsAre}
 use Rattle.csv_check.proofs.Tells.{clash-told, back-told}
-use Rattle.csv_check.specs.declared.Verdict.{Verdict}
-use Rattle.csv_check.specs.declared.Verdict.the-variants.{Right, Wrong}
+use Rattle.csv_check.specs.declared.FileVerdict.{FileVerdict}
+use Rattle.csv_check.specs.declared.FileVerdict.the-variants.{Right, Wrong}
 use Rattle.csv_check.specs.Verdicts.{toldVerdict, lineOf}
 
 -- ---- a test of all lines, by the first that it refuses
-all-tells : (p : Line → Bool) (k : ℕ) (ls : List Line) → all p ls ≡ eqb (firstNot p (suc k) ls) 0
+all-tells : (p : FileLine → Bool) (k : ℕ) (ls : List FileLine) → all p ls ≡ eqb (firstNot p (suc k) ls) 0
 unfolding all firstNot
 all-tells p k [] = refl
 all-tells p k (l ∷ ls) = cases (p l) (λ e. rw (e, all, firstNot) (all-tells p (suc k) ls)) (λ e. rw (e, all, firstNot) (sym (ne-eqb (suc k) 0 (λ z. absurd (omega (arith, z))))))
 
-count-tells : (ls : List Line) → counted ls ≡ eqb (countLine ls) 0
-unfolding counted countLine
+count-tells : (ls : List FileLine) → wellCounted ls ≡ eqb (countLine ls) 0
+unfolding wellCounted countLine
 count-tells [] = refl
 count-tells (version ∷ []) = refl
 count-tells (version ∷ (heading ∷ rows)) =
     let n = nth (version .items) 1 in
-    cases (counts n) (λ e. rw e (all-tells (λ (r : Line). eqb (length (r .items)) (numeral 0 n)) 2 rows)) (λ e. rw e)
+    cases (counts n) (λ e. rw e (all-tells (λ (r : FileLine). eqb (length (r .items)) (numeral 0 n)) 2 rows)) (λ e. rw e)
 
-two-lines : (ls : List Line) → countLine ls ≡ 0 → 2 ≤ length ls
+two-lines : (ls : List FileLine) → countLine ls ≡ 0 → 2 ≤ length ls
 unfolding countLine
 two-lines [] h = absurd (omega arith)
 two-lines (version ∷ []) h = absurd (omega arith)
 two-lines (version ∷ (heading ∷ rows)) h = omega arith
 
 -- ---- each refusal in its turn
-abbrev wrong : Fault → ℕ → Verdict
+abbrev wrong : FileFault → ℕ → FileVerdict
 wrong f k = Wrong (record { fault = f; line = k })
 
 -- the line of a fault is some line
@@ -58,14 +58,14 @@ some-line : (k : ℕ) → (k ≡ 0 → ⊥) → eqb k 0 ≡ false
 some-line k h = ne-eqb k 0 h
 
 module _ {f : List ℕ} {broken : Bool} {lines miscounted unconverted first : ℕ} (L : LookedIs f broken lines miscounted unconverted first) where
-  abbrev ls : List Line
+  abbrev ls : List FileLine
   ls = linesIn (cut f)
 
-  pub quoting-told : (v : Verdict) → broken ≡ true → v ≡ wrong Quoting (lines + 1) → toldVerdict v ≡ csvCount f
+  pub quoting-told : (v : FileVerdict) → broken ≡ true → v ≡ wrong Quoting (lines + 1) → toldVerdict v ≡ csvCount f
   unfolding csvCount csvTold
   quoting-told v h e = rw (e, sym (L .quoting) ∙ h)
 
-  pub quoting-line : (v : Verdict) → broken ≡ true → v ≡ wrong Quoting (lines + 1) → lineOf v ≡ csvSpot f
+  pub quoting-line : (v : FileVerdict) → broken ≡ true → v ≡ wrong Quoting (lines + 1) → lineOf v ≡ csvSpot f
   unfolding csvSpot
   quoting-line v h e = rw (e, sym (L .quoting) ∙ h, ← L .counts) (add-one lines)
 
@@ -73,11 +73,11 @@ module _ {f : List ℕ} {broken : Bool} {lines miscounted unconverted first : �
     quoted : isBroken (cut f) ≡ false
     quoted = sym (L .quoting) ∙ h
 
-    pub columns-told : (v : Verdict) → (miscounted ≡ 0 → ⊥) → v ≡ wrong Columns miscounted → toldVerdict v ≡ csvCount f
+    pub columns-told : (v : FileVerdict) → (miscounted ≡ 0 → ⊥) → v ≡ wrong Columns miscounted → toldVerdict v ≡ csvCount f
     unfolding csvCount csvTold
     columns-told v k e = rw (e, quoted, count-tells ls, ← L .counted, some-line miscounted k)
 
-    pub columns-line : (v : Verdict) → (miscounted ≡ 0 → ⊥) → v ≡ wrong Columns miscounted → lineOf v ≡ csvSpot f
+    pub columns-line : (v : FileVerdict) → (miscounted ≡ 0 → ⊥) → v ≡ wrong Columns miscounted → lineOf v ≡ csvSpot f
     unfolding csvSpot
     columns-line v k e = rw (e, quoted, ← L .counted, some-line miscounted k)
 
@@ -85,11 +85,11 @@ module _ {f : List ℕ} {broken : Bool} {lines miscounted unconverted first : �
       zero-count : countLine ls ≡ 0
       zero-count = sym (L .counted) ∙ m
 
-      pub unconverted-told : (v : Verdict) → (unconverted ≡ 0 → ⊥) → v ≡ wrong Unconverted unconverted → toldVerdict v ≡ csvCount f
+      pub unconverted-told : (v : FileVerdict) → (unconverted ≡ 0 → ⊥) → v ≡ wrong Unconverted unconverted → toldVerdict v ≡ csvCount f
       unfolding csvCount csvTold
       unconverted-told v k e = rw (e, quoted, count-tells ls, zero-count, all-tells rowConverts 0 ls, ← L .converted, some-line unconverted k)
 
-      pub unconverted-line : (v : Verdict) → (unconverted ≡ 0 → ⊥) → v ≡ wrong Unconverted unconverted → lineOf v ≡ csvSpot f
+      pub unconverted-line : (v : FileVerdict) → (unconverted ≡ 0 → ⊥) → v ≡ wrong Unconverted unconverted → lineOf v ≡ csvSpot f
       unfolding csvSpot
       unconverted-line v k e = rw (e, quoted, zero-count, ← L .converted, some-line unconverted k)
 
@@ -104,7 +104,7 @@ module _ {f : List ℕ} {broken : Bool} {lines miscounted unconverted first : �
         good-lines : all rowConverts ls ≡ true
         good-lines = all-tells rowConverts 0 ls ∙ ap (λ (n : ℕ). eqb n 0) zero-unconverted
 
-        good-count : counted ls ≡ true
+        good-count : wellCounted ls ≡ true
         good-count = count-tells ls ∙ ap (λ (n : ℕ). eqb n 0) zero-count
 
         rows-from : linesIn (cut (drop first f)) ≡ drop 2 ls
@@ -128,11 +128,11 @@ module _ {f : List ℕ} {broken : Bool} {lines miscounted unconverted first : �
           differs-told : differ (drop 2 ls) ≡ not (eqb differs 0)
           differs-told = clash-told (drop 2 ls) ∙ ap (λ (n : ℕ). not (eqb n 0)) first-clash
 
-          pub header-told : (v : Verdict) → (differs ≡ 0 → ⊥) → v ≡ wrong HeaderDiffers differs → toldVerdict v ≡ csvCount f
+          pub header-told : (v : FileVerdict) → (differs ≡ 0 → ⊥) → v ≡ wrong HeaderDiffers differs → toldVerdict v ≡ csvCount f
           unfolding csvCount csvTold
           header-told v k e = rw (e, quoted, good-count, good-lines, differs-told, some-line differs k)
 
-          pub header-line : (v : Verdict) → (differs ≡ 0 → ⊥) → v ≡ wrong HeaderDiffers differs → lineOf v ≡ csvSpot f
+          pub header-line : (v : FileVerdict) → (differs ≡ 0 → ⊥) → v ≡ wrong HeaderDiffers differs → lineOf v ≡ csvSpot f
           unfolding csvSpot
           header-line v k e = rw (e, quoted, zero-count, zero-unconverted, first-clash, some-line differs k)
 
@@ -149,11 +149,11 @@ module _ {f : List ℕ} {broken : Bool} {lines miscounted unconverted first : �
             back-is : returns (runs (drop 2 ls)) ≡ not (eqb returned 0)
             back-is = back-told (drop 2 ls) ∙ ap (λ (n : ℕ). not (eqb n 0)) first-back
 
-            pub returns-told : (v : Verdict) → (returned ≡ 0 → ⊥) → v ≡ wrong Returns returned → toldVerdict v ≡ csvCount f
+            pub returns-told : (v : FileVerdict) → (returned ≡ 0 → ⊥) → v ≡ wrong Returns returned → toldVerdict v ≡ csvCount f
             unfolding csvCount csvTold
             returns-told v k e = rw (e, quoted, good-count, good-lines, no-clash, back-is, some-line returned k)
 
-            pub returns-line : (v : Verdict) → (returned ≡ 0 → ⊥) → v ≡ wrong Returns returned → lineOf v ≡ csvSpot f
+            pub returns-line : (v : FileVerdict) → (returned ≡ 0 → ⊥) → v ≡ wrong Returns returned → lineOf v ≡ csvSpot f
             unfolding csvSpot
             returns-line v k e = rw (e, quoted, zero-count, zero-unconverted, first-clash, d, first-back)
 
@@ -162,7 +162,7 @@ module _ {f : List ℕ} {broken : Bool} {lines miscounted unconverted first : �
               unfolding csvCount csvTold
               right-told c e =
                   rw (e, quoted, good-count, good-lines, no-clash, back-is, b)
-                  (ap (λ (k : CsvSheets). gives k) (ap (λ (n : ℕ). sheets n first) (W .runs none-walked ∙ ap (λ (x : List Line). length (runs x)) rows-from) ∙ ap (sheets (length (runs (drop 2 ls)))) (L .rows)))
+                  (ap (λ (k : CsvSheets). gives k) (ap (λ (n : ℕ). sheets n first) (W .runs none-walked ∙ ap (λ (x : List FileLine). length (runs x)) rows-from) ∙ ap (sheets (length (runs (drop 2 ls)))) (L .rows)))
                 where
                   sheets : ℕ → ℕ → CsvSheets
                   sheets n k = record { count = n; first = k }

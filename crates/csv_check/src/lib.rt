@@ -2,7 +2,7 @@
 // whose numbers the table of that walk could not keep.
 use csv_repeats::Repeated;
 use csv_rules::CsvSheets;
-use csv_rules::Fault;
+use csv_rules::FileFault;
 ghost use mathlib.Core.Path.{_≡_};
 ghost use mathlib.Core.Bool.{true, false, cond};
 ghost use lib.Dec.{ltb};
@@ -33,12 +33,6 @@ struct Columns {
     number: usize,
 }
 
-fn is_digit(b: u8) -> bool
-    ensures { λ r. ⌜ r ≡ digit b ⌝ }
-{
-    (48 <= b) & (b <= 57)
-}
-
 // A number with one more digit.
 fn one_more(n: usize, b: u8) -> usize
     requires { ⌜ digit b ≡ true ⌝ }
@@ -58,7 +52,7 @@ fn column_count(raw: &[u8]) -> Columns
     let mut i = 0;
     while i < raw.len() {
         let b = raw[i];
-        if !is_digit(b) {
+        if !bytes::is_digit(b) {
             return Columns {
                 counts: false,
                 number: 0,
@@ -234,46 +228,46 @@ fn look(file: &[u8]) -> Looked
 
 // A fault of the file, and the line where it is met.
 pub struct Blame {
-    pub fault: Fault,
+    pub fault: FileFault,
     pub line: usize,
 }
 
 // What is told of a file: its sheets, or its fault.
-pub enum Verdict {
+pub enum FileVerdict {
     Right(CsvSheets),
     Wrong(Blame),
 }
 
-fn wrong(fault: Fault, line: usize) -> Verdict
-    ensures { λ r. ⌜ r ≡ Verdict.Wrong (record { fault = fault; line = line }) ⌝ }
+fn wrong(fault: FileFault, line: usize) -> FileVerdict
+    ensures { λ r. ⌜ r ≡ FileVerdict.Wrong (record { fault = fault; line = line }) ⌝ }
 {
-    Verdict::Wrong(Blame { fault, line })
+    FileVerdict::Wrong(Blame { fault, line })
 }
 
 // 50 to 54, "in that order, each over the whole file".
-pub fn verdict_on(file: &[u8]) -> Verdict
+pub fn verdict_on(file: &[u8]) -> FileVerdict
     ensures { λ r. ⌜ toldVerdict r ≡ csvCount (now (file .entry)) ⌝ }
     ensures line { λ r. ⌜ lineOf r ≡ csvSpot (now (file .entry)) ⌝ }
 {
     let found = look(file);
     if found.broken {
-        return wrong(Fault::Quoting, found.lines + 1);
+        return wrong(FileFault::Quoting, found.lines + 1);
     }
     if found.miscounted != 0 {
-        return wrong(Fault::Columns, found.miscounted);
+        return wrong(FileFault::Columns, found.miscounted);
     }
     if found.unconverted != 0 {
-        return wrong(Fault::Unconverted, found.unconverted);
+        return wrong(FileFault::Unconverted, found.unconverted);
     }
     let walked = found.repeats;
     let repeats = csv_rounds::settled(file, walked);
     if repeats.differs != 0 {
-        return wrong(Fault::HeaderDiffers, repeats.differs);
+        return wrong(FileFault::HeaderDiffers, repeats.differs);
     }
     if repeats.returns != 0 {
-        return wrong(Fault::Returns, repeats.returns);
+        return wrong(FileFault::Returns, repeats.returns);
     }
-    Verdict::Right(CsvSheets {
+    FileVerdict::Right(CsvSheets {
         count: walked.count,
         first: found.first,
     })

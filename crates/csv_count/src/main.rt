@@ -27,7 +27,7 @@ fn count(text: &[u8]) {
             program::output(&NAME, &line[..n], b"");
         }
         Counted::NotCounted(fault) => {
-            file::refuse(&NAME, b"", text, fault);
+            refusals::tell_file(&NAME, b"", text, fault);
         }
     }
 }

@@ -21,7 +21,7 @@ use Rattle.value.proofs.Laws.{fine-zero, fault-some}
 use Rattle.csv_rules.specs.Written.{halved}
 use Rattle.csv_rules.specs.Columns.{meaningOf, typeOf, sexes, classes, forms}
 use Rattle.csv_rules.proofs.Raw.{spelling, not-number}
-use Rattle.csv_rows.specs.Rows.{stretch, itemAt}
+use Rattle.csv_rows.specs.Rows.{itemBytes, itemAt}
 use Rattle.csv_keys.specs.Keys.{rawOf, KeyIs}
 use Rattle.csv_keys.specs.Ways.{itemIn, codeOf, AsIs, Word}
 use Rattle.csv_keys.proofs.Items.{item-length, all-halved, halved-plain, as-is-key}
@@ -188,10 +188,10 @@ module _ (f spans lead : List ℕ) (start len code n s l : ℕ) (e : code ≡ co
       let z : typeOf (itemAt f spans 34) (itemIn f start len) ≡ 83 ∷ 78 ∷ [] = rw (without, t) in
       rw z (word-key f (83 ∷ 78 ∷ []) lead n s l w)
 
-  module _ (t : (not (eqb len 0) && not (eqb code 66)) ≡ false) (raw : List ℕ) (o : raw ≡ stretch f spans 34) (x : Fault) (q : faultNo x ≡ fault true (ruleOf Number) raw) (u : Bool) (g : u ≡ fineOf x) where
+  module _ (t : (not (eqb len 0) && not (eqb code 66)) ≡ false) (raw : List ℕ) (o : raw ≡ itemBytes f spans 34) (x : Fault) (q : faultNo x ≡ fault true (ruleOf Number) raw) (u : Bool) (g : u ≡ fineOf x) where
     number-is : fits true numeric (itemAt f spans 34) ≡ eqb (faultNo x) 0
     unfolding itemAt ruleOf
-    number-is = number-halved (stretch f spans 34) ∙ ap (fits true numeric) (sym o) ∙ ap (λ (k : ℕ). eqb k 0) (sym q)
+    number-is = number-halved (itemBytes f spans 34) ∙ ap (fits true numeric) (sym o) ∙ ap (λ (k : ℕ). eqb k 0) (sym q)
 
     pub kind-nm : u ≡ true → Word (78 ∷ 77 ∷ []) lead n s l → KeyIs f (typeOf (itemAt f spans 34) (itemIn f start len)) lead n s l
     unfolding typeOf bytes

@@ -13,7 +13,7 @@ use Rattle.rules.proofs.Logic.{cases, never, both}
 use Rattle.rules.proofs.Lists.{here, over}
 use Rattle.csv_rules.specs.Written.{halved}
 use Rattle.csv_keys.specs.Keys.{rawOf}
-use Rattle.csv_keys.specs.Ways.{NextAt, KeyFits, leftOf, StepIs}
+use Rattle.csv_keys.specs.Ways.{NextOrBlank, KeyFits, leftOf, StepIs}
 use Rattle.csv_keys.proofs.Items.{item-length, part-is}
 
 module _ (f lead : List ℕ) (n start len : ℕ) where
@@ -55,10 +55,10 @@ module _ (f lead : List ℕ) (n start len : ℕ) where
       pub step-lead : p < n → StepIs f lead n start len p (getD lead p 0) (p + 1)
       step-lead h = record { low = omega arith; high = omega arith; is = left-lead p h }
 
-      pub step-item : (r : ℕ) → n ≤ p → NextAt (take (start + len - start) (drop start f)) (p - n) r
+      pub step-item : (r : ℕ) → n ≤ p → NextOrBlank (take (start + len - start) (drop start f)) (p - n) r
           → StepIs f lead n start len p (getD (take (start + len - start) (drop start f)) (p - n) 0) (n + r)
       step-item r h x =
-          let y : NextAt (take len (drop start f)) (p - n) r = rw (part-is f start len) at x in
+          let y : NextOrBlank (take len (drop start f)) (p - n) r = rw (part-is f start len) at x in
           let a : n + r - n ≡ r = omega arith in
           record {
             low = omega (arith, y .low);

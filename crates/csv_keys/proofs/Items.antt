@@ -18,7 +18,7 @@ use Rattle.rules.proofs.Split.{split-nil, split-here, split-there, split-cons}
 use Rattle.csv_rules.specs.Written.{halved}
 use Rattle.csv_rules.specs.Columns.{familyOf, givenOf, fifteenOf}
 use Rattle.csv_keys.specs.Keys.{rawOf, KeyIs}
-use Rattle.csv_keys.specs.Ways.{itemIn, blankAt, AsIs, NextAt}
+use Rattle.csv_keys.specs.Ways.{itemIn, blankAt, AsIs, NextOrBlank}
 
 -- ---- a byte
 half-here : (b : ℕ) (s : List ℕ) → eqb b 0x22 ≡ false → halved false (b ∷ s) ≡ b ∷ halved false s
@@ -54,7 +54,7 @@ module _ (s : List ℕ) (i j : ℕ) (h : i < length s) (e : j ≡ i + 1) where
   here-at : drop i s ≡ getD s i 0 ∷ drop j s
   here-at = here 0 s i h ∙ ap (λ (n : ℕ). getD s i 0 ∷ drop n s) (sym e)
 
-  pub next-last : length s ≤ j → NextAt s i j
+  pub next-last : length s ≤ j → NextOrBlank s i j
   unfolding blankAt
   next-last l =
       let o : drop j s ≡ [] = over s j l in
@@ -68,7 +68,7 @@ module _ (s : List ℕ) (i j : ℕ) (h : i < length s) (e : j ≡ i + 1) where
             ∙ rw (o, e);
       }
 
-  pub next-two : j < length s → getD s i 0 ≡ 0x22 → NextAt s i (i + 2)
+  pub next-two : j < length s → getD s i 0 ≡ 0x22 → NextOrBlank s i (i + 2)
   next-two l q =
       let k : j + 1 ≡ i + 2 = omega arith in
       let w : drop i s ≡ getD s i 0 ∷ (getD s j 0 ∷ drop (i + 2) s) = here-at ∙ ap (λ (w : List ℕ). getD s i 0 ∷ w) (here 0 s j l ∙ ap (λ (n : ℕ). getD s j 0 ∷ drop n s) k) in
@@ -81,7 +81,7 @@ module _ (s : List ℕ) (i j : ℕ) (h : i < length s) (e : j ≡ i + 1) where
             ∙ further false i 2 (blankAt false (drop (i + 2) s)) ∙ rw q;
       }
 
-  pub next-one : (getD s i 0 ≡ 0x22 → ⊥) → NextAt s i j
+  pub next-one : (getD s i 0 ≡ 0x22 → ⊥) → NextOrBlank s i j
   next-one q =
       let z = ne-eqb (getD s i 0) 0x22 q in
       record {
@@ -118,7 +118,7 @@ module _ (s : List ℕ) (i : ℕ) (inv : blankAt false s ≡ i + blankAt false (
   unfolding blankAt
   blank-found h e = let z : blankAt false (drop i s) ≡ 0 = ap (blankAt false) (here 0 s i h) ∙ rw e in omega arith
 
-  pub blank-on : (r : ℕ) → (getD s i 0 ≡ 0x20 → ⊥) → NextAt s i r → blankAt false s ≡ r + blankAt false (drop r s)
+  pub blank-on : (r : ℕ) → (getD s i 0 ≡ 0x20 → ⊥) → NextOrBlank s i r → blankAt false s ≡ r + blankAt false (drop r s)
   blank-on r e p = inv ∙ p .blank ∙ rw (ne-eqb (getD s i 0) 0x20 e)
 
   pub blank-none : length s ≤ i → i ≡ blankAt false s

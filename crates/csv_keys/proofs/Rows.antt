@@ -15,9 +15,9 @@ use Rattle.csv_rules.specs.Columns as Columns
 use Rattle.csv_rules.specs.Columns.{familyOf, givenOf, fifteenOf, meaningOf, typeOf, sexes, classes, forms, columns, numberOf}
 use Rattle.csv_rules.specs.Sheets.{sameTexts}
 use Rattle.csv_rules.specs.Raw.{rawBy, rawKeys, rawAgree}
-use Rattle.csv_rows.specs.Rows.{Inside, stretch, itemAt, itemsFrom, rowAt}
+use Rattle.csv_rows.specs.Rows.{Inside, itemBytes, itemAt, itemsFrom, rowAt}
 use Rattle.csv_keys.specs.declared.How.{How}
-use Rattle.csv_keys.specs.declared.How.the-variants.{Text, UpToBlank, PastBlank, Fifteen, Sex, Class, Form, Kind}
+use Rattle.csv_keys.specs.declared.How.the-variants.{Text, UpToBlank, PastBlank, Fifteen, Sex, Class, Form, ValueType}
 use Rattle.csv_keys.specs.Keys.{howOf, rawOf, KeyIs}
 use Rattle.csv_keys.specs.Ways.{itemIn, AsIs, KeyFits, byColumn}
 use Rattle.csv_keys.proofs.Items.{as-is-key}
@@ -40,7 +40,7 @@ inside-at f spans column i low high = i .inside (column - 1) (omega arith)
 -- ---- a column's key
 module _ (f spans lead : List ℕ) (column n s l : ℕ) (low : 1 ≤ column) (high : column ≤ 45) where
   raw-at : nth (rowAt f spans) (column - 1) ≡ itemIn f (getD spans (2 * (column - 1)) 0) (getD spans (2 * (column - 1) + 1) 0)
-  unfolding itemAt stretch
+  unfolding itemAt itemBytes
   raw-at = row-nth f spans (column - 1) (omega arith)
 
   module _ (how : How) where
@@ -81,7 +81,7 @@ module _ (f spans lead : List ℕ) (column n s l : ℕ) (low : 1 ≤ column) (hi
     unfolding rawBy howOf
     form-at e k = rw (e, raw-at) k
 
-    pub kind-at : how ≡ Kind → KeyIs f (typeOf (itemAt f spans 34) (itemIn f (getD spans (2 * (column - 1)) 0) (getD spans (2 * (column - 1) + 1) 0))) lead n s l
+    pub kind-at : how ≡ ValueType → KeyIs f (typeOf (itemAt f spans 34) (itemIn f (getD spans (2 * (column - 1)) 0) (getD spans (2 * (column - 1) + 1) 0))) lead n s l
         → KeyIs f (rawBy (howOf how) (rowAt f spans) column) lead n s l
     unfolding rawBy howOf
     kind-at e k = rw (e, raw-at, row-nth f spans 34 (omega arith)) k
@@ -97,10 +97,10 @@ one-column Fifteen r q column h e = ap fifteenOf e
 one-column Sex r q column h e = ap (meaningOf sexes) e
 one-column Class r q column h e = ap (meaningOf classes) e
 one-column Form r q column h e = ap (meaningOf forms) e
-one-column Kind r q column h e = never (sym h)
+one-column ValueType r q column h e = never (sym h)
 
 module _ (f a b : List ℕ) (how : How) (column : ℕ) where
-  pub same-items : (x y : List ℕ) (t : Bool) → 1 ≤ column → column ≤ 45 → byColumn how ≡ true → x ≡ stretch f a (column - 1) → y ≡ stretch f b (column - 1)
+  pub same-items : (x y : List ℕ) (t : Bool) → 1 ≤ column → column ≤ 45 → byColumn how ≡ true → x ≡ itemBytes f a (column - 1) → y ≡ itemBytes f b (column - 1)
       → t ≡ same x y → t ≡ true
       → true ≡ same (rawBy (howOf how) (rowAt f a) column) (rawBy (howOf how) (rowAt f b) column)
   unfolding itemAt

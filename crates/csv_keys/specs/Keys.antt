@@ -10,7 +10,7 @@ use Rattle.csv_rules.specs.Written.{halved}
 use Rattle.csv_rules.specs.Columns as Columns
 use Rattle.csv_rules.specs.Columns.{sexes, classes, forms}
 use Rattle.csv_keys.specs.declared.How.{How}
-use Rattle.csv_keys.specs.declared.How.the-variants.{Text, UpToBlank, PastBlank, Fifteen, Sex, Class, Form, Kind}
+use Rattle.csv_keys.specs.declared.How.the-variants.{Text, UpToBlank, PastBlank, Fifteen, Sex, Class, Form, ValueType}
 
 -- the table's way that a case of the code's enum stands for
 unfoldable pub howOf : How → Columns.How
@@ -21,7 +21,7 @@ howOf Fifteen = Columns.fifteen
 howOf Sex = Columns.coded sexes
 howOf Class = Columns.coded classes
 howOf Form = Columns.coded forms
-howOf Kind = Columns.typed 35
+howOf ValueType = Columns.typed 35
 
 -- the first n of the bytes lead, then the item that lies in the file f from start on
 unfoldable pub rawOf : List ℕ → List ℕ → ℕ → ℕ → ℕ → List ℕ

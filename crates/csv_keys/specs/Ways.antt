@@ -9,7 +9,7 @@ use Rattle.rules.specs.Lists.{all}
 use Rattle.rules.specs.Shift.{within}
 use Rattle.csv_rules.specs.Written.{halved}
 use Rattle.csv_keys.specs.declared.How.{How}
-use Rattle.csv_keys.specs.declared.How.the-variants.{Text, UpToBlank, PastBlank, Fifteen, Sex, Class, Form, Kind}
+use Rattle.csv_keys.specs.declared.How.the-variants.{Text, UpToBlank, PastBlank, Fifteen, Sex, Class, Form, ValueType}
 
 -- the item whose bytes lie in the file from start on
 abbrev pub itemIn : List ℕ → ℕ → ℕ → List ℕ
@@ -35,7 +35,7 @@ byColumn Fifteen = true
 byColumn Sex = true
 byColumn Class = true
 byColumn Form = true
-byColumn Kind = false
+byColumn ValueType = false
 
 -- a key that is an item as it lies in the file; one that is the word w
 pub record AsIs (from size : ℕ) (lead : List ℕ) (n start len : ℕ) : Type 0 where
@@ -53,7 +53,7 @@ pub record Word (w lead : List ℕ) (n start len : ℕ) : Type 0 where
   pub size-is : len ≡ 0
 
 -- r is the place behind the byte at i
-pub record NextAt (s : List ℕ) (i r : ℕ) : Type 0 where
+pub record NextOrBlank (s : List ℕ) (i r : ℕ) : Type 0 where
   pub low : i < r
   pub high : r ≤ length s
   pub is : halved false (drop i s) ≡ getD s i 0 ∷ halved false (drop r s)

@@ -13,7 +13,7 @@ ghost use Rattle.csv_rules.specs.Columns as Columns;
 ghost use Rattle.csv_rules.specs.Raw.{rawBy, rawAgree};
 ghost use Rattle.csv_rows.specs.Rows.{Inside, rowAt, itemAt};
 ghost use Rattle.csv_keys.specs.Keys.{howOf, rawOf, KeyIs};
-ghost use Rattle.csv_keys.specs.Ways.{blankAt, codeOf, itemIn, AsIs, Word, NextAt, KeyFits, StepIs, byColumn};
+ghost use Rattle.csv_keys.specs.Ways.{blankAt, codeOf, itemIn, AsIs, Word, NextOrBlank, KeyFits, StepIs, byColumn};
 
 // How a column's text becomes a value, as the table of columns has it.
 pub enum How {
@@ -24,7 +24,7 @@ pub enum How {
     Sex,
     Class,
     Form,
-    Kind, // of the value in column 35, where the column is its form
+    ValueType, // of the value in column 35, where the column is its form
 }
 
 // A key's value before it is converted: the first bytes of `lead`, then a stretch of the file.
@@ -53,7 +53,7 @@ fn as_is(start: usize, len: usize) -> KeyAt
 // The place behind a byte of an item as it lies in the file, and behind the second of two quotes.
 fn past_byte(raw: &[u8], i: usize) -> usize
     requires { ⌜ i < length (now raw) ⌝ }
-    ensures { λ r. ⌜ NextAt (now (raw .entry)) i r ⌝ }
+    ensures { λ r. ⌜ NextOrBlank (now (raw .entry)) i r ⌝ }
 {
     let j = i + 1;
     if j >= raw.len() {
@@ -214,7 +214,7 @@ fn form(file: &[u8], start: usize, len: usize) -> KeyAt
 }
 
 // OBX-2: a form other than B makes SN; without one a number is NM, any other value ST. (A text with a quote is no number, doubled or not.)
-fn kind(file: &[u8], spans: &[usize; 90], start: usize, len: usize) -> KeyAt
+fn value_type(file: &[u8], spans: &[usize; 90], start: usize, len: usize) -> KeyAt
     requires { ⌜ Inside (now file) (now spans) × (start + len ≤ length (now file)) ⌝ }
     ensures { λ r. ⌜ KeyIs (now (file .entry)) (typeOf (itemAt (now (file .entry)) (now (spans .entry)) 34) (itemIn (now (file .entry)) start len)) (r .lead) (r .filled) (r .start) (r .len) ⌝ }
 {
@@ -245,7 +245,7 @@ pub fn key(file: &[u8], spans: &[usize; 90], how: How, column: usize) -> KeyAt
         How::Sex => sex(file, start, len),
         How::Class => class(file, start, len),
         How::Form => form(file, start, len),
-        How::Kind => kind(file, spans, start, len),
+        How::ValueType => value_type(file, spans, start, len),
     }
 }
 

@@ -24,9 +24,9 @@ use Rattle.csv_rules.proofs.Raw.{plainCodes, plainHow, value-becomes, agree-raw
 use Rattle.reach.specs.Reach.{Adds}
 use Rattle.reach.proofs.Laws.{adds-then}
 use Rattle.csv_keys.specs.declared.How.{How}
-use Rattle.csv_keys.specs.declared.How.the-variants.{Text, UpToBlank, PastBlank, Fifteen, Sex, Class, Form, Kind}
+use Rattle.csv_keys.specs.declared.How.the-variants.{Text, UpToBlank, PastBlank, Fifteen, Sex, Class, Form, ValueType}
 use Rattle.csv_keys.specs.Keys.{howOf, rawOf, KeyIs}
-use Rattle.csv_lines.specs.Lines.{AddsLines, lineBy, nameLines, groupLines, someLines, headerLines, firstLines, nextLines}
+use Rattle.csv_lines.specs.Lines.{AddsLines, lineBy, familyAndGiven, groupLines, someLines, headerLines, firstLines, nextLines}
 
 -- ---- a value
 not-lead : (b : ℕ) → b ≤ 0x7E → lead b ≡ false
@@ -49,7 +49,7 @@ plain-how Fifteen = refl
 plain-how Sex = refl
 plain-how Class = refl
 plain-how Form = refl
-plain-how Kind = refl
+plain-how ValueType = refl
 
 pub lead-long : (f v lead : List ℕ) (n start len : ℕ) → KeyIs f v lead n start len → n ≡ length (take n lead)
 lead-long f v lead n start len key = part-length n lead (omega (arith, key .size, key .few))
@@ -81,7 +81,7 @@ by-is at a b r n h row x y z w k p q s = line-is at a b r x y z w k (valueBy (ho
 
 -- to name it is to compute the lines of a group from the tables
 unfoldable pub tables : Unit {0}
-unfolding groupLines someLines headerLines lineBy nameLines linesText lines line keyOf keys columns howOf valueBy bytes ended
+unfolding groupLines someLines headerLines lineBy familyAndGiven linesText lines line keyOf keys columns howOf valueBy bytes ended
 tables = tt
 
 pub header-is : (at a b c r : ℕ) (x y z w u i j mode k sent l control : List ℕ)
@@ -99,8 +99,8 @@ module _ (row : Items) (at r : ℕ) (x y : List ℕ) where
   visit-is k p e = rw e at p
 
   module _ (a : ℕ) (z i j : List ℕ) where
-    pub name-is : (n : ℕ) → AddsLines at x (lineBy i UpToBlank row n) a z → AddsLines a z (lineBy j PastBlank row n) r y → AddsLines at x (nameLines i j row n) r y
-    unfolding nameLines
+    pub name-is : (n : ℕ) → AddsLines at x (lineBy i UpToBlank row n) a z → AddsLines a z (lineBy j PastBlank row n) r y → AddsLines at x (familyAndGiven i j row n) r y
+    unfolding familyAndGiven
     name-is n p q = lines-then p q
 
     pub birth-is : AddsLines at x (lineBy i Text row 11) a z → AddsLines a z (lineBy j Sex row 12) r y → i ≡ bytes "birth=" → j ≡ bytes "sex="
@@ -119,7 +119,7 @@ module _ (row : Items) (at r : ℕ) (x y : List ℕ) where
     order-is p q ei ej = rw (ei, ej) at (lines-then p q)
 
     module _ (b : ℕ) (w k : List ℕ) where
-      pub item-is : AddsLines at x (lineBy i Text row 31) a z → AddsLines a z (lineBy j Text row 29) b w → AddsLines b w (lineBy k Kind row 36) r y
+      pub item-is : AddsLines at x (lineBy i Text row 31) a z → AddsLines a z (lineBy j Text row 29) b w → AddsLines b w (lineBy k ValueType row 36) r y
           → i ≡ bytes "item=" → j ≡ bytes "name=" → k ≡ bytes "type=" → AddsLines at x (someLines Obx 0 3 row) r y
       unfolding tables
       item-is p q s ei ej ek = rw (ei, ej, ek) at (lines-then p (lines-then q s))
@@ -138,7 +138,7 @@ module _ (row : Items) (at r : ℕ) (x y : List ℕ) where
       status-is p q s ei ej ek = rw (ei, ej, ek) at (lines-then p (lines-then q s))
 
   pub patient-is : (a b c : ℕ) (z w u i j k l m : List ℕ)
-      → AddsLines at x (lineBy i Text row 8) a z → AddsLines a z (nameLines j k row 9) b w → AddsLines b w (nameLines l m row 10) c u → AddsLines c u (someLines Pid 5 2 row) r y
+      → AddsLines at x (lineBy i Text row 8) a z → AddsLines a z (familyAndGiven j k row 9) b w → AddsLines b w (familyAndGiven l m row 10) c u → AddsLines c u (someLines Pid 5 2 row) r y
       → i ≡ bytes "patient=" → j ≡ bytes "family=" → k ≡ bytes "given=" → l ≡ bytes "kanafamily=" → m ≡ bytes "kanagiven="
       → AddsLines at x (groupLines Pid row) r y
   unfolding tables

@@ -6,19 +6,19 @@ use Rattle.rules.specs.declared.Name.the-variants.{Pid, Pv1, Spm, Obr, Obx}
 use Rattle.rules.specs.Row.{rowOf, values}
 use Rattle.rules.specs.Sheet.{rowLines}
 use Rattle.rules.proofs.Logic.{cases}
-use Rattle.csv_rules.specs.Quote.{Items, Line}
+use Rattle.csv_rules.specs.Quote.{Items, FileLine}
 use Rattle.csv_rules.specs.Columns.{keys}
-use Rattle.csv_rules.specs.Sheets.{agree, Run, Given, below, rowsOf}
+use Rattle.csv_rules.specs.Sheets.{agree, Run, Given, below, sheetRows}
 use Rattle.csv_lines.specs.Lines.{headerLines, firstLines, nextLines, groupLines}
 use Rattle.csv_lines.proofs.Groups.{tables}
 
 -- ---- the lines of a run
 pub rows-are : (g : Given) (u : Run)
-    → rowLines (rowsOf g u) ≡ headerLines (g .mode) (g .sent) (g .control) ++ (firstLines (u .row .items) ++ rowLines (below (u .row .items) (u .others)))
-unfolding tables rowLines rowsOf rowOf values firstLines
+    → rowLines (sheetRows g u) ≡ headerLines (g .mode) (g .sent) (g .control) ++ (firstLines (u .row .items) ++ rowLines (below (u .row .items) (u .others)))
+unfolding tables rowLines sheetRows rowOf values firstLines
 rows-are g u = refl
 
-pub next-are : (q : Items) (r : Line) (rs : List Line) → rowLines (below q (r ∷ rs)) ≡ nextLines q (r .items) ++ rowLines (below (r .items) rs)
+pub next-are : (q : Items) (r : FileLine) (rs : List FileLine) → rowLines (below q (r ∷ rs)) ≡ nextLines q (r .items) ++ rowLines (below (r .items) rs)
 unfolding tables rowLines below rowOf values nextLines
 next-are q r rs =
     cases (agree Spm q (r .items))

@@ -24,8 +24,8 @@ pub record AddsLines (at : ℕ) (x : List ℕ) (ls : List (List ℕ)) (r : ℕ) 
 unfoldable pub lineBy : List ℕ → How → Items → ℕ → List (List ℕ)
 lineBy key how row n = (key ++ valueBy (howOf how) row n) ∷ []
 
-unfoldable pub nameLines : List ℕ → List ℕ → Items → ℕ → List (List ℕ)
-nameLines family given row n = lineBy family UpToBlank row n ++ lineBy given PastBlank row n
+unfoldable pub familyAndGiven : List ℕ → List ℕ → Items → ℕ → List (List ℕ)
+familyAndGiven family given row n = lineBy family UpToBlank row n ++ lineBy given PastBlank row n
 
 -- the lines of a group of a row; n of them from the k-th on, from 0
 unfoldable pub groupLines : Name → Items → List (List ℕ)

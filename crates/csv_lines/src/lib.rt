@@ -12,7 +12,7 @@ ghost use Rattle.csv_rules.specs.Columns.{valueBy};
 ghost use Rattle.reach.specs.Reach.{Adds};
 ghost use Rattle.csv_rows.specs.Rows.{Inside, rowAt};
 ghost use Rattle.csv_keys.specs.Keys.{howOf};
-ghost use Rattle.csv_lines.specs.Lines.{AddsLines, lineBy, nameLines, groupLines, someLines, headerLines, firstLines, nextLines};
+ghost use Rattle.csv_lines.specs.Lines.{AddsLines, lineBy, familyAndGiven, groupLines, someLines, headerLines, firstLines, nextLines};
 
 // ---- a line
 
@@ -99,7 +99,7 @@ fn name<'a>(
     column: usize,
 ) -> usize
     requires { ⌜ (at ≤ length (now out)) × Inside (now file) (now spans) × (all convertible (rowAt (now file) (now spans)) ≡ true) × (1 ≤ column) × (column ≤ 45) ⌝ }
-    ensures { λ r. ⌜ AddsLines at (now (out .entry)) (nameLines (now (family .entry)) (now (given .entry)) (rowAt (now (file .entry)) (now (spans .entry))) column) r (now (out .exit)) ⌝ }
+    ensures { λ r. ⌜ AddsLines at (now (out .entry)) (familyAndGiven (now (family .entry)) (now (given .entry)) (rowAt (now (file .entry)) (now (spans .entry))) column) r (now (out .exit)) ⌝ }
 {
     let at = line(out, at, family, file, spans, How::UpToBlank, column);
     line(out, at, given, file, spans, How::PastBlank, column)
@@ -153,7 +153,7 @@ fn item(out: &mut [u8], at: usize, file: &[u8], spans: &[usize; 90]) -> usize
 {
     let at = line(out, at, b"item=", file, spans, How::Text, 31);
     let at = line(out, at, b"name=", file, spans, How::Text, 29);
-    line(out, at, b"type=", file, spans, How::Kind, 36)
+    line(out, at, b"type=", file, spans, How::ValueType, 36)
 }
 
 // compare and value; join and second are blank.

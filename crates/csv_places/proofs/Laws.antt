@@ -15,12 +15,12 @@ use Rattle.rules.proofs.Lists.{here, over, any-nil, same-eq}
 use Rattle.csv_rules.specs.Quote.{Items}
 use Rattle.csv_rules.specs.Written.{halved}
 use Rattle.csv_rules.specs.Columns.{numberOf}
-use Rattle.csv_rows.specs.Rows.{itemAt, itemsFrom, stretch, rowAt, RowIs}
+use Rattle.csv_rows.specs.Rows.{itemAt, itemsFrom, itemBytes, rowAt, RowIs}
 use Rattle.csv_rows.proofs.Laws.{row-lines, row-broken, rows-end}
 use Rattle.csv_rows.proofs.Tied.{tied-number}
 use Rattle.csv_places.specs.declared.Slot.{Slot}
 use Rattle.csv_places.specs.declared.Slot.the-variants.{Held, Free, Crowded}
-use Rattle.csv_places.specs.Places.{itemsAt, stirred, hashFrom, hashOf, placeIn, markIn, filled, slotOf, slotAfter, kept, numberAt, known, RowThere, Places, SlotIs, keeps, withPlace}
+use Rattle.csv_places.specs.Places.{itemsAt, stirred, hashFrom, hashOf, placeIn, markIn, slotFilled, slotOf, slotAfter, kept, numberAt, knownNumber, RowThere, Places, SlotIs, keepsPlace, withPlace}
 use Rattle.csv_places.specs.Slots.{Nothing, freeSlot}
 
 -- ---- the hash of an item as it lies in the file
@@ -66,23 +66,23 @@ slot-below i h n = omega arith
 
 -- ---- a slot filled
 module _ (T : List ℕ) (s p m : ℕ) where
-  pub filled-many : length (filled T s p m) ≡ length T
-  unfolding filled
+  pub filled-many : length (slotFilled T s p m) ≡ length T
+  unfolding slotFilled
   filled-many = simp length-set
 
-  pub filled-other : (i : ℕ) → (i ≡ s → ⊥) → (placeIn (filled T s p m) i ≡ placeIn T i) × (markIn (filled T s p m) i ≡ markIn T i)
-  unfolding filled
+  pub filled-other : (i : ℕ) → (i ≡ s → ⊥) → (placeIn (slotFilled T s p m) i ≡ placeIn T i) × (markIn (slotFilled T s p m) i ≡ markIn T i)
+  unfolding slotFilled
   filled-other i h = (
     getD-set-other (set T (2 * s) p) (2 * s + 1) (2 * i) m 0 (λ e. omega arith) ∙ getD-set-other T (2 * s) (2 * i) p 0 (λ e. h (omega arith)),
     getD-set-other (set T (2 * s) p) (2 * s + 1) (2 * i + 1) m 0 (λ e. h (omega arith)) ∙ getD-set-other T (2 * s) (2 * i + 1) p 0 (λ e. omega arith),
   )
 
-  pub filled-place : 2 * s < length T → placeIn (filled T s p m) s ≡ p
-  unfolding filled
+  pub filled-place : 2 * s < length T → placeIn (slotFilled T s p m) s ≡ p
+  unfolding slotFilled
   filled-place h = getD-set-other (set T (2 * s) p) (2 * s + 1) (2 * s) m 0 (λ e. omega arith) ∙ getD-set-same T (2 * s) p 0 h
 
-  pub filled-mark : 2 * s + 1 < length T → markIn (filled T s p m) s ≡ m
-  unfolding filled
+  pub filled-mark : 2 * s + 1 < length T → markIn (slotFilled T s p m) s ≡ m
+  unfolding slotFilled
   filled-mark h = getD-set-same (set T (2 * s) p) (2 * s + 1) m 0 (simp length-set h)
 
 -- ---- the places kept from a slot on
@@ -110,15 +110,15 @@ any-past t x s h = rw (h, any)
 
 -- what is met among them is met when a free slot is filled
 module _ (t : ℕ → Bool) (T : List ℕ) (s p m : ℕ) (free : placeIn T s ≡ 0) where
-  entry-stays : (i : ℕ) → (placeIn T i ≡ 0 → ⊥) → placeIn (filled T s p m) i ≡ placeIn T i
+  entry-stays : (i : ℕ) → (placeIn T i ≡ 0 → ⊥) → placeIn (slotFilled T s p m) i ≡ placeIn T i
   entry-stays i h = filled-other T s p m i (λ e. h (ap (placeIn T) e ∙ free)) .0
 
-  more-stays : (i n : ℕ) → (placeIn T i ≡ 0 → ⊥) → kept (filled T s p m) i (suc n) ≡ placeIn T i ∷ kept (filled T s p m) (slotAfter i) n
+  more-stays : (i n : ℕ) → (placeIn T i ≡ 0 → ⊥) → kept (slotFilled T s p m) i (suc n) ≡ placeIn T i ∷ kept (slotFilled T s p m) (slotAfter i) n
   more-stays i n h =
       let e = entry-stays i h in
-      kept-more (filled T s p m) i n (λ z. h (sym e ∙ z)) ∙ ap (λ (x : ℕ). x ∷ kept (filled T s p m) (slotAfter i) n) e
+      kept-more (slotFilled T s p m) i n (λ z. h (sym e ∙ z)) ∙ ap (λ (x : ℕ). x ∷ kept (slotFilled T s p m) (slotAfter i) n) e
 
-  kept-stays : (i n : ℕ) → any t (kept T i n) ≡ true → any t (kept (filled T s p m) i n) ≡ true
+  kept-stays : (i n : ℕ) → any t (kept T i n) ≡ true → any t (kept (slotFilled T s p m) i n) ≡ true
   unfolding kept
   kept-stays i zero h = h
   kept-stays i (suc n) h =
@@ -128,18 +128,18 @@ module _ (t : ℕ → Bool) (T : List ℕ) (s p m : ℕ) (free : placeIn T s ≡
       let k = eqb-false (placeIn T i) 0 e in
       ap (any t) (more-stays i n k)
       ∙ cases (t (placeIn T i))
-      (λ w. any-here t (placeIn T i) (kept (filled T s p m) (slotAfter i) n) w)
+      (λ w. any-here t (placeIn T i) (kept (slotFilled T s p m) (slotAfter i) n) w)
       (λ w.
-      any-there t (placeIn T i) (kept (filled T s p m) (slotAfter i) n)
+      any-there t (placeIn T i) (kept (slotFilled T s p m) (slotAfter i) n)
       (kept-stays (slotAfter i) n (sym (any-past t (placeIn T i) (kept T (slotAfter i) n) w) ∙ sym (ap (any t) (kept-more T i n k)) ∙ h))))
 
 -- ---- what is known
-pub known-stays : (f places : List ℕ) (r : Items) (i p mark : ℕ) → placeIn places i ≡ 0 → known f places r ≡ true → known f (filled places i p mark) r ≡ true
-unfolding known
+pub known-stays : (f places : List ℕ) (r : Items) (i p mark : ℕ) → placeIn places i ≡ 0 → knownNumber f places r ≡ true → knownNumber f (slotFilled places i p mark) r ≡ true
+unfolding knownNumber
 known-stays f places r i p mark free h = kept-stays (numberAt f r) places i p mark free (slotOf (numberOf r)) 256 h
 
-pub known-same : (f places : List ℕ) (r q : Items) → numberOf r ≡ numberOf q → known f places r ≡ known f places q
-unfolding known
+pub known-same : (f places : List ℕ) (r q : Items) → numberOf r ≡ numberOf q → knownNumber f places r ≡ knownNumber f places q
+unfolding knownNumber
 known-same f places r q e = ap (λ (n : List ℕ). any (λ (p : ℕ). same n (numberOf (itemsAt f p))) (kept places (slotOf n) 256)) e
 
 -- ---- rows at places
@@ -183,13 +183,13 @@ mark-other f r p mark hash e k h =
 -- ---- the look from slot to slot
 -- left slots are to be looked at; in those before stands no place with the number, and a place put in a free slot from here on is found
 pub record Looking (f T : List ℕ) (r : Items) (slot left : ℕ) : Type 0 where
-  pub same : known f T r ≡ any (numberAt f r) (kept T slot left)
-  pub then : (i p mark : ℕ) → placeIn T i ≡ 0 → any (numberAt f r) (kept (filled T i p mark) slot left) ≡ true → known f (filled T i p mark) r ≡ true
+  pub same : knownNumber f T r ≡ any (numberAt f r) (kept T slot left)
+  pub then : (i p mark : ℕ) → placeIn T i ≡ 0 → any (numberAt f r) (kept (slotFilled T i p mark) slot left) ≡ true → knownNumber f (slotFilled T i p mark) r ≡ true
   pub few : left ≤ 256
   pub first : left ≡ 256 → slot ≡ slotOf (numberOf r)
   pub taken : left < 256 → placeIn T (slotOf (numberOf r)) ≡ 0 → ⊥
 
-pub hash-here : (f spans raw : List ℕ) (h : ℕ) → raw ≡ stretch f spans 6 → h ≡ hashOf (halved false raw) → h ≡ hashOf (numberOf (rowAt f spans))
+pub hash-here : (f spans raw : List ℕ) (h : ℕ) → raw ≡ itemBytes f spans 6 → h ≡ hashOf (halved false raw) → h ≡ hashOf (numberOf (rowAt f spans))
 unfolding numberOf rowAt itemsFrom itemAt
 hash-here f spans raw h e k = k ∙ ap (λ (x : List ℕ). hashOf (halved false x)) e
 
@@ -197,7 +197,7 @@ pub slot-small : (h : ℕ) → h % 32768 < 32768
 slot-small h = mod-lt h (omega arith)
 
 pub look-starts : (f T : List ℕ) (r : Items) (h : ℕ) → h ≡ hashOf (numberOf r) → Looking f T r (h % 32768) 256
-unfolding known slotOf
+unfolding knownNumber slotOf
 look-starts f T r h e =
     let q : h % 32768 ≡ slotOf (numberOf r) = ap (λ (n : ℕ). n % 32768) e in
     record { same = rw q; then = λ i p m z a. rw q at a; few = omega arith; first = λ z. q; taken = λ z. absurd (omega arith) }
@@ -227,18 +227,18 @@ module _ (f T : List ℕ) (r : Items) (slot left : ℕ) (L : Looking f T r slot 
           is = e;
           unknown = L .same ∙ ap (any (numberAt f r)) (kept-free T slot left e) ∙ any-nil (numberAt f r);
           then = λ q m n w.
-              let g : placeIn (filled T slot q m) slot ≡ q = filled-place T slot q m (omega (arith, P .many)) in
+              let g : placeIn (slotFilled T slot q m) slot ≡ q = filled-place T slot q m (omega (arith, P .many)) in
               L .then slot q m e
-              (ap (λ (k : ℕ). any (numberAt f r) (kept (filled T slot q m) slot k)) (left-more left h)
-              ∙ ap (any (numberAt f r)) (kept-more (filled T slot q m) slot (left - 1) (λ z. n (sym g ∙ z)))
-              ∙ any-here (numberAt f r) (placeIn (filled T slot q m) slot) (kept (filled T slot q m) (slotAfter slot) (left - 1)) (ap (numberAt f r) g ∙ w));
+              (ap (λ (k : ℕ). any (numberAt f r) (kept (slotFilled T slot q m) slot k)) (left-more left h)
+              ∙ ap (any (numberAt f r)) (kept-more (slotFilled T slot q m) slot (left - 1) (λ z. n (sym g ∙ z)))
+              ∙ any-here (numberAt f r) (placeIn (slotFilled T slot q m) slot) (kept (slotFilled T slot q m) (slotAfter slot) (left - 1)) (ap (numberAt f r) g ∙ w));
         }
 
     module _ (some : p ≡ 0 → ⊥) where
       taken-here : placeIn T slot ≡ 0 → ⊥
       taken-here z = some (is ∙ z)
 
-      look-one : known f T r ≡ any (numberAt f r) (p ∷ kept T (slotAfter slot) (left - 1))
+      look-one : knownNumber f T r ≡ any (numberAt f r) (p ∷ kept T (slotAfter slot) (left - 1))
       look-one =
           L .same ∙ ap (λ (m : ℕ). any (numberAt f r) (kept T slot m)) (left-more left h)
           ∙ ap (any (numberAt f r)) (kept-more T slot (left - 1) taken-here ∙ ap (λ (x : ℕ). x ∷ kept T (slotAfter slot) (left - 1)) (sym is))
@@ -259,9 +259,9 @@ module _ (f T : List ℕ) (r : Items) (slot left : ℕ) (L : Looking f T r slot 
           same = look-one ∙ any-past (numberAt f r) p (kept T (slotAfter slot) (left - 1)) (sym e ∙ w) ∙ rw q;
           then = λ i x m z a.
               L .then i x m z
-              (ap (λ (n : ℕ). any (numberAt f r) (kept (filled T i x m) slot n)) (left-more left h)
+              (ap (λ (n : ℕ). any (numberAt f r) (kept (slotFilled T i x m) slot n)) (left-more left h)
               ∙ ap (any (numberAt f r)) (more-stays (numberAt f r) T i x m z slot (left - 1) taken-here)
-              ∙ any-there (numberAt f r) (placeIn T slot) (kept (filled T i x m) (slotAfter slot) (left - 1)) (rw q at a));
+              ∙ any-there (numberAt f r) (placeIn T slot) (kept (slotFilled T i x m) (slotAfter slot) (left - 1)) (rw q at a));
           few = omega (arith, L .few);
           first = λ z. absurd (omega (arith, L .few));
           taken = λ z. cases (eqb left 256) (λ y. rw (← L .first (eqb-true left 256 y)) taken-here) (λ y. L .taken (omega (arith, L .few, eqb-false left 256 y)));
@@ -280,15 +280,15 @@ module _ (s : Slot) (i : ℕ) (e : s ≡ Free i) where
   free-inside h = rw e at h
 
   module _ (at : ℕ) where
-    pub kept-low : at < 4294967296 → true ≡ keeps s at
-    unfolding keeps
+    pub kept-low : at < 4294967296 → true ≡ keepsPlace s at
+    unfolding keepsPlace
     kept-low h = rw (e, lt-ltb at 4294967296 h)
 
-    pub kept-high : 4294967296 ≤ at → false ≡ keeps s at
-    unfolding keeps
+    pub kept-high : 4294967296 ≤ at → false ≡ keepsPlace s at
+    unfolding keepsPlace
     kept-high h = rw (e, le-ltb at 4294967296 h)
 
-    pub with-low : (places after : List ℕ) (hash : ℕ) → at < 4294967296 → after ≡ filled places i at hash → after ≡ withPlace places s at hash
+    pub with-low : (places after : List ℕ) (hash : ℕ) → at < 4294967296 → after ≡ slotFilled places i at hash → after ≡ withPlace places s at hash
     unfolding withPlace
     with-low places after hash h q = q ∙ rw (e, lt-ltb at 4294967296 h)
 

@@ -7,7 +7,7 @@ use Prim.Native.Nat.{ℕ, zero, suc, _+_, _*_, _%_, _<_}
 use lib.Dec.{eqb, ltb}
 use lib.ListN.{length, getD, set}
 use Rattle.rules.specs.Lists.{same, any}
-use Rattle.csv_rules.specs.Quote.{Items, Line}
+use Rattle.csv_rules.specs.Quote.{Items, FileLine}
 use Rattle.csv_rules.specs.Columns.{numberOf}
 use Rattle.csv_rows.specs.Rows.{linesFrom}
 use Rattle.csv_places.specs.declared.Slot.{Slot}
@@ -35,8 +35,8 @@ placeIn places i = getD places (2 * i) 0
 abbrev pub markIn : List ℕ → ℕ → ℕ
 markIn places i = getD places (2 * i + 1) 0
 
-unfoldable pub filled : List ℕ → ℕ → ℕ → ℕ → List ℕ
-filled places i p mark = set (set places (2 * i) p) (2 * i + 1) mark
+unfoldable pub slotFilled : List ℕ → ℕ → ℕ → ℕ → List ℕ
+slotFilled places i p mark = set (set places (2 * i) p) (2 * i + 1) mark
 
 -- the first slot of a number, and the one behind a slot
 unfoldable pub slotOf : List ℕ → ℕ
@@ -55,13 +55,13 @@ abbrev pub numberAt : List ℕ → Items → ℕ → Bool
 numberAt f r p = same (numberOf r) (numberOf (itemsAt f p))
 
 -- the number of r is known
-unfoldable pub known : List ℕ → List ℕ → Items → Bool
-known f places r = any (numberAt f r) (kept places (slotOf (numberOf r)) 256)
+unfoldable pub knownNumber : List ℕ → List ℕ → Items → Bool
+knownNumber f places r = any (numberAt f r) (kept places (slotOf (numberOf r)) 256)
 
 -- a row begins at each place that is kept, and the mark beside it is the hash of its number
 pub record RowThere (f : List ℕ) (p : ℕ) : Type 0 where
-  pub row : Line
-  pub others : List Line
+  pub row : FileLine
+  pub others : List FileLine
   pub is : linesFrom f p ≡ row ∷ others
 
 pub record Places (f places : List ℕ) : Type 0 where
@@ -76,18 +76,18 @@ pub record HeldAt (f places : List ℕ) (r : Items) (p : ℕ) : Type 0 where
   pub is : placeIn places slot ≡ p
   pub some : p ≡ 0 → ⊥
   pub number : numberAt f r p ≡ true
-  pub knows : known f places r ≡ true
+  pub knows : knownNumber f places r ≡ true
 
 -- i is free, and a place that is put there makes the number known
 pub record FreeAt (f places : List ℕ) (r : Items) (i : ℕ) : Type 0 where
   pub place : i < 32768
   pub is : placeIn places i ≡ 0
-  pub unknown : known f places r ≡ false
-  pub then : (p mark : ℕ) → (p ≡ 0 → ⊥) → numberAt f r p ≡ true → known f (filled places i p mark) r ≡ true
+  pub unknown : knownNumber f places r ≡ false
+  pub then : (p mark : ℕ) → (p ≡ 0 → ⊥) → numberAt f r p ≡ true → knownNumber f (slotFilled places i p mark) r ≡ true
 
 -- nothing, and the first slot that it may have is taken
 pub record CrowdedAt (f places : List ℕ) (r : Items) : Type 0 where
-  pub unknown : known f places r ≡ false
+  pub unknown : knownNumber f places r ≡ false
   pub taken : placeIn places (slotOf (numberOf r)) ≡ 0 → ⊥
 
 unfoldable pub SlotIs : List ℕ → List ℕ → Items → Slot → Type 0
@@ -96,12 +96,12 @@ SlotIs f places r (Free i) = FreeAt f places r i
 SlotIs f places r Crowded = CrowdedAt f places r
 
 -- ---- a place kept, with the hash of its number: whether it is, and the table then. Places are kept below 4,294,967,296.
-unfoldable pub keeps : Slot → ℕ → Bool
-keeps (Held p) at = true
-keeps (Free i) at = ltb at 4294967296
-keeps Crowded at = false
+unfoldable pub keepsPlace : Slot → ℕ → Bool
+keepsPlace (Held p) at = true
+keepsPlace (Free i) at = ltb at 4294967296
+keepsPlace Crowded at = false
 
 unfoldable pub withPlace : List ℕ → Slot → ℕ → ℕ → List ℕ
 withPlace places (Held p) at hash = places
-withPlace places (Free i) at hash = cond (ltb at 4294967296) (filled places i at hash) places
+withPlace places (Free i) at hash = cond (ltb at 4294967296) (slotFilled places i at hash) places
 withPlace places Crowded at hash = places

@@ -7,7 +7,7 @@ ghost use lib.ListN.{length};
 ghost use Rattle.csv_rules.specs.Written.{halved};
 ghost use Rattle.csv_rules.specs.Columns.{numberOf};
 ghost use Rattle.csv_rows.specs.Rows.{Inside, rowAt};
-ghost use Rattle.csv_places.specs.Places.{itemsAt, stirred, hashOf, filled, slotAfter, numberAt, RowThere, Places, SlotIs, keeps, withPlace};
+ghost use Rattle.csv_places.specs.Places.{itemsAt, stirred, hashOf, slotFilled, slotAfter, numberAt, RowThere, Places, SlotIs, keepsPlace, withPlace};
 ghost use Rattle.csv_places.specs.Slots.{Nothing, freeSlot};
 
 // What is kept of a number.
@@ -136,7 +136,7 @@ pub fn look_up(file: &[u8], places: &[u32; 65536], spans: &[usize; 90], hash: us
 // Fills a slot.
 fn put(places: &mut [u32; 65536], i: usize, at: usize, hash: usize)
     requires { ⌜ (i < 32768) × (at < 4294967296) × (hash < 4294967296) ⌝ }
-    ensures { λ r. ⌜ now (places .exit) ≡ filled (now (places .entry)) i at hash ⌝ }
+    ensures { λ r. ⌜ now (places .exit) ≡ slotFilled (now (places .entry)) i at hash ⌝ }
 {
     places[2 * i] = at as u32;
     places[2 * i + 1] = hash as u32;
@@ -145,7 +145,7 @@ fn put(places: &mut [u32; 65536], i: usize, at: usize, hash: usize)
 // Keeps a place for a number, whose hash is given, where a slot is free; tells whether the number is known then.
 pub fn keep(places: &mut [u32; 65536], slot: Slot, at: usize, hash: usize) -> bool
     requires { ⌜ (freeSlot slot < 32768) × (hash < 4294967296) ⌝ }
-    ensures { λ r. ⌜ r ≡ keeps slot at ⌝ }
+    ensures { λ r. ⌜ r ≡ keepsPlace slot at ⌝ }
     ensures kept { λ r. ⌜ now (places .exit) ≡ withPlace (now (places .entry)) slot at hash ⌝ }
 {
     match slot {

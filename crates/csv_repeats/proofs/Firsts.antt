@@ -9,18 +9,18 @@ use borrow.Author.Tests.{eqb-true, eqb-false, ne-eqb, ltb-true, ltb-false, lt-lt
 use lib.Dec.{eqb, ltb}
 use lib.ListN.{length}
 use Rattle.rules.proofs.Logic.{cases}
-use Rattle.csv_rules.specs.Quote.{Line}
+use Rattle.csv_rules.specs.Quote.{FileLine}
 use Rattle.csv_rules.specs.Spot.{firstAfter}
-use Rattle.csv_repeats.specs.Rounds.{least}
+use Rattle.csv_repeats.specs.Rounds.{firstLine}
 use Rattle.csv_repeats.proofs.Seen.{back}
 
 -- ---- the first of two lines
-pub least-none : (a : ℕ) → least a 0 ≡ a
-unfolding least
+pub least-none : (a : ℕ) → firstLine a 0 ≡ a
+unfolding firstLine
 least-none a = cases (eqb a 0) (λ e. rw e (sym (eqb-true a 0 e))) (λ e. rw e)
 
-pub least-zero : (a b : ℕ) → least a b ≡ 0 → (a ≡ 0) × (b ≡ 0)
-unfolding least
+pub least-zero : (a b : ℕ) → firstLine a b ≡ 0 → (a ≡ 0) × (b ≡ 0)
+unfolding firstLine
 least-zero a b h =
     cases (eqb a 0) (λ q. (eqb-true a 0 q, rw q at h))
     (λ q.
@@ -29,56 +29,56 @@ least-zero a b h =
     (λ y. eqb-false a 0 q (rw (q, y) at h))
     (λ y. cases (ltb b a) (λ w. eqb-false b 0 y (rw (q, y, w) at h)) (λ w. eqb-false a 0 q (rw (q, y, w) at h)))))
 
-pub least-early : (a b : ℕ) → 0 < a → ((b ≡ 0 → ⊥) → a ≤ b) → least a b ≡ a
-unfolding least
+pub least-early : (a b : ℕ) → 0 < a → ((b ≡ 0 → ⊥) → a ≤ b) → firstLine a b ≡ a
+unfolding firstLine
 least-early a b h k =
     rw (ne-eqb a 0 (λ z. omega arith))
     (cases (eqb b 0) (λ e. rw e) (λ e. rw (e, le-ltb b a (k (eqb-false b 0 e)))))
 
-pub least-late : (a b : ℕ) → 0 < b → b < a → least a b ≡ b
-unfolding least
+pub least-late : (a b : ℕ) → 0 < b → b < a → firstLine a b ≡ b
+unfolding firstLine
 least-late a b h k = rw (ne-eqb a 0 (λ z. omega arith), ne-eqb b 0 (λ z. omega arith), lt-ltb b a k)
 
-some-three : (a b c : ℕ) → 0 < a → 0 < b → 0 < c → least a (least b c) ≡ least (least a b) c
+some-three : (a b c : ℕ) → 0 < a → 0 < b → 0 < c → firstLine a (firstLine b c) ≡ firstLine (firstLine a b) c
 some-three a b c x y z =
     cases (ltb c b)
     (λ q.
     let k = ltb-true c b q in
-    ap (least a) (least-late b c z k)
+    ap (firstLine a) (least-late b c z k)
     ∙ cases (ltb b a)
-    (λ p. let l = ltb-true b a p in least-late a c z (omega arith) ∙ sym (ap (λ (n : ℕ). least n c) (least-late a b y l) ∙ least-late b c z k))
-    (λ p. sym (ap (λ (n : ℕ). least n c) (least-early a b x (λ h. ltb-false b a p)))))
+    (λ p. let l = ltb-true b a p in least-late a c z (omega arith) ∙ sym (ap (λ (n : ℕ). firstLine n c) (least-late a b y l) ∙ least-late b c z k))
+    (λ p. sym (ap (λ (n : ℕ). firstLine n c) (least-early a b x (λ h. ltb-false b a p)))))
     (λ q.
     let k = ltb-false c b q in
-    ap (least a) (least-early b c y (λ h. k))
+    ap (firstLine a) (least-early b c y (λ h. k))
     ∙ cases (ltb b a)
-    (λ p. let l = ltb-true b a p in least-late a b y l ∙ sym (ap (λ (n : ℕ). least n c) (least-late a b y l) ∙ least-early b c y (λ h. k)))
+    (λ p. let l = ltb-true b a p in least-late a b y l ∙ sym (ap (λ (n : ℕ). firstLine n c) (least-late a b y l) ∙ least-early b c y (λ h. k)))
     (λ p.
     let l = ltb-false b a p in
     let e = least-early a b x (λ h. l) in
-    e ∙ sym (ap (λ (n : ℕ). least n c) e ∙ least-early a c x (λ h. omega arith))))
+    e ∙ sym (ap (λ (n : ℕ). firstLine n c) e ∙ least-early a c x (λ h. omega arith))))
 
-none-first : (b : ℕ) → least 0 b ≡ b
-unfolding least
+none-first : (b : ℕ) → firstLine 0 b ≡ b
+unfolding firstLine
 none-first b = refl
 
 above : (a : ℕ) → eqb a 0 ≡ false → 0 < a
 above a e = let h = eqb-false a 0 e in omega arith
 
-pub least-over : (a b c : ℕ) → least a (least b c) ≡ least (least a b) c
+pub least-over : (a b c : ℕ) → firstLine a (firstLine b c) ≡ firstLine (firstLine a b) c
 least-over a b c =
     cases (eqb a 0)
-    (λ x. rw (eqb-true a 0 x) (none-first (least b c) ∙ sym (ap (λ (n : ℕ). least n c) (none-first b))))
+    (λ x. rw (eqb-true a 0 x) (none-first (firstLine b c) ∙ sym (ap (λ (n : ℕ). firstLine n c) (none-first b))))
     (λ x.
     cases (eqb b 0)
-    (λ y. rw (eqb-true b 0 y) (ap (least a) (none-first c) ∙ sym (ap (λ (n : ℕ). least n c) (least-none a))))
+    (λ y. rw (eqb-true b 0 y) (ap (firstLine a) (none-first c) ∙ sym (ap (λ (n : ℕ). firstLine n c) (least-none a))))
     (λ y.
     cases (eqb c 0)
-    (λ z. rw (eqb-true c 0 z) (ap (least a) (least-none b) ∙ sym (least-none (least a b))))
+    (λ z. rw (eqb-true c 0 z) (ap (firstLine a) (least-none b) ∙ sym (least-none (firstLine a b))))
     (λ z. some-three a b c (above a x) (above b y) (above c z))))
 
 -- ---- a line that is told isn't before the first
-pub first-late : (p : List Line → Line → Bool) (k : ℕ) (seen ls : List Line) → (firstAfter p k seen ls ≡ 0 → ⊥) → k ≤ firstAfter p k seen ls
+pub first-late : (p : List FileLine → FileLine → Bool) (k : ℕ) (seen ls : List FileLine) → (firstAfter p k seen ls ≡ 0 → ⊥) → k ≤ firstAfter p k seen ls
 unfolding firstAfter
 first-late p k seen [] h = absurd (h refl)
 first-late p k seen (l ∷ ls) h =
@@ -87,12 +87,12 @@ first-late p k seen (l ∷ ls) h =
     (λ e. let q = first-late p (suc k) (l ∷ seen) ls (λ z. h (rw (e, firstAfter) z)) in rw (e, firstAfter) (omega arith))
 
 -- ---- without the rows that are kept: a test that tells of late rows the same then
-unfoldable pub Alone : (List Line → Line → Bool) → List Line → List Line → Type 0
+unfoldable pub Alone : (List FileLine → FileLine → Bool) → List FileLine → List FileLine → Type 0
 Alone p kept [] = Unit {0}
 Alone p kept (l ∷ late) = (p (late ++ kept) l ≡ p late l) × Alone p kept late
 
 -- both walks tell the same late row, or none of them
-gone : {P : Type 0} (p : List Line → Line → Bool) (kept : List Line) (u : ℕ) → 0 < u → (late : List Line) → Alone p kept late → (rest : List Line)
+gone : {P : Type 0} (p : List FileLine → FileLine → Bool) (kept : List FileLine) (u : ℕ) → 0 < u → (late : List FileLine) → Alone p kept late → (rest : List FileLine)
     → ((n : ℕ) → 0 < n → n < u + length late → firstAfter p u kept (back late rest) ≡ n → firstAfter p u [] (back late rest) ≡ n → P)
     → (firstAfter p u kept (back late rest) ≡ firstAfter p (u + length late) (late ++ kept) rest → firstAfter p u [] (back late rest) ≡ firstAfter p (u + length late) late rest → P)
     → P
@@ -112,20 +112,20 @@ gone p kept u h (l ∷ late) A rest f g =
     (x ∙ rw (A .0, e, firstAfter) (ap (λ (n : ℕ). firstAfter p n (l ∷ (late ++ kept)) rest) m))
     (y ∙ rw (e, firstAfter) (ap (λ (n : ℕ). firstAfter p n (l ∷ late) rest) m))))
 
-module _ (p : List Line → Line → Bool) (kept : List Line) (u : ℕ) (h : 0 < u) (late : List Line) (A : Alone p kept late) where
+module _ (p : List FileLine → FileLine → Bool) (kept : List FileLine) (u : ℕ) (h : 0 < u) (late : List FileLine) (A : Alone p kept late) where
   pub alone-ends : firstAfter p u kept (back late []) ≡ firstAfter p u [] (back late [])
   unfolding firstAfter
   alone-ends = gone p kept u h late A [] (λ n a b x y. x ∙ sym y) (λ x y. x ∙ sym y)
 
   -- a row that the test tells
-  pub alone-met : (r : Line) (rest : List Line) → p (late ++ kept) r ≡ true
-      → firstAfter p u kept (back late (r ∷ rest)) ≡ least (u + length late) (firstAfter p u [] (back late (r ∷ rest)))
+  pub alone-met : (r : FileLine) (rest : List FileLine) → p (late ++ kept) r ≡ true
+      → firstAfter p u kept (back late (r ∷ rest)) ≡ firstLine (u + length late) (firstAfter p u [] (back late (r ∷ rest)))
   unfolding firstAfter
   alone-met r rest t =
       gone p kept u h late A (r ∷ rest)
-      (λ n a b x y. x ∙ sym (ap (least (u + length late)) y ∙ least-late (u + length late) n a b))
+      (λ n a b x y. x ∙ sym (ap (firstLine (u + length late)) y ∙ least-late (u + length late) n a b))
       (λ x y.
       x ∙ rw (t, firstAfter)
       (sym
-      (ap (least (u + length late)) y
+      (ap (firstLine (u + length late)) y
       ∙ least-early (u + length late) (firstAfter p (u + length late) late (r ∷ rest)) (omega arith) (first-late p (u + length late) late (r ∷ rest)))))

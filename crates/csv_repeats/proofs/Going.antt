@@ -11,8 +11,8 @@ use lib.ListN.{length, length-append}
 use Rattle.rules.specs.Lists.{any, all}
 use Rattle.rules.proofs.Logic.{cases, never, and-false, or-false, not-true}
 use Rattle.rules.proofs.Lists.{all-cons, all-first}
-use Rattle.csv_rules.specs.Quote.{Line}
-use Rattle.csv_rules.specs.Sheets.{clash, differ, rowConverts, runs, sizes}
+use Rattle.csv_rules.specs.Quote.{FileLine}
+use Rattle.csv_rules.specs.Sheets.{clash, differ, rowConverts, runs, bytesIn}
 use Rattle.csv_rules.specs.Spot.{firstAfter, clashes, comesBack}
 use Rattle.csv_rules.proofs.Behind.{among, new-agrees}
 use Rattle.csv_rules.proofs.Order.{all-parts}
@@ -23,7 +23,7 @@ use Rattle.csv_places.specs.Slots.{Nothing}
 use Rattle.csv_repeats.specs.declared.Standing.{Standing}
 use Rattle.csv_repeats.specs.declared.Standing.the-variants.{Same, New, Back, Differs}
 use Rattle.csv_repeats.specs.Looks.{Stands, WithRow, isDiffers, isBack, begun}
-use Rattle.csv_repeats.specs.Rounds.{least, left, Partly}
+use Rattle.csv_repeats.specs.Rounds.{firstLine, left, Partly}
 use Rattle.csv_repeats.proofs.Seen.{back, back-append, sized, few-sized, any-append, sameRun, begunAfter, begun-all}
 use Rattle.csv_repeats.proofs.Standings.{Says, away, none-back}
 use Rattle.csv_repeats.proofs.Laws.{row-alike}
@@ -32,9 +32,9 @@ use Rattle.csv_repeats.proofs.Firsts.{least-none, least-early, first-la
 
 -- ---- as long as every number is kept
 pub record Keeping (f : List ℕ) (first k : ℕ) (places before : List ℕ) (at line returns count : ℕ) : Type 0 where
-  pub seen : List Line
+  pub seen : List FileLine
   pub lines : linesFrom f first ≡ back seen (linesFrom f at)
-  pub place : at ≡ first + sizes seen
+  pub place : at ≡ first + bytesIn seen
   pub line-is : line ≡ k + length seen
   pub converts : all rowConverts seen ≡ true
   pub sizes-are : all sized seen ≡ true
@@ -48,13 +48,13 @@ pub record Keeping (f : List ℕ) (first k : ℕ) (places before : List ℕ) (at
 
 -- ---- once a number isn't: the rows that are kept, and the late ones, from unkept on, which is the start-th line
 pub record Leaving (f : List ℕ) (first k : ℕ) (places before : List ℕ) (at unkept start line returns count : ℕ) : Type 0 where
-  pub kept : List Line
-  pub late : List Line
+  pub kept : List FileLine
+  pub late : List FileLine
   pub lines : linesFrom f first ≡ back kept (linesFrom f unkept)
   pub late-are : linesFrom f unkept ≡ back late (linesFrom f at)
-  pub place : at ≡ first + sizes (late ++ kept)
+  pub place : at ≡ first + bytesIn (late ++ kept)
   pub line-is : line ≡ k + length (late ++ kept)
-  pub unkept-is : unkept ≡ first + sizes kept
+  pub unkept-is : unkept ≡ first + bytesIn kept
   pub start-is : start ≡ k + length kept
   pub inside : unkept < length f
   pub some : first < 4294967296 → kept ≡ [] → ⊥
@@ -66,7 +66,7 @@ pub record Leaving (f : List ℕ) (first k : ℕ) (places before : List ℕ) (at
   pub clash-at : firstAfter clashes k [] (linesFrom f first) ≡ firstAfter clashes start kept (linesFrom f unkept)
   pub back-at : returns ≡ 0 → firstAfter comesBack k [] (linesFrom f first) ≡ firstAfter comesBack start kept (linesFrom f unkept)
   pub back-alone : returns ≡ 0 → Alone comesBack kept late
-  pub back-met : (returns ≡ 0 → ⊥) → firstAfter comesBack k [] (linesFrom f first) ≡ least returns (firstAfter comesBack start [] (linesFrom f unkept))
+  pub back-met : (returns ≡ 0 → ⊥) → firstAfter comesBack k [] (linesFrom f first) ≡ firstLine returns (firstAfter comesBack start [] (linesFrom f unkept))
   pub runs-are : length (runs (linesFrom f first)) ≡ count + begunAfter (late ++ kept) (linesFrom f at)
   pub kept-are : Kept f kept places
   pub near : Near f before (late ++ kept)
@@ -78,7 +78,7 @@ pub record Going (f : List ℕ) (first k : ℕ) (places before : List ℕ) (at u
 
 pub going-starts : (f : List ℕ) (first k : ℕ) (places before : List ℕ) (start : ℕ) → 0 < k → length places ≡ 65536 → Nothing places
     → Going f first k places before first 0 start k 0 0
-unfolding back sizes all differ Near
+unfolding back bytesIn all differ Near
 going-starts f first k places before start h m n = record {
   keeping = λ z. record {
     seen = [];
@@ -118,7 +118,7 @@ none-left f first k differs returns start d b = record {
   few = λ z. absurd (z refl);
 }
 
-away-alone : (kept late : List Line) → all (away kept) late ≡ true → Alone clashes kept late
+away-alone : (kept late : List FileLine) → all (away kept) late ≡ true → Alone clashes kept late
 unfolding Alone
 away-alone kept [] h = tt
 away-alone kept (l ∷ late) h =
@@ -127,18 +127,18 @@ away-alone kept (l ∷ late) h =
     (rw (any-append (clash (l .items)) late kept, n, or-false (any (clash (l .items)) late)), away-alone kept late (q .1))
 
 -- some rows have some bytes
-some-sizes : (s : List Line) → (s ≡ [] → ⊥) → all sized s ≡ true → 0 < sizes s
-unfolding sizes
+some-sizes : (s : List FileLine) → (s ≡ [] → ⊥) → all sized s ≡ true → 0 < bytesIn s
+unfolding bytesIn
 some-sizes [] h k = absurd (h refl)
 some-sizes (l ∷ s) h k = omega (arith, ltb-true 0 (l .size) (all-first sized l s k .0))
 
 -- a row is left at least
 module _ (f : List ℕ) (first k : ℕ) (places before : List ℕ) (at unkept start line returns count : ℕ) (z : unkept ≡ 0 → ⊥)
     (G : Leaving f first k places before at unkept start line returns count) where
-  some-left : (differs told : ℕ) → firstAfter clashes k [] (linesFrom f first) ≡ least differs (firstAfter clashes start [] (linesFrom f unkept))
-      → (differs ≡ 0 → firstAfter comesBack k [] (linesFrom f first) ≡ least told (firstAfter comesBack start [] (linesFrom f unkept)))
+  some-left : (differs told : ℕ) → firstAfter clashes k [] (linesFrom f first) ≡ firstLine differs (firstAfter clashes start [] (linesFrom f unkept))
+      → (differs ≡ 0 → firstAfter comesBack k [] (linesFrom f first) ≡ firstLine told (firstAfter comesBack start [] (linesFrom f unkept)))
       → Partly f first k differs told unkept start
-  unfolding sizes
+  unfolding bytesIn
   some-left differs told d b =
       let e = left-some f unkept z in
       record {
@@ -167,7 +167,7 @@ module _ (f : List ℕ) (first k : ℕ) (places before : List ℕ) (at unkept st
       let L = G .leaving (eqb-false unkept 0 q) in
       behind (L .late) (linesFrom f unkept) (linesFrom f at) (L .late-are) (behind (L .kept) (linesFrom f first) (linesFrom f unkept) (L .lines) h))
     where
-      behind : (seen ls rest : List Line) → ls ≡ back seen rest → all rowConverts ls ≡ true → all rowConverts rest ≡ true
+      behind : (seen ls rest : List FileLine) → ls ≡ back seen rest → all rowConverts ls ≡ true → all rowConverts rest ≡ true
       behind seen ls rest e h = all-parts rowConverts (back seen []) rest (rw (e, back-append seen rest) at h) .1
 
 -- ---- the end
@@ -178,11 +178,11 @@ module _ (f : List ℕ) (first k : ℕ) (places before : List ℕ) (at unkept st
   keeping-ends K =
       none-left f first k 0 returns start (K .clash-at ∙ ap (firstAfter clashes line (K .seen)) e)
       (λ h.
-      K .back-at ∙ ap (λ (ls : List Line). cond (eqb returns 0) (firstAfter comesBack line (K .seen) ls) returns) e
+      K .back-at ∙ ap (λ (ls : List FileLine). cond (eqb returns 0) (firstAfter comesBack line (K .seen) ls) returns) e
       ∙ cases (eqb returns 0) (λ q. rw q (sym (eqb-true returns 0 q))) (λ q. rw q))
 
   leaving-ends : (unkept ≡ 0 → ⊥) → Leaving f first k places before at unkept start line returns count → Partly f first k 0 returns unkept start
-  unfolding least
+  unfolding firstLine
   leaving-ends z L =
       let u : 0 < start = omega (arith, G .counted, L .start-is) in
       let ls : linesFrom f unkept ≡ back (L .late) [] = L .late-are ∙ ap (back (L .late)) e in
@@ -204,7 +204,7 @@ module _ (f : List ℕ) (first k : ℕ) (places before : List ℕ) (at unkept st
   pub going-runs : count ≡ length (runs (linesFrom f first))
   unfolding begunAfter
   going-runs =
-      let none : (seen : List Line) → begunAfter seen (linesFrom f at) ≡ 0 = λ seen. ap (begunAfter seen) e in
+      let none : (seen : List FileLine) → begunAfter seen (linesFrom f at) ≡ 0 = λ seen. ap (begunAfter seen) e in
       cases (eqb unkept 0)
       (λ q. let K = G .keeping (eqb-true unkept 0 q) in omega (arith, K .runs-are, none (K .seen)))
       (λ q. let L = G .leaving (eqb-false unkept 0 q) in omega (arith, L .runs-are, none (L .late ++ L .kept)))
@@ -218,7 +218,7 @@ few-begun Differs = omega arith
 -- ---- a row more, which converts
 module _ (f : List ℕ) (first k : ℕ) (places before : List ℕ) (at line returns count : ℕ) (known : Bool)
     (spans : List ℕ) (size n : ℕ) (good bad : Bool) (T : RowIs f at known spans size n good bad) (b : bad ≡ false) where
-  abbrev row : Line
+  abbrev row : FileLine
   row = record { items = T .items; size = size }
 
   rows : linesFrom f at ≡ row ∷ linesFrom f (at + size)
@@ -262,7 +262,7 @@ module _ (f : List ℕ) (first k : ℕ) (places before : List ℕ) (at line retu
       -- it is kept, too
       keep-on : (p : ℕ) → p ≡ cond (eqb returns 0 && isBack s) line returns → Kept f (row ∷ K .seen) after
           → Keeping f first k after spans (at + size) (line + 1) p (count + begun s)
-      unfolding back sizes all differ Near firstAfter begunAfter comesBack
+      unfolding back bytesIn all differ Near firstAfter begunAfter comesBack
       keep-on p q w = record {
         seen = row ∷ K .seen;
         lines = K .lines ∙ ap (back (K .seen)) rows;
@@ -302,7 +302,7 @@ module _ (f : List ℕ) (first k : ℕ) (places before : List ℕ) (at line retu
       -- it is the first that isn't
       keep-leaves : (p : ℕ) → p ≡ cond (eqb returns 0 && isBack s) line returns → after ≡ places → among (K .seen) row ≡ false → (at < 4294967296 → K .seen ≡ [] → ⊥)
           → Leaving f first k after spans (at + size) at line (line + 1) p (count + begun s)
-      unfolding back sizes all Near begunAfter Alone
+      unfolding back bytesIn all Near begunAfter Alone
       keep-leaves p q t m y = record {
         kept = K .seen;
         late = row ∷ [];
@@ -313,7 +313,7 @@ module _ (f : List ℕ) (first k : ℕ) (places before : List ℕ) (at line retu
         unkept-is = K .place;
         start-is = K .line-is;
         inside = omega (arith, T .place, row-some);
-        some = λ l e. y (let u : sizes (K .seen) ≡ 0 = ap sizes e in omega (arith, K .place)) e;
+        some = λ l e. y (let u : bytesIn (K .seen) ≡ 0 = ap bytesIn e in omega (arith, K .place)) e;
         converts = rw (all-cons rowConverts row (K .seen), c) (K .converts);
         sizes-are = rw (all-cons sized row (K .seen), lt-ltb 0 size row-some) (K .sizes-are);
         kept-sizes = K .sizes-are;
@@ -364,8 +364,8 @@ module _ (f : List ℕ) (first k : ℕ) (places before : List ℕ) (at line retu
     late-rows = L .late-are ∙ ap (back (L .late)) rows
 
     -- a line that is told by a test
-    leave-met : (p : List Line → Line → Bool) → Alone p (L .kept) (L .late) → p (L .late ++ L .kept) row ≡ true
-        → firstAfter p start (L .kept) (linesFrom f unkept) ≡ least line (firstAfter p start [] (linesFrom f unkept))
+    leave-met : (p : List FileLine → FileLine → Bool) → Alone p (L .kept) (L .late) → p (L .late ++ L .kept) row ≡ true
+        → firstAfter p start (L .kept) (linesFrom f unkept) ≡ firstLine line (firstAfter p start [] (linesFrom f unkept))
     leave-met p A t = rw (late-rows, line-late) (alone-met p (L .kept) start start-some (L .late) A row (linesFrom f (at + size)) t)
 
     -- 53
@@ -379,7 +379,7 @@ module _ (f : List ℕ) (first k : ℕ) (places before : List ℕ) (at line retu
     module _ (h : isDiffers s ≡ false) where
       leave-on : (p : ℕ) → p ≡ cond (eqb returns 0 && isBack s) line returns
           → Leaving f first k after spans (at + size) unkept start (line + 1) p (count + begun s)
-      unfolding back sizes Near begunAfter Alone
+      unfolding back bytesIn Near begunAfter Alone
       leave-on p q = record {
         kept = L .kept;
         late = row ∷ L .late;

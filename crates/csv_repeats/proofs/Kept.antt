@@ -10,15 +10,15 @@ use lib.ListN.{length}
 use Rattle.rules.specs.Lists.{any, all}
 use Rattle.rules.proofs.Logic.{cases, listCases, never, neither, not-true}
 use Rattle.rules.proofs.Lists.{all-first, any-cons, same-eq, same-self}
-use Rattle.csv_rules.specs.Quote.{Items, Line}
+use Rattle.csv_rules.specs.Quote.{Items, FileLine}
 use Rattle.csv_rules.specs.Columns.{numberOf}
-use Rattle.csv_rules.specs.Sheets.{sameNumber, clash, differ, rowConverts, sizes}
+use Rattle.csv_rules.specs.Sheets.{sameNumber, clash, differ, rowConverts, bytesIn}
 use Rattle.csv_rules.proofs.Behind.{among, clash-self}
 use Rattle.csv_rules.proofs.Order.{all-parts}
 use Rattle.csv_rows.specs.Rows.{linesFrom, rowAt, Spans}
 use Rattle.csv_places.specs.declared.Slot.{Slot}
 use Rattle.csv_places.specs.declared.Slot.the-variants.{Held, Free, Crowded}
-use Rattle.csv_places.specs.Places.{itemsAt, numberAt, hashOf, placeIn, markIn, filled, slotOf, known, RowThere, Places, HeldAt, FreeAt, CrowdedAt, SlotIs, keeps, withPlace}
+use Rattle.csv_places.specs.Places.{itemsAt, numberAt, hashOf, placeIn, markIn, slotFilled, slotOf, knownNumber, RowThere, Places, HeldAt, FreeAt, CrowdedAt, SlotIs, keepsPlace, withPlace}
 use Rattle.csv_places.specs.Slots.{Nothing}
 use Rattle.csv_places.proofs.Laws.{items-there, known-same, known-stays, filled-many, filled-other, filled-place, filled-mark}
 use Rattle.csv_repeats.specs.Looks.{sameHeader, lookedFor, Looked, Stands}
@@ -36,15 +36,15 @@ slotCases Crowded a b c = c refl
 
 -- ---- the rows that are kept
 -- the row that begins at p is one of them
-pub record KeptAt (f : List ℕ) (kept : List Line) (p : ℕ) : Type 0 where
+pub record KeptAt (f : List ℕ) (kept : List FileLine) (p : ℕ) : Type 0 where
   pub there : RowThere f p
   pub one : In (there .row) kept
 
-pub record Kept (f : List ℕ) (kept : List Line) (places : List ℕ) : Type 0 where
+pub record Kept (f : List ℕ) (kept : List FileLine) (places : List ℕ) : Type 0 where
   pub many : length places ≡ 65536
   pub rows : (i : ℕ) → (placeIn places i ≡ 0 → ⊥) → KeptAt f kept (placeIn places i)
   pub marks : (i : ℕ) → (placeIn places i ≡ 0 → ⊥) → markIn places i ≡ hashOf (numberOf (itemsAt f (placeIn places i)))
-  pub knows : (w : Line) → In w kept → known f places (w .items) ≡ true
+  pub knows : (w : FileLine) → In w kept → knownNumber f places (w .items) ≡ true
 
 pub kept-starts : (f places : List ℕ) → length places ≡ 65536 → Nothing places → Kept f [] places
 kept-starts f places m n = record {
@@ -54,7 +54,7 @@ kept-starts f places m n = record {
   knows = λ w i. not-in w (i .left) (i .right) (i .is);
 }
 
-module _ (f : List ℕ) (kept : List Line) (places : List ℕ) (K : Kept f kept places) where
+module _ (f : List ℕ) (kept : List FileLine) (places : List ℕ) (K : Kept f kept places) where
   pub kept-places : Places f places
   kept-places = record { many = K .many; rows = λ i h. K .rows i h .there; marks = K .marks }
 
@@ -63,25 +63,25 @@ module _ (f : List ℕ) (kept : List Line) (places : List ℕ) (K : Kept f kept 
   none-taken e i h = let S = K .rows i h in not-in (S .there .row) (S .one .left) (S .one .right) (sym e ∙ S .one .is)
 
   -- a number that the table doesn't know
-  pub unknown-new : (row : Line) (r : Items) → numberOf r ≡ numberOf (row .items) → known f places r ≡ false → among kept row ≡ false
+  pub unknown-new : (row : FileLine) (r : Items) → numberOf r ≡ numberOf (row .items) → knownNumber f places r ≡ false → among kept row ≡ false
   unknown-new row r e u =
       none-among kept row
       (λ w i n.
-      let q : known f places r ≡ known f places (w .items) = known-same f places r (w .items) (e ∙ same-eq (numberOf (row .items)) (numberOf (w .items)) n) in
+      let q : knownNumber f places r ≡ knownNumber f places (w .items) = known-same f places r (w .items) (e ∙ same-eq (numberOf (row .items)) (numberOf (w .items)) n) in
       never (sym (K .knows w i) ∙ (sym q ∙ u)))
 
   -- ---- a row more
-  module _ (row : Line) where
+  module _ (row : FileLine) where
     kept-more : (after : List ℕ) → length after ≡ 65536 → ((i : ℕ) → (placeIn after i ≡ 0 → ⊥) → KeptAt f (row ∷ kept) (placeIn after i))
         → ((i : ℕ) → (placeIn after i ≡ 0 → ⊥) → markIn after i ≡ hashOf (numberOf (itemsAt f (placeIn after i))))
-        → ((r : Items) → known f places r ≡ true → known f after r ≡ true) → known f after (row .items) ≡ true → Kept f (row ∷ kept) after
+        → ((r : Items) → knownNumber f places r ≡ true → knownNumber f after r ≡ true) → knownNumber f after (row .items) ≡ true → Kept f (row ∷ kept) after
     kept-more after m b v s k = record {
       many = m;
       rows = b;
       marks = v;
       knows = λ w i.
           in-cases w row kept (i .left) (i .right) (i .is)
-          (λ q. ap (λ (x : Line). known f after (x .items)) (sym q) ∙ k)
+          (λ q. ap (λ (x : FileLine). knownNumber f after (x .items)) (sym q) ∙ k)
           (λ j. s (w .items) (K .knows w j));
     }
 
@@ -89,11 +89,11 @@ module _ (f : List ℕ) (kept : List Line) (places : List ℕ) (K : Kept f kept 
     one-more S = record { there = S .there; one = in-there (S .there .row) row kept (S .one) }
 
     -- the table as it was
-    same-table : known f places (row .items) ≡ true → Kept f (row ∷ kept) places
+    same-table : knownNumber f places (row .items) ≡ true → Kept f (row ∷ kept) places
     same-table = kept-more places (K .many) (λ i h. one-more (K .rows i h)) (K .marks) (λ r k. k)
 
     -- a row with the number of one that is kept
-    kept-same : (q : Line) → In q kept → sameNumber (q .items) (row .items) ≡ true → Kept f (row ∷ kept) places
+    kept-same : (q : FileLine) → In q kept → sameNumber (q .items) (row .items) ≡ true → Kept f (row ∷ kept) places
     kept-same q i n = same-table (sym (known-same f places (q .items) (row .items) (same-eq (numberOf (q .items)) (numberOf (row .items)) n)) ∙ K .knows q i)
 
     module _ (at : ℕ) (rows : linesFrom f at ≡ row ∷ linesFrom f (at + row .size)) (z : at ≡ 0 → ⊥) (r : Items) (e : numberOf r ≡ numberOf (row .items)) where
@@ -106,7 +106,7 @@ module _ (f : List ℕ) (kept : List Line) (places : List ℕ) (K : Kept f kept 
       -- the place of the row in a free slot
       module _ (i : ℕ) (F : FreeAt f places r i) where
         abbrev with-row : List ℕ
-        with-row = filled places i at (hashOf (numberOf r))
+        with-row = slotFilled places i at (hashOf (numberOf r))
 
         place-here : placeIn with-row i ≡ at
         place-here = filled-place places i at (hashOf (numberOf r)) (omega (arith, F .place, K .many))
@@ -146,7 +146,7 @@ module _ (f : List ℕ) (kept : List Line) (places : List ℕ) (K : Kept f kept 
       pub kept-looked : {P : Type 0} (s : Standing) (o : ℕ) (after : List ℕ) → Looked f at r places 0 s o after
           → (o ≡ 0 → Kept f (row ∷ kept) after → P)
           → (o ≡ at → after ≡ places → among kept row ≡ false → (at < 4294967296 → kept ≡ [] → ⊥) → P) → P
-      unfolding keeps withPlace SlotIs
+      unfolding keepsPlace withPlace SlotIs
       kept-looked s o after L with-it left-out =
           slotCases (L .slot)
           (λ p h.
@@ -158,7 +158,7 @@ module _ (f : List ℕ) (kept : List Line) (places : List ℕ) (K : Kept f kept 
           let F : FreeAt f places r i = rw h at (L .slot-is) in
           cases (ltb at 4294967296)
           (λ y.
-          let a : after ≡ filled places i at (hashOf (numberOf r)) = L .table ∙ rw (h, y) in
+          let a : after ≡ slotFilled places i at (hashOf (numberOf r)) = L .table ∙ rw (h, y) in
           let b : o ≡ 0 = L .unkept-is ∙ rw (h, y) in
           with-it b (rw a (put-in i F)))
           (λ y.
@@ -173,19 +173,19 @@ module _ (f : List ℕ) (kept : List Line) (places : List ℕ) (K : Kept f kept 
 
 -- ---- how a row stands to those before it
 -- the row before lies where the code remembers it
-unfoldable pub Near : List ℕ → List ℕ → List Line → Type 0
+unfoldable pub Near : List ℕ → List ℕ → List FileLine → Type 0
 Near f before [] = Unit {0}
 Near f before (q ∷ seen) = Spans f before (q .items)
 
-run-is : (f : List ℕ) (first at : ℕ) (before : List ℕ) (seen : List Line) (l : Line) (r : Items) → at ≡ first + sizes seen → Near f before seen → all sized seen ≡ true
+run-is : (f : List ℕ) (first at : ℕ) (before : List ℕ) (seen : List FileLine) (l : FileLine) (r : Items) → at ≡ first + bytesIn seen → Near f before seen → all sized seen ≡ true
     → Alike r (l .items) → (ltb first at && sameNumber (rowAt f before) r) ≡ sameRun seen l
-unfolding Near sizes sameRun
+unfolding Near bytesIn sameRun
 run-is f first at before [] l r e n z a = rw (le-ltb first at (omega arith))
 run-is f first at before (q ∷ seen) l r e n z a =
     let w = ltb-true 0 (q .size) (all-first sized q seen z .0) in
     rw (lt-ltb first at (omega arith), row-alike f before (q .items) n .number, a .number)
 
-module _ (f spans places : List ℕ) (kept late : List Line) (K : Kept f kept places) (row : Line) (a : Alike (rowAt f spans) (row .items))
+module _ (f spans places : List ℕ) (kept late : List FileLine) (K : Kept f kept places) (row : FileLine) (a : Alike (rowAt f spans) (row .items))
     (lc : rowConverts row ≡ true) (sc : all rowConverts kept ≡ true) (d : differ kept ≡ false) (g : sameRun (late ++ kept) row ≡ false) where
   held-says : (p : ℕ) → HeldAt f places (rowAt f spans) p → Says kept late row (cond (sameHeader (rowAt f spans) (itemsAt f p)) Back Differs)
   held-says p H =
@@ -195,7 +195,7 @@ module _ (f spans places : List ℕ) (kept late : List Line) (K : Kept f kept pl
       let n : sameNumber (row .items) (w .items) ≡ true = rw (i, a .number) at (H .number) in
       rw (i, a .pid, a .pv1) (says-back kept row lc sc d late w (S .one) n g)
 
-  new-says : known f places (rowAt f spans) ≡ false → Says kept late row New
+  new-says : knownNumber f places (rowAt f spans) ≡ false → Says kept late row New
   new-says u = says-new kept late row (unknown-new f kept places K row (rowAt f spans) (a .number) u) g
 
   looked-says : (at unkept : ℕ) (s : Standing) (o : ℕ) (after : List ℕ) → Looked f at (rowAt f spans) places unkept s o after → Says kept late row s
@@ -207,7 +207,7 @@ module _ (f spans places : List ℕ) (kept late : List Line) (K : Kept f kept pl
       (λ h. let C : CrowdedAt f places (rowAt f spans) = rw h at (L .slot-is) in rw (L .is, h) (new-says (C .unknown)))
 
 -- the row before differs from none that is kept
-near-away : (kept late : List Line) (q : Line) (seen : List Line) → late ++ kept ≡ q ∷ seen → differ kept ≡ false → all (away kept) late ≡ true
+near-away : (kept late : List FileLine) (q : FileLine) (seen : List FileLine) → late ++ kept ≡ q ∷ seen → differ kept ≡ false → all (away kept) late ≡ true
     → any (clash (q .items)) kept ≡ false
 unfolding differ
 near-away kept [] q seen e d h =
@@ -218,8 +218,8 @@ near-away kept (x ∷ late) q seen e d h =
     let k : away kept q ≡ true = rw o at (all-first (away kept) x late h .0) in
     not-true (any (clash (q .items)) kept) k
 
-module _ (f : List ℕ) (first at : ℕ) (before spans places : List ℕ) (unkept : ℕ) (kept late : List Line) (K : Kept f kept places) (row : Line)
-    (place : at ≡ first + sizes (late ++ kept)) (near : Near f before (late ++ kept)) (some : all sized (late ++ kept) ≡ true) (a : Alike (rowAt f spans) (row .items))
+module _ (f : List ℕ) (first at : ℕ) (before spans places : List ℕ) (unkept : ℕ) (kept late : List FileLine) (K : Kept f kept places) (row : FileLine)
+    (place : at ≡ first + bytesIn (late ++ kept)) (near : Near f before (late ++ kept)) (some : all sized (late ++ kept) ≡ true) (a : Alike (rowAt f spans) (row .items))
     (s : Standing) (o : ℕ) (after : List ℕ) (S : Stands f first at before spans places unkept s o after) where
   run : (ltb first at && sameNumber (rowAt f before) (rowAt f spans)) ≡ sameRun (late ++ kept) row
   run = run-is f first at before (late ++ kept) row (rowAt f spans) place near some a
@@ -229,7 +229,7 @@ module _ (f : List ℕ) (first at : ℕ) (before spans places : List ℕ) (unkep
     unfolding sameRun Near
     same-says g =
         listCases (late ++ kept)
-        (λ e. never (sym g ∙ ap (λ (x : List Line). sameRun x row) e))
+        (λ e. never (sym g ∙ ap (λ (x : List FileLine). sameRun x row) e))
         (λ q seen e.
         let n : sameNumber (q .items) (row .items) ≡ true = rw e at g in
         let y : Spans f before (q .items) = rw e at near in
@@ -253,14 +253,14 @@ module _ (f : List ℕ) (first at : ℕ) (before spans places : List ℕ) (unkep
       let y = ne-eqb unkept 0 z in
       (L .unkept-is ∙ rw y, L .table ∙ rw y))
 
-same-kept : (f places : List ℕ) (kept : List Line) → Kept f kept places → (row : Line) → sameRun kept row ≡ true → Kept f (row ∷ kept) places
+same-kept : (f places : List ℕ) (kept : List FileLine) → Kept f kept places → (row : FileLine) → sameRun kept row ≡ true → Kept f (row ∷ kept) places
 unfolding sameRun
 same-kept f places [] K row g = never (sym g)
 same-kept f places (q ∷ kept) K row g = kept-same f (q ∷ kept) places K row q (in-here q kept) g
 
 -- a row is kept with the others, or is the first that isn't
-pub stands-kept : {P : Type 0} (f : List ℕ) (first at : ℕ) (before spans places : List ℕ) (kept : List Line) → Kept f kept places → (row : Line)
-    → at ≡ first + sizes kept → Near f before kept → all sized kept ≡ true → Alike (rowAt f spans) (row .items)
+pub stands-kept : {P : Type 0} (f : List ℕ) (first at : ℕ) (before spans places : List ℕ) (kept : List FileLine) → Kept f kept places → (row : FileLine)
+    → at ≡ first + bytesIn kept → Near f before kept → all sized kept ≡ true → Alike (rowAt f spans) (row .items)
     → (s : Standing) (o : ℕ) (after : List ℕ) → Stands f first at before spans places 0 s o after
     → linesFrom f at ≡ row ∷ linesFrom f (at + row .size) → (at ≡ 0 → ⊥)
     → (o ≡ 0 → Kept f (row ∷ kept) after → P)

@@ -10,7 +10,7 @@ use lib.ListN.{length, getD, replicate, getD-replicate}
 use Rattle.rules.specs.declared.Name.the-variants.{Pid, Pv1}
 use Rattle.rules.specs.Lists.{same}
 use Rattle.rules.proofs.Logic.{cases, never}
-use Rattle.csv_rules.specs.Quote.{Items, Line}
+use Rattle.csv_rules.specs.Quote.{Items, FileLine}
 use Rattle.csv_rules.specs.Columns.{numberOf}
 use Rattle.csv_rules.specs.Sheets.{sameNumber}
 use Rattle.csv_rows.specs.Rows.{linesFrom, rowAt, Inside, Spans, RowIs}
@@ -20,7 +20,7 @@ use Rattle.csv_repeats.specs.declared.Standing.{Standing}
 use Rattle.csv_repeats.specs.declared.Standing.the-variants.{Same, New, Back, Differs}
 use Rattle.csv_places.specs.declared.Slot.{Slot}
 use Rattle.csv_places.specs.declared.Slot.the-variants.{Held, Free, Crowded}
-use Rattle.csv_places.specs.Places.{itemsAt, hashOf, RowThere, Places, SlotIs, keeps, withPlace}
+use Rattle.csv_places.specs.Places.{itemsAt, hashOf, RowThere, Places, SlotIs, keepsPlace, withPlace}
 use Rattle.csv_places.proofs.Laws.{items-there, row-inside}
 use Rattle.csv_repeats.specs.Looks.{sameHeader, lookedFor, HeldThere, Looked, Stands, WithRow, isDiffers, isBack, begun}
 use Rattle.csv_repeats.proofs.Standings.{Alike}
@@ -58,7 +58,7 @@ module _ (f : List ℕ) (p : ℕ) (T : RowThere f p) where
       let b : bad ≡ false = cases bad (λ z. absurd (omega (arith, ap length (sym (row-broken f p true q size n good bad R z .0) ∙ T .is)))) (λ z. z) in
       let w : record { items = R .items; size = size } ∷ linesFrom f (p + size) ≡ T .row ∷ T .others = sym (row-lines f p true q size n good bad R b) ∙ T .is in
       let o : record { items = R .items; size = size } ≡ T .row = cc in
-      let i : R .items ≡ itemsAt f p = ap (λ (l : Line). l .items) o ∙ sym (items-there f p T) in
+      let i : R .items ≡ itemsAt f p = ap (λ (l : FileLine). l .items) o ∙ sym (items-there f p T) in
       let a = row-alike f q (R .items) (R .lies) in
       k ∙ rw (e, a .pid, a .pv1, i)
 
@@ -87,7 +87,7 @@ unfolding HeldThere
 held-at f slot p h e = rw e at h
 
 module _ (f : List ℕ) (at : ℕ) (r : Items) (places : List ℕ) (unkept : ℕ) (slot : Slot) (S : SlotIs f places r slot) (s : Standing) (e : s ≡ lookedFor f r slot) where
-  pub looked-kept : unkept ≡ 0 → (after : List ℕ) (hash : ℕ) → hash ≡ hashOf (numberOf r) → after ≡ withPlace places slot at hash → (k : Bool) → k ≡ keeps slot at → (o : ℕ) → o ≡ cond k 0 at
+  pub looked-kept : unkept ≡ 0 → (after : List ℕ) (hash : ℕ) → hash ≡ hashOf (numberOf r) → after ≡ withPlace places slot at hash → (k : Bool) → k ≡ keepsPlace slot at → (o : ℕ) → o ≡ cond k 0 at
       → Looked f at r places unkept s o after
   looked-kept z after hash w t k h o u = record { slot = slot; slot-is = S; is = e; table = rw (z, ← w) t; unkept-is = u ∙ rw (z, h) }
 

@@ -12,7 +12,7 @@ use Rattle.csv_rules.specs.Raw.{rawAgree}
 use Rattle.csv_rows.specs.Rows.{rowAt}
 use Rattle.csv_places.specs.declared.Slot.{Slot}
 use Rattle.csv_places.specs.declared.Slot.the-variants.{Held, Free, Crowded}
-use Rattle.csv_places.specs.Places.{itemsAt, hashOf, RowThere, SlotIs, keeps, withPlace}
+use Rattle.csv_places.specs.Places.{itemsAt, hashOf, RowThere, SlotIs, keepsPlace, withPlace}
 use Rattle.csv_repeats.specs.declared.Standing.{Standing}
 use Rattle.csv_repeats.specs.declared.Standing.the-variants.{Same, New, Back, Differs}
 
@@ -38,7 +38,7 @@ pub record Looked (f : List ℕ) (at : ℕ) (r : Items) (places : List ℕ) (unk
   pub slot-is : SlotIs f places r slot
   pub is : s ≡ lookedFor f r slot
   pub table : after ≡ cond (eqb unkept 0) (withPlace places slot at (hashOf (numberOf r))) places
-  pub unkept-is : o ≡ cond (eqb unkept 0) (cond (keeps slot at) 0 at) unkept
+  pub unkept-is : o ≡ cond (eqb unkept 0) (cond (keepsPlace slot at) 0 at) unkept
 
 -- the row at a place
 pub record Stands (f : List ℕ) (first at : ℕ) (before spans places : List ℕ) (unkept : ℕ) (s : Standing) (o : ℕ) (after : List ℕ) : Type 0 where

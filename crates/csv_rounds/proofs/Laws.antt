@@ -11,7 +11,7 @@ use lib.Seq.{drop-drop}
 use Rattle.rules.specs.Lists.{all}
 use Rattle.rules.proofs.Logic.{cases, both, never}
 use Rattle.rules.proofs.Lists.{all-first}
-use Rattle.csv_rules.specs.Quote.{cut, Line, linesIn}
+use Rattle.csv_rules.specs.Quote.{cut, FileLine, linesIn}
 use Rattle.csv_rules.specs.Sheets.{rowConverts}
 use Rattle.csv_rules.specs.Spot.{firstAfter, clashes, comesBack}
 use Rattle.csv_rules.proofs.Order.{all-parts}
@@ -20,27 +20,27 @@ use Rattle.csv_rows.proofs.Laws.{row-lines, row-broken, rows-end}
 use Rattle.csv_places.specs.Places.{Places}
 use Rattle.csv_places.specs.Slots.{Nothing}
 use Rattle.csv_repeats.specs.Looks.{WithRow}
-use Rattle.csv_repeats.specs.Rounds.{least, left, Partly}
+use Rattle.csv_repeats.specs.Rounds.{firstLine, left, Partly}
 use Rattle.csv_repeats.proofs.Laws.{nowhere}
 use Rattle.csv_repeats.proofs.Firsts.{least-none, least-zero, least-over}
 use Rattle.csv_repeats.proofs.Going.{Going, going-starts, going-places, going-converts, going-ends, going-met, going-on, with-few}
 use Rattle.csv_rounds.specs.Settled.{Unsettled, Settled}
 
 -- ---- the first of two lines
-pub first-none : (a b : ℕ) → a ≡ 0 → b ≡ least a b
-unfolding least
+pub first-none : (a b : ℕ) → a ≡ 0 → b ≡ firstLine a b
+unfolding firstLine
 first-none a b h = rw (eq-eqb a 0 h)
 
 module _ (a b : ℕ) (z : a ≡ 0 → ⊥) (t : Bool) (e : t ≡ (not (eqb b 0) && ltb b a)) where
-  pub first-other : t ≡ true → b ≡ least a b
-  unfolding least
+  pub first-other : t ≡ true → b ≡ firstLine a b
+  unfolding firstLine
   first-other h =
       let q = both (not (eqb b 0)) (ltb b a) (sym e ∙ h) in
       let n : eqb b 0 ≡ false = cases (eqb b 0) (λ y. never (sym (q .0) ∙ rw y)) (λ y. y) in
       rw (ne-eqb a 0 z, n, q .1)
 
-  pub first-own : t ≡ false → a ≡ least a b
-  unfolding least
+  pub first-own : t ≡ false → a ≡ firstLine a b
+  unfolding firstLine
   first-own h =
       rw (ne-eqb a 0 z)
       (cases (eqb b 0) (λ y. rw y) (λ y. let q : ltb b a ≡ false = sym (rw y at e) ∙ h in rw (y, q)))
@@ -156,8 +156,8 @@ rest-size f s start e = ap length e ∙ length-drop start f
 
 -- those found by the first walk and the rows that it left, and what is found since
 pub record Settling (f : List ℕ) (differs₀ returns₀ unkept₀ line₀ differs returns unkept line : ℕ) : Type 0 where
-  pub clash : least differs₀ (firstAfter clashes line₀ [] (left f unkept₀)) ≡ least differs (firstAfter clashes line [] (left f unkept))
-  pub back : differs ≡ 0 → least returns₀ (firstAfter comesBack line₀ [] (left f unkept₀)) ≡ least returns (firstAfter comesBack line [] (left f unkept))
+  pub clash : firstLine differs₀ (firstAfter clashes line₀ [] (left f unkept₀)) ≡ firstLine differs (firstAfter clashes line [] (left f unkept))
+  pub back : differs ≡ 0 → firstLine returns₀ (firstAfter comesBack line₀ [] (left f unkept₀)) ≡ firstLine returns (firstAfter comesBack line [] (left f unkept))
   pub to-come : Unsettled f unkept line
 
 abbrev pub distance : List ℕ → ℕ → ℕ
@@ -211,19 +211,19 @@ module _ (f : List ℕ) (differs₀ returns₀ unkept₀ line₀ differs returns
               (λ q. absurd (h (v ∙ rw q)))
               (λ q. (eqb-false o 0 q, v ∙ rw q))
 
-          next-clash : firstAfter clashes line [] (left f unkept) ≡ least d (firstAfter clashes m [] (left f u))
-          next-clash = ap (firstAfter clashes line []) (here-left ∙ sym here-lines) ∙ P .clash ∙ ap (λ (x : List Line). least d (firstAfter clashes m [] x)) next-left
+          next-clash : firstAfter clashes line [] (left f unkept) ≡ firstLine d (firstAfter clashes m [] (left f u))
+          next-clash = ap (firstAfter clashes line []) (here-left ∙ sym here-lines) ∙ P .clash ∙ ap (λ (x : List FileLine). firstLine d (firstAfter clashes m [] x)) next-left
 
-          next-back : d ≡ 0 → firstAfter comesBack line [] (left f unkept) ≡ least r (firstAfter comesBack m [] (left f u))
-          next-back h = ap (firstAfter comesBack line []) (here-left ∙ sym here-lines) ∙ P .back h ∙ ap (λ (x : List Line). least r (firstAfter comesBack m [] x)) next-left
+          next-back : d ≡ 0 → firstAfter comesBack line [] (left f unkept) ≡ firstLine r (firstAfter comesBack m [] (left f u))
+          next-back h = ap (firstAfter comesBack line []) (here-left ∙ sym here-lines) ∙ P .back h ∙ ap (λ (x : List FileLine). firstLine r (firstAfter comesBack m [] x)) next-left
 
-          pub settle-on : (a b : ℕ) → a ≡ least differs d → b ≡ least returns r → Settling f differs₀ returns₀ unkept₀ line₀ a b u m
+          pub settle-on : (a b : ℕ) → a ≡ firstLine differs d → b ≡ firstLine returns r → Settling f differs₀ returns₀ unkept₀ line₀ a b u m
           settle-on a b x y = record {
-            clash = S .clash ∙ ap (least differs) next-clash ∙ least-over differs d (firstAfter clashes m [] (left f u)) ∙ ap (λ (n : ℕ). least n (firstAfter clashes m [] (left f u))) (sym x);
+            clash = S .clash ∙ ap (firstLine differs) next-clash ∙ least-over differs d (firstAfter clashes m [] (left f u)) ∙ ap (λ (n : ℕ). firstLine n (firstAfter clashes m [] (left f u))) (sym x);
             back = λ h.
                 let w = least-zero differs d (sym x ∙ h) in
-                S .back (w .0) ∙ ap (least returns) (next-back (w .1)) ∙ least-over returns r (firstAfter comesBack m [] (left f u))
-                ∙ ap (λ (n : ℕ). least n (firstAfter comesBack m [] (left f u))) (sym y);
+                S .back (w .0) ∙ ap (firstLine returns) (next-back (w .1)) ∙ least-over returns r (firstAfter comesBack m [] (left f u))
+                ∙ ap (λ (n : ℕ). firstLine n (firstAfter comesBack m [] (left f u))) (sym y);
             to-come = record {
               converts =
                   let c : all rowConverts (P .kept ++ left s o) ≡ true = ap (all rowConverts) (sym (P .parts)) ∙ settle-converts in

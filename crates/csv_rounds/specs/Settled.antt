@@ -7,7 +7,7 @@ use lib.ListN.{length}
 use Rattle.rules.specs.Lists.{all}
 use Rattle.csv_rules.specs.Sheets.{rowConverts}
 use Rattle.csv_rules.specs.Spot.{firstAfter, clashes, comesBack}
-use Rattle.csv_repeats.specs.Rounds.{least, left}
+use Rattle.csv_repeats.specs.Rounds.{firstLine, left}
 
 -- the rows that are left, the first of which is the line-th line: they convert
 pub record Unsettled (f : List ℕ) (unkept line : ℕ) : Type 0 where
@@ -17,5 +17,5 @@ pub record Unsettled (f : List ℕ) (unkept line : ℕ) : Type 0 where
 
 -- d and r: the first of those found so far and what these rows say. Once 53 is met, no more is said of 54.
 pub record Settled (f : List ℕ) (differs returns unkept line d r : ℕ) : Type 0 where
-  pub clash : d ≡ least differs (firstAfter clashes line [] (left f unkept))
-  pub back : d ≡ 0 → r ≡ least returns (firstAfter comesBack line [] (left f unkept))
+  pub clash : d ≡ firstLine differs (firstAfter clashes line [] (left f unkept))
+  pub back : d ≡ 0 → r ≡ firstLine returns (firstAfter comesBack line [] (left f unkept))

@@ -9,7 +9,7 @@ ghost use lib.ListN.{length};
 ghost use Rattle.rules.specs.Lists.{all};
 ghost use Rattle.csv_rules.specs.Sheets.{rowConverts};
 ghost use Rattle.csv_rows.specs.Rows.{linesFrom};
-ghost use Rattle.csv_repeats.specs.Rounds.{least, Partly};
+ghost use Rattle.csv_repeats.specs.Rounds.{firstLine, Partly};
 ghost use Rattle.csv_rounds.specs.Settled.{Unsettled, Settled};
 
 // Where 53 and 54 are met, by line, 0 where they aren't.
@@ -20,7 +20,7 @@ pub struct Met {
 
 // The first of two lines; 0 is none.
 fn first_of(a: usize, b: usize) -> usize
-    ensures { λ r. ⌜ r ≡ least a b ⌝ }
+    ensures { λ r. ⌜ r ≡ firstLine a b ⌝ }
 {
     if a == 0 {
         return b;

@@ -13,7 +13,7 @@ use Rattle.rules.proofs.Logic.{cases, both}
 use Rattle.rules.proofs.Lists.{here, over}
 use Rattle.csv_rules.specs.Quote.{Comma, Inside, Quote, Items, Lines, end, broken, line, more, linesAt, cut}
 use Rattle.csv_rules.specs.Written.{halved}
-use Rattle.csv_rows.specs.Rows.{closingAt, quoteFirst, before, afterwards, BehindAt, ItemAt}
+use Rattle.csv_rows.specs.Rows.{closingAt, quoteFirst, putBefore, afterwards, BehindAt, ItemAt}
 
 -- ---- where an item closes
 pub close-plain : (b : ℕ) (s : List ℕ) → eqb b 0x22 ≡ false → closingAt false (b ∷ s) ≡ suc (closingAt false s)
@@ -107,20 +107,20 @@ grow-skip w n end = refl
 grow-skip w n broken = refl
 grow-skip w n (line is m ls) = ap (λ (k : ℕ). line (ontoAll w is) k ls) (more-is m n)
 
-grow-before : (w : List ℕ) (n m : ℕ) (c : Lines) → grow w n (before ([] ∷ []) m c) ≡ before (w ∷ []) (m + n) c
-unfolding grow before
+grow-before : (w : List ℕ) (n m : ℕ) (c : Lines) → grow w n (putBefore ([] ∷ []) m c) ≡ putBefore (w ∷ []) (m + n) c
+unfolding grow putBefore
 grow-before w n m end = refl
 grow-before w n m broken = refl
 grow-before w n m (line is k ls) = let q : (k + m) + n ≡ k + (m + n) = omega arith in rw (onto-empty w is, q)
 
-skip-before : (is : Items) (n : ℕ) (c : Lines) → more (λ x. x) (before is n c) ≡ before is (suc n) c
-unfolding more before
+skip-before : (is : Items) (n : ℕ) (c : Lines) → more (λ x. x) (putBefore is n c) ≡ putBefore is (suc n) c
+unfolding more putBefore
 skip-before is n end = refl
 skip-before is n broken = refl
 skip-before is n (line js m ls) = ap (λ (k : ℕ). line (is ++ js) k ls) (more-is m n)
 
-pub before-before : (is js : Items) (n m : ℕ) (c : Lines) → before is n (before js m c) ≡ before (is ++ js) (m + n) c
-unfolding before
+pub before-before : (is js : Items) (n m : ℕ) (c : Lines) → putBefore is n (putBefore js m c) ≡ putBefore (is ++ js) (m + n) c
+unfolding putBefore
 before-before is js n m end = refl
 before-before is js n m broken = refl
 before-before is js n m (line zs k ls) = let q : (k + m) + n ≡ k + (m + n) = omega arith in rw (append-assoc is js zs, q)
@@ -225,8 +225,8 @@ closed-stops (b ∷ t ∷ s) h =
     (closed-stops (t ∷ s) (omega (arith, close-plain b (t ∷ s) e))))
 
 -- ---- what stands behind an item
-before-comma : (c : Lines) → more (λ is. [] ∷ is) c ≡ before ([] ∷ []) 1 c
-unfolding more before
+before-comma : (c : Lines) → more (λ is. [] ∷ is) c ≡ putBefore ([] ∷ []) 1 c
+unfolding more putBefore
 before-comma end = refl
 before-comma broken = refl
 before-comma (line is m ls) = ap (λ (k : ℕ). line ([] ∷ is) k ls) (one-more m)
@@ -255,7 +255,7 @@ drop-same f j = let q : j + 0 ≡ j = omega arith in ap (λ (n : ℕ). drop n f)
 
 module _ (f : List ℕ) (j : ℕ) (p : j ≤ length f) where
   pub behind-end : length f ≤ j → BehindAt f j 0 false false
-  unfolding linesAt before afterwards cut
+  unfolding linesAt putBefore afterwards cut
   behind-end h = record { is = rw (drop-same f j, over f j h); place = omega arith }
 
   module _ (q : quoteFirst (drop j f) ≡ false) (h : j < length f) where
@@ -272,7 +272,7 @@ module _ (f : List ℕ) (j : ℕ) (p : j ≤ length f) where
 
     module _ (k : ℕ) (n : getD f j 0 ≡ 0x2C → ⊥) (e : k ≡ j + 1) where
       pub behind-last : length f ≤ k → BehindAt f j 0 false true
-      unfolding before afterwards
+      unfolding putBefore afterwards
       behind-last l =
           let o : drop (j + 1) f ≡ [] = over f (j + 1) (omega arith) in
           record {
@@ -284,7 +284,7 @@ module _ (f : List ℕ) (j : ℕ) (p : j ≤ length f) where
 
       module _ (l : k < length f) where
         pub behind-crlf : (eqb (getD f j 0) 0x0D && eqb (getD f k 0) 0x0A) ≡ true → BehindAt f j 2 false false
-        unfolding before afterwards
+        unfolding putBefore afterwards
         behind-crlf t =
             let w = both (eqb (getD f j 0) 0x0D) (eqb (getD f k 0) 0x0A) t in
             record {
@@ -295,7 +295,7 @@ module _ (f : List ℕ) (j : ℕ) (p : j ≤ length f) where
             }
 
         pub behind-bad : (eqb (getD f j 0) 0x0D && eqb (getD f k 0) 0x0A) ≡ false → BehindAt f j 0 false true
-        unfolding before afterwards
+        unfolding putBefore afterwards
         behind-bad t = record {
           is = ap (linesAt Quote) (two-here f j k e l) ∙ read-bad (getD f j 0) no-quote (ne-eqb (getD f j 0) 0x2C n) (getD f k 0) (drop (j + 2) f) t;
           place = omega arith;
@@ -314,7 +314,7 @@ module _ (f : List ℕ) (s e : ℕ) (c : e ≡ s + closingAt false (drop s f)) (
 
 module _ (f : List ℕ) (i : ℕ) (p : i ≤ length f) where
   item-bad : linesAt Comma (drop i f) ≡ broken → ItemAt f i 0 0 0 false true
-  unfolding before afterwards
+  unfolding putBefore afterwards
   item-bad e = record { is = e; inside = omega arith; some = omega arith; moves = omega arith; place = omega arith }
 
   pub item-none : length f ≤ i → ItemAt f i 0 0 0 false true
@@ -349,9 +349,9 @@ module _ (f : List ℕ) (i : ℕ) (p : i ≤ length f) where
                   ∙ ap (more (λ is. is)) (inside-closed (drop s f) (closes f s e c k) ∙ ap (λ (d : List ℕ). grow w (suc t) (linesAt Quote d)) (onward f s e c k n o) ∙ ap (grow w (suc t)) (b .is)
                   ∙ grow-before w (suc t) m (afterwards goes bad (drop (n + m) f)))
                   ∙ skip-before (w ∷ []) (m + suc t) (afterwards goes bad (drop (n + m) f))
-                  ∙ ap (λ (u : ℕ). before (halved false (take u (drop s f)) ∷ []) (suc (m + suc t)) (afterwards goes bad (drop (n + m) f))) x
-                  ∙ ap (λ (u : ℕ). before (halved false (take (e - s) (drop s f)) ∷ []) u (afterwards goes bad (drop (n + m) f))) y
-                  ∙ ap (λ (u : ℕ). before (halved false (take (e - s) (drop s f)) ∷ []) (((e - s) + 2) + m) (afterwards goes bad (drop u f))) z;
+                  ∙ ap (λ (u : ℕ). putBefore (halved false (take u (drop s f)) ∷ []) (suc (m + suc t)) (afterwards goes bad (drop (n + m) f))) x
+                  ∙ ap (λ (u : ℕ). putBefore (halved false (take (e - s) (drop s f)) ∷ []) u (afterwards goes bad (drop (n + m) f))) y
+                  ∙ ap (λ (u : ℕ). putBefore (halved false (take (e - s) (drop s f)) ∷ []) (((e - s) + 2) + m) (afterwards goes bad (drop u f))) z;
               inside = omega arith;
               some = omega arith;
               moves = omega arith;

@@ -16,7 +16,7 @@ use Rattle.csv_rules.specs.Quote as Quoting
 use Rattle.csv_rules.specs.Kanji.{convertible}
 use Rattle.csv_rules.specs.Written.{halved}
 use Rattle.csv_rows.specs.Plain.{PlainItem}
-use Rattle.csv_rows.specs.Rows.{before, afterwards, notedItem, stretch, itemAt, Inside, ItemAt, Spans, RowIs}
+use Rattle.csv_rows.specs.Rows.{putBefore, afterwards, notedItem, itemBytes, itemAt, Inside, ItemAt, Spans, RowIs}
 use Rattle.csv_rows.proofs.Items.{before-before, drop-same}
 
 -- ---- the places noted
@@ -66,7 +66,7 @@ one-item w items m h (suc i) e = refl
 
 module _ (f a : List ℕ) (items : Items) (n s l : ℕ) (p : Spans f a items) (e : n ≡ length items) where
   each-on : (m : ℕ) → m < 45 → itemAt f (twoSet a n s l) m ≡ nth (items ++ (halved false (take l (drop s f)) ∷ [])) m
-  unfolding itemAt stretch
+  unfolding itemAt itemBytes
   each-on m h =
       let w = halved false (take l (drop s f)) in
       cases (eqb m n)
@@ -109,8 +109,8 @@ pub item-room : (f spans : List ℕ) (n : ℕ) → Inside f spans → n < 45 →
 item-room f spans n p h k = omega (arith, p .inside n h)
 
 pub item-is : (f spans : List ℕ) (n : ℕ)
-    → take ((getD spans (2 * n) 0 + getD spans (2 * n + 1) 0) - getD spans (2 * n) 0) (drop (getD spans (2 * n) 0) f) ≡ stretch f spans n
-unfolding stretch
+    → take ((getD spans (2 * n) 0 + getD spans (2 * n + 1) 0) - getD spans (2 * n) 0) (drop (getD spans (2 * n) 0) f) ≡ itemBytes f spans n
+unfolding itemBytes
 item-is f spans n = ap (λ (k : ℕ). take k (drop (getD spans (2 * n) 0) f)) (part-is (getD spans (2 * n) 0) (getD spans (2 * n + 1) 0))
 
 pub known-converts : (known c : Bool) → known ≡ true → true ≡ (known || c)
@@ -123,7 +123,7 @@ judged-converts f s l known r h e = rw h (e ∙ ap (λ (k : ℕ). convertible (h
 -- ---- the row
 pub record Reading (f : List ℕ) (at : ℕ) (known : Bool) (spans : List ℕ) (size count : ℕ) (good goes bad : Bool) : Type 0 where
   pub items : Items
-  pub is : cut (drop at f) ≡ before items size (afterwards goes bad (drop (at + size) f))
+  pub is : cut (drop at f) ≡ putBefore items size (afterwards goes bad (drop (at + size) f))
   pub counted : count ≡ length items
   pub converts : good ≡ (known || all convertible items)
   pub lies : Spans f spans items
@@ -134,21 +134,21 @@ pub record Reading (f : List ℕ) (at : ℕ) (known : Bool) (spans : List ℕ) (
 add-none : (m : ℕ) → m ≡ m + 0
 add-none m = omega arith
 
-before-none : (g : Items → Items) (c : Lines) → more g c ≡ before [] 0 (more g c)
-unfolding more before
+before-none : (g : Items → Items) (c : Lines) → more g c ≡ putBefore [] 0 (more g c)
+unfolding more putBefore
 before-none g end = refl
 before-none g broken = refl
 before-none g (line is m ls) = ap (λ (k : ℕ). line (g is) k ls) (add-none (suc m))
 
-row-begins : (b : ℕ) (s : List ℕ) → cut (b ∷ s) ≡ before [] 0 (linesAt Comma (b ∷ s))
-unfolding cut linesAt before
+row-begins : (b : ℕ) (s : List ℕ) → cut (b ∷ s) ≡ putBefore [] 0 (linesAt Comma (b ∷ s))
+unfolding cut linesAt putBefore
 row-begins b s = cases (eqb b 0x22) (λ e. rw (e, linesAt) (before-none (λ is. is) (linesAt Quoting.Inside s))) (λ e. rw (e, linesAt))
 
 none-noted : (a : List ℕ) (n : ℕ) → a ≡ replicate 90 0 → n < 90 → getD a n 0 ≡ 0
 none-noted a n e h = rw e (getD-replicate 90 n 0 0 h)
 
 none-each : (f a : List ℕ) → a ≡ replicate 90 0 → (n : ℕ) → n < 45 → itemAt f a n ≡ []
-unfolding itemAt stretch halved
+unfolding itemAt itemBytes halved
 none-each f a e n h = let y : getD a (2 * n + 1) 0 ≡ 0 = none-noted a (2 * n + 1) e (omega arith) in rw y
 
 none-inside : (f a : List ℕ) → a ≡ replicate 90 0 → (n : ℕ) → n < 45 → getD a (2 * n) 0 + getD a (2 * n + 1) 0 ≤ length f
@@ -164,7 +164,7 @@ row-starts f a at known h e = record {
   items = [];
   is =
       ap cut (here 0 f at h) ∙ row-begins (getD f at 0) (drop (at + 1) f)
-      ∙ ap (λ (s : List ℕ). before [] 0 (linesAt Comma s)) (sym (here 0 f at h) ∙ sym (drop-same f at));
+      ∙ ap (λ (s : List ℕ). putBefore [] 0 (linesAt Comma s)) (sym (here 0 f at h) ∙ sym (drop-same f at));
   counted = refl;
   converts = known-or known;
   lies = record { inside = record { size = rw e; inside = none-inside f a e }; each = none-each f a e };
@@ -173,8 +173,8 @@ row-starts f a at known h e = record {
   place = omega arith;
 }
 
-row-over : (is : Items) (n : ℕ) (s : List ℕ) (bad : Bool) → before is n (afterwards false bad s) ≡ cond bad broken (line is n (cut s))
-unfolding before afterwards
+row-over : (is : Items) (n : ℕ) (s : List ℕ) (bad : Bool) → putBefore is n (afterwards false bad s) ≡ cond bad broken (line is n (cut s))
+unfolding putBefore afterwards
 row-over is n s true = refl
 row-over is n s false = let q : 0 + n ≡ n = omega arith in rw (append-nil is, q)
 
@@ -211,7 +211,7 @@ module _ (f : List ℕ) (at : ℕ) (known : Bool) (a : List ℕ) (size count : �
       let k : 0 < (size + cond bad 1 0) + 0 = rw h at (p .moves) in
       record {
         items = p .items;
-        is = p .is ∙ ap (λ (g : Bool). before (p .items) size (afterwards g bad (drop (at + size) f))) h ∙ row-over (p .items) size (drop (at + size) f) bad;
+        is = p .is ∙ ap (λ (g : Bool). putBefore (p .items) size (afterwards g bad (drop (at + size) f))) h ∙ row-over (p .items) size (drop (at + size) f) bad;
         counted = p .counted;
         converts = p .converts;
         lies = p .lies;
@@ -230,18 +230,18 @@ module _ (f : List ℕ) (at : ℕ) (known : Bool) (a : List ℕ) (size count : �
     row-few l = omega (arith, row-half, p .place)
 
     module _ (s l m : ℕ) (g w : Bool) (t : ItemAt f (at + size) s l m g w) where
-      read-on : before (p .items) size (afterwards goes bad (drop (at + size) f))
-          ≡ before (p .items ++ (halved false (take l (drop s f)) ∷ [])) (size + m) (afterwards g w (drop (at + (size + m)) f))
+      read-on : putBefore (p .items) size (afterwards goes bad (drop (at + size) f))
+          ≡ putBefore (p .items ++ (halved false (take l (drop s f)) ∷ [])) (size + m) (afterwards g w (drop (at + (size + m)) f))
       unfolding afterwards
       read-on =
           let v = halved false (take l (drop s f)) in
           let x : m + size ≡ size + m = omega arith in
           let y : (at + size) + m ≡ at + (size + m) = omega arith in
-          ap (λ (o : Bool). before (p .items) size (afterwards o bad (drop (at + size) f))) h
-          ∙ ap (before (p .items) size) (t .is)
+          ap (λ (o : Bool). putBefore (p .items) size (afterwards o bad (drop (at + size) f))) h
+          ∙ ap (putBefore (p .items) size) (t .is)
           ∙ before-before (p .items) (v ∷ []) size m (afterwards g w (drop ((at + size) + m) f))
-          ∙ ap (λ (k : ℕ). before (p .items ++ (v ∷ [])) k (afterwards g w (drop ((at + size) + m) f))) x
-          ∙ ap (λ (k : ℕ). before (p .items ++ (v ∷ [])) (size + m) (afterwards g w (drop k f))) y
+          ∙ ap (λ (k : ℕ). putBefore (p .items ++ (v ∷ [])) k (afterwards g w (drop ((at + size) + m) f))) x
+          ∙ ap (λ (k : ℕ). putBefore (p .items ++ (v ∷ [])) (size + m) (afterwards g w (drop k f))) y
 
       pub row-room : length f < 18446744073709551616 → size + m < 18446744073709551616
       row-room k = omega (arith, t .place)

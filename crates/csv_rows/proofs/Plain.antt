@@ -12,7 +12,7 @@ use Rattle.rules.specs.Lists.{all}
 use Rattle.rules.specs.Shift.{within}
 use Rattle.rules.proofs.Logic.{cases, both, never}
 use Rattle.rules.proofs.Lists.{here, over}
-use Rattle.csv_rules.specs.Kanji.{lead, charactersAt, characters, good, convertible}
+use Rattle.csv_rules.specs.Kanji.{lead, charactersAt, characters, goodCharacter, convertible}
 use Rattle.csv_rules.specs.Written.{halved}
 use Rattle.sjis.specs.Items.{isClear}
 use Rattle.csv_rows.specs.Plain.{plainAt, commaAt, PlainItem}
@@ -30,11 +30,11 @@ low-no-lead b h =
     rw (lt-leb 0x81 b (omega arith), lt-leb 0xE0 b (omega arith))
 
 clear-converts : (b : ℕ) (s : List ℕ) → isClear b ≡ true → convertible (b ∷ s) ≡ convertible s
-unfolding convertible characters charactersAt all good
+unfolding convertible characters charactersAt all goodCharacter
 clear-converts b s h =
     let w = clear-parts b h in
     let n = low-no-lead b (w .0) in
-    rw (n, charactersAt, all, good, w .0)
+    rw (n, charactersAt, all, goodCharacter, w .0)
 
 -- ---- where the plain bytes end
 plain-some : (b : ℕ) (s : List ℕ) → isClear b ≡ true → plainAt (b ∷ s) ≡ suc (plainAt s)

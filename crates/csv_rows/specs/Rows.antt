@@ -6,12 +6,12 @@ use Prim.Native.Nat.{ℕ, zero, suc, _+_, _*_, _≤_, _<_}
 use lib.Dec.{eqb, ltb}
 use lib.ListN.{length, take, drop, getD, set}
 use Rattle.rules.specs.Lists.{nth, all}
-use Rattle.csv_rules.specs.Quote.{Comma, Quote, Items, Lines, end, broken, line, linesAt, cut, Line, linesIn}
+use Rattle.csv_rules.specs.Quote.{Comma, Quote, Items, Lines, end, broken, line, linesAt, cut, FileLine, linesIn}
 use Rattle.csv_rules.specs.Written.{halved}
 use Rattle.csv_rules.specs.Kanji.{convertible}
 
 -- the lines from a place on
-abbrev pub linesFrom : List ℕ → ℕ → List Line
+abbrev pub linesFrom : List ℕ → ℕ → List FileLine
 linesFrom f at = linesIn (cut (drop at f))
 
 -- how many bytes stand before the quote that closes an item: all where none does; true: a quote has just been read
@@ -26,10 +26,10 @@ quoteFirst [] = false
 quoteFirst (b ∷ s) = eqb b 0x22
 
 -- lines whose first has these items, and n bytes, before what is read of it next
-unfoldable pub before : Items → ℕ → Lines → Lines
-before is n end = broken
-before is n broken = broken
-before is n (line js m ls) = line (is ++ js) (m + n) ls
+unfoldable pub putBefore : Items → ℕ → Lines → Lines
+putBefore is n end = broken
+putBefore is n broken = broken
+putBefore is n (line js m ls) = line (is ++ js) (m + n) ls
 
 -- what is read after an item: more items; else nothing good, or the other lines
 unfoldable pub afterwards : Bool → Bool → List ℕ → Lines
@@ -43,11 +43,11 @@ unfoldable pub notedItem : ℕ → ℕ → ℕ → List ℕ → List ℕ
 notedItem n start len a = cond (ltb n 45) (set (set a (2 * n) start) (2 * n + 1) len) a
 
 -- the bytes of the n-th item, from 0, as they lie in the file f, and the item
-unfoldable pub stretch : List ℕ → List ℕ → ℕ → List ℕ
-stretch f spans n = take (getD spans (2 * n + 1) 0) (drop (getD spans (2 * n) 0) f)
+unfoldable pub itemBytes : List ℕ → List ℕ → ℕ → List ℕ
+itemBytes f spans n = take (getD spans (2 * n + 1) 0) (drop (getD spans (2 * n) 0) f)
 
 unfoldable pub itemAt : List ℕ → List ℕ → ℕ → List ℕ
-itemAt f spans n = halved false (stretch f spans n)
+itemAt f spans n = halved false (itemBytes f spans n)
 
 -- the items of a row, from the k-th on, and all 45
 unfoldable pub itemsFrom : List ℕ → List ℕ → ℕ → ℕ → Items
@@ -64,11 +64,11 @@ pub record Inside (f spans : List ℕ) : Type 0 where
 
 -- ---- what the code finds
 pub record BehindAt (f : List ℕ) (j size : ℕ) (goes bad : Bool) : Type 0 where
-  pub is : linesAt Quote (drop j f) ≡ before ([] ∷ []) size (afterwards goes bad (drop (j + size) f))
+  pub is : linesAt Quote (drop j f) ≡ putBefore ([] ∷ []) size (afterwards goes bad (drop (j + size) f))
   pub place : j + size ≤ length f
 
 pub record ItemAt (f : List ℕ) (i start len size : ℕ) (goes bad : Bool) : Type 0 where
-  pub is : linesAt Comma (drop i f) ≡ before (halved false (take len (drop start f)) ∷ []) size (afterwards goes bad (drop (i + size) f))
+  pub is : linesAt Comma (drop i f) ≡ putBefore (halved false (take len (drop start f)) ∷ []) size (afterwards goes bad (drop (i + size) f))
   pub inside : start + len ≤ length f
   pub some : 2 ≤ size + cond goes 0 2
   pub moves : 0 < size + cond bad 1 0

@@ -6,7 +6,7 @@ ghost use lib.ListN.{length, getD, take, drop};
 ghost use Rattle.csv_rules.specs.Kanji.{convertible};
 ghost use Rattle.csv_rules.specs.Written.{halved};
 ghost use Rattle.csv_rows.specs.Plain.{plainAt, commaAt, PlainItem};
-ghost use Rattle.csv_rows.specs.Rows.{closingAt, quoteFirst, notedItem, stretch, Inside, BehindAt, ItemAt, RowIs};
+ghost use Rattle.csv_rows.specs.Rows.{closingAt, quoteFirst, notedItem, itemBytes, Inside, BehindAt, ItemAt, RowIs};
 
 // What stands behind an item's closing quote: its bytes; whether another item follows; whether the quoting is broken.
 struct Behind {
@@ -17,7 +17,7 @@ struct Behind {
 
 // An item at a place: where its bytes stand in the file, quotes doubled; its bytes with quotes, and comma or CR LF. plain: each byte is seen to
 // stand alone, so that the item converts.
-struct Found {
+struct ItemFound {
     start: usize,
     len: usize,
     size: usize,
@@ -27,7 +27,7 @@ struct Found {
 }
 
 // No item stands there.
-const NONE: Found = Found {
+const NONE: ItemFound = ItemFound {
     start: 0,
     len: 0,
     size: 0,
@@ -140,7 +140,7 @@ fn comma_at(file: &[u8], p: usize) -> bool
 }
 
 // The item whose opening quote stands at a place, and whose bytes are plain up to p.
-fn item_past(file: &[u8], i: usize, p: usize) -> Found
+fn item_past(file: &[u8], i: usize, p: usize) -> ItemFound
     requires { ⌜ (i < length (now file)) × (getD (now file) i 0 ≡ 0x22) × (p ≡ (i + 1) + plainAt (drop (i + 1) (now file))) × (p ≤ length (now file)) ⌝ }
     ensures { λ r. ⌜ ItemAt (now (file .entry)) i (r .start) (r .len) (r .size) (r .goes) (r .bad) ⌝ }
     ensures plain { λ r. ⌜ PlainItem (now (file .entry)) (r .start) (r .len) (r .plain) ⌝ }
@@ -151,7 +151,7 @@ fn item_past(file: &[u8], i: usize, p: usize) -> Found
         return NONE;
     }
     let b = after_close(file, e + 1);
-    Found {
+    ItemFound {
         start: s,
         len: e - s,
         size: e - s + 2 + b.size,
@@ -162,7 +162,7 @@ fn item_past(file: &[u8], i: usize, p: usize) -> Found
 }
 
 // The item at a place. Plain bytes that a quote and a comma close, or none, as most items are, are seen at once.
-fn next_item(file: &[u8], i: usize) -> Found
+fn next_item(file: &[u8], i: usize) -> ItemFound
     requires { ⌜ i ≤ length (now file) ⌝ }
     ensures { λ r. ⌜ ItemAt (now (file .entry)) i (r .start) (r .len) (r .size) (r .goes) (r .bad) ⌝ }
     ensures plain { λ r. ⌜ PlainItem (now (file .entry)) (r .start) (r .len) (r .plain) ⌝ }
@@ -176,7 +176,7 @@ fn next_item(file: &[u8], i: usize) -> Found
     let s = i + 1;
     let p = plain_end(file, s);
     if comma_at(file, p) {
-        return Found {
+        return ItemFound {
             start: s,
             len: p - s,
             size: p - s + 3,
@@ -203,7 +203,7 @@ fn note(spans: &mut [usize; 90], n: usize, start: usize, len: usize) -> usize
 // The bytes of the n-th item, from 0, as they lie in the file.
 pub fn item<'a>(file: &'a [u8], spans: &[usize; 90], n: usize) -> &'a [u8]
     requires { ⌜ Inside (now file) (now spans) × (n < 45) ⌝ }
-    ensures { λ r. ⌜ now r ≡ stretch (now (file .entry)) (now (spans .entry)) n ⌝ }
+    ensures { λ r. ⌜ now r ≡ itemBytes (now (file .entry)) (now (spans .entry)) n ⌝ }
 {
     let start = spans[2 * n];
     let len = spans[2 * n + 1];

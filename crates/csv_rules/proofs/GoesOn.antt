@@ -5,13 +5,14 @@ use Prim.Native.Nat.{ℕ}
 use lib.Dec.{ltb}
 use lib.ListN.{length, drop}
 use Rattle.rules.specs.Told.{gives}
+use Rattle.rules.specs.Fetch.{ordinal}
 use Rattle.rules.specs.Row.{Row}
 use Rattle.rules.specs.Sheet.{sheetOf, readSheet}
 use Rattle.rules.specs.Message.{base}
 use Rattle.rules.proofs.Logic.{toldCases, guard, not-given}
 use Rattle.returns.proofs.Demand2.{sheet-is-written, sheet-returns, base-ok, by-base}
 use Rattle.csv_rules.specs.Quote.{cut, isBroken}
-use Rattle.csv_rules.specs.Sheets.{Run, Given, rowsOf, sheetTold, csvTold, ordinal, csvSheet, firstTold, runsFrom, csvNext}
+use Rattle.csv_rules.specs.Sheets.{Run, Given, sheetRows, runTold, csvTold, csvSheet, firstTold, runsFrom, csvNext}
 use Rattle.csv_rules.specs.Claims.{GoesOn, SheetGoesOn, NextGoesOn}
 
 accepted-goes-on : (s : List ℕ) (rows : List Row) → readSheet s ≡ gives rows → GoesOn s
@@ -21,10 +22,10 @@ accepted-goes-on s rows h =
       returned = λ m room e. sheet-returns base base-ok s m room (by-base s room ∙ e);
     }
 
-sheet-goes-on-from : (g : Given) (u : Run) (room : ℕ) (s : List ℕ) → sheetTold g u room ≡ gives s → GoesOn s
-unfolding sheetTold
+sheet-goes-on-from : (g : Given) (u : Run) (room : ℕ) (s : List ℕ) → runTold g u room ≡ gives s → GoesOn s
+unfolding runTold
 sheet-goes-on-from g u room s h =
-    let t = sheetOf (rowsOf g u) in
+    let t = sheetOf (sheetRows g u) in
     toldCases (readSheet t)
     (λ rows e.
     let q = guard 45 0 0 (ltb room (length t)) (gives t) s (rw e at h) in

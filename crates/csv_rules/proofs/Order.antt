@@ -10,12 +10,13 @@ use lib.ListN.{length, take, drop, take-append-drop, drop-of-length-le, length-d
 use lib.Seq.{drop-drop}
 use Rattle.rules.specs.Told.{gives, refused, _>>=_}
 use Rattle.rules.specs.Lists.{all, any, onto}
+use Rattle.rules.specs.Fetch.{ordinal}
 use Rattle.rules.proofs.Logic.{cases, listCases, guard, neither}
 use Rattle.rules.proofs.Lists.{take-own, drop-own, all-first, any-first}
-use Rattle.csv_rules.specs.Quote.{Stand, Begins, Comma, Inside, Quote, Cr, Items, Lines, end, broken, line, more, linesAt, cut, isBroken, Line, linesIn}
-use Rattle.csv_rules.specs.Count.{counted}
-use Rattle.csv_rules.specs.Sheets.{sameNumber, clash, differ, Run, rowsIn, joinRun, runs, returns, rowConverts, csvTold, Given, sheetTold, ordinal, csvSheet, sizes, firstRow, firstTold, runsFrom, csvNext, behind, placeAfter}
-use Rattle.csv_rules.specs.Claims.{Follows, InOrder, placeOf, SheetByPlace}
+use Rattle.csv_rules.specs.Quote.{Stand, Begins, Comma, Inside, Quote, Cr, Items, Lines, end, broken, line, more, linesAt, cut, isBroken, FileLine, linesIn}
+use Rattle.csv_rules.specs.Count.{wellCounted}
+use Rattle.csv_rules.specs.Sheets.{sameNumber, clash, differ, Run, runLines, joinRun, runs, returns, rowConverts, csvTold, Given, runTold, csvSheet, bytesIn, firstRow, firstTold, runsFrom, csvNext, behindRun, placeAfter}
+use Rattle.csv_rules.specs.Claims.{Follows, SheetsInOrder, placeOf, SheetByPlace}
 
 -- ---- behind a line begin the lines after it
 unfoldable Rest : List ℕ → Lines → Type 0
@@ -59,32 +60,32 @@ pub record Behind (c : Lines) (k : ℕ) (rest : Lines) : Type 0 where
   pub rows : linesIn rest ≡ drop k (linesIn c)
   pub good : isBroken rest ≡ isBroken c
 
-pub skip : (k : ℕ) (s : List ℕ) (c : Lines) → cut s ≡ c → Behind c k (cut (drop (sizes (take k (linesIn c))) s))
-unfolding sizes linesIn isBroken
+pub skip : (k : ℕ) (s : List ℕ) (c : Lines) → cut s ≡ c → Behind c k (cut (drop (bytesIn (take k (linesIn c))) s))
+unfolding bytesIn linesIn isBroken
 skip zero s c e = record { rows = ap linesIn e; good = ap isBroken e }
 skip (suc k) s end e = record { rows = ap linesIn e; good = ap isBroken e }
 skip (suc k) s broken e = record { rows = ap linesIn e; good = ap isBroken e }
 skip (suc k) s (line is n ls) e =
     let h = skip k (drop n s) ls (rest-cut s is n ls e) in
-    let d = drop-drop (sizes (take k (linesIn ls))) n s in
+    let d = drop-drop (bytesIn (take k (linesIn ls))) n s in
     record { rows = rw d at (h .rows); good = rw d at (h .good) }
 
 -- ---- the first run of some rows, and the runs of the others
-pub record First (rows : List Line) (u : Run) (us : List Run) : Type 0 where
-  pub rest : List Line
-  pub is : rows ≡ rowsIn u ++ rest
+pub record First (rows : List FileLine) (u : Run) (us : List Run) : Type 0 where
+  pub rest : List FileLine
+  pub is : rows ≡ runLines u ++ rest
   pub later : runs rest ≡ us
 
-abbrev alone : Line → Run
+abbrev alone : FileLine → Run
 alone r = record { row = r; others = [] }
 
-abbrev with-run : Line → Run → Run
-with-run r w = record { row = r; others = rowsIn w }
+abbrev with-run : FileLine → Run → Run
+with-run r w = record { row = r; others = runLines w }
 
 no-run : {A P : Type 0} {x : A} {s : List A} → [] ≡ x ∷ s → P
 no-run h = let z : _≡_ {A = ℕ} 0 1 = cc in absurd (omega arith)
 
-first-joined : (r : Line) (rs : List Line) (us : List Run) → runs rs ≡ us → ((w : Run) (ws : List Run) → runs rs ≡ w ∷ ws → First rs w ws)
+first-joined : (r : FileLine) (rs : List FileLine) (us : List Run) → runs rs ≡ us → ((w : Run) (ws : List Run) → runs rs ≡ w ∷ ws → First rs w ws)
     → (u : Run) (later : List Run) → joinRun r us ≡ u ∷ later → First (r ∷ rs) u later
 unfolding joinRun
 first-joined r rs [] e f u later h =
@@ -98,14 +99,14 @@ first-joined r rs (w ∷ ws) e f u later h =
     let q : with-run r w ≡ u = cc in
     let l : ws ≡ later = cc in
     let F = f w ws e in
-    record { rest = F .rest; is = rw (← q) (ap (λ (x : List Line). r ∷ x) (F .is)); later = F .later ∙ l })
+    record { rest = F .rest; is = rw (← q) (ap (λ (x : List FileLine). r ∷ x) (F .is)); later = F .later ∙ l })
     (λ s.
     let k : alone r ∷ (w ∷ ws) ≡ u ∷ later = rw (s, joinRun) at h in
     let q : alone r ≡ u = cc in
     let l : w ∷ ws ≡ later = cc in
     record { rest = rs; is = rw (← q); later = e ∙ l })
 
-pub first-run : (rows : List Line) (u : Run) (us : List Run) → runs rows ≡ u ∷ us → First rows u us
+pub first-run : (rows : List FileLine) (u : Run) (us : List Run) → runs rows ≡ u ∷ us → First rows u us
 unfolding runs
 first-run [] u us h = no-run h
 first-run (r ∷ rs) u us h = first-joined r rs (runs rs) refl (λ w ws e. first-run rs w ws e) u us h
@@ -127,7 +128,7 @@ any-parts p (x ∷ a) b h =
     let r = any-parts p a b (q .1) in
     (rw (q .0, any) (r .0), r .1)
 
-pub differ-parts : (a b : List Line) → differ (a ++ b) ≡ false → (differ a ≡ false) × (differ b ≡ false)
+pub differ-parts : (a b : List FileLine) → differ (a ++ b) ≡ false → (differ a ≡ false) × (differ b ≡ false)
 unfolding differ
 differ-parts [] b h = (refl, h)
 differ-parts (r ∷ a) b h =
@@ -137,41 +138,41 @@ differ-parts (r ∷ a) b h =
 
 -- ---- the claim
 -- what stands from a place on, of a file that 50 to 54 don't refuse: these rows, and these runs
-record From (file : List ℕ) (at : ℕ) (rows : List Line) (us : List Run) : Type 0 where
+record From (file : List ℕ) (at : ℕ) (rows : List FileLine) (us : List Run) : Type 0 where
   lines : linesIn (cut (drop at file)) ≡ rows
   good : isBroken (cut (drop at file)) ≡ false
   convert : all rowConverts rows ≡ true
   agree : differ rows ≡ false
   runs-are : runs rows ≡ us
 
-from-runs : (file : List ℕ) (at : ℕ) (rows : List Line) (us : List Run) → From file at rows us → runsFrom file at ≡ us
+from-runs : (file : List ℕ) (at : ℕ) (rows : List FileLine) (us : List Run) → From file at rows us → runsFrom file at ≡ us
 unfolding runsFrom
 from-runs file at rows us F = ap runs (F .lines) ∙ F .runs-are
 
-from-next : (file : List ℕ) (at : ℕ) (rows : List Line) (u : Run) (us : List Run) → From file at rows (u ∷ us)
+from-next : (file : List ℕ) (at : ℕ) (rows : List FileLine) (u : Run) (us : List Run) → From file at rows (u ∷ us)
     → (X : First rows u us) → From file (placeAfter file at) (X .rest) us
-unfolding placeAfter behind
+unfolding placeAfter behindRun
 from-next file at rows u us F X =
     let c = cut (drop at file) in
-    let n = length (rowsIn u) in
-    let t : take n (linesIn c) ≡ rowsIn u = ap (take n) (F .lines ∙ X .is) ∙ take-own (rowsIn u) (X .rest) in
-    let d : drop n (linesIn c) ≡ X .rest = ap (drop n) (F .lines ∙ X .is) ∙ drop-own (rowsIn u) (X .rest) in
-    let B : Behind c n (cut (drop (at + sizes (rowsIn u)) file)) = rw (t, drop-drop (sizes (rowsIn u)) at file) at (skip n (drop at file) c refl) in
+    let n = length (runLines u) in
+    let t : take n (linesIn c) ≡ runLines u = ap (take n) (F .lines ∙ X .is) ∙ take-own (runLines u) (X .rest) in
+    let d : drop n (linesIn c) ≡ X .rest = ap (drop n) (F .lines ∙ X .is) ∙ drop-own (runLines u) (X .rest) in
+    let B : Behind c n (cut (drop (at + bytesIn (runLines u)) file)) = rw (t, drop-drop (bytesIn (runLines u)) at file) at (skip n (drop at file) c refl) in
     rw (from-runs file at rows (u ∷ us) F) (record {
       lines = B .rows ∙ d;
       good = B .good ∙ F .good;
-      convert = all-parts rowConverts (rowsIn u) (X .rest) (rw (X .is) at (F .convert)) .1;
-      agree = differ-parts (rowsIn u) (X .rest) (rw (X .is) at (F .agree)) .1;
+      convert = all-parts rowConverts (runLines u) (X .rest) (rw (X .is) at (F .convert)) .1;
+      agree = differ-parts (runLines u) (X .rest) (rw (X .is) at (F .agree)) .1;
       runs-are = X .later;
     })
 
-follows : (file : List ℕ) (us : List Run) (at : ℕ) (rows : List Line) → From file at rows us → Follows file at us
+follows : (file : List ℕ) (us : List Run) (at : ℕ) (rows : List FileLine) → From file at rows us → Follows file at us
 unfolding Follows csvNext firstTold
 follows file [] at rows F = λ g room. rw (from-runs file at rows [] F, F .good)
 follows file (u ∷ us) at rows F =
     let X = first-run rows u us (F .runs-are) in
-    let c = all-parts rowConverts (rowsIn u) (X .rest) (rw (X .is) at (F .convert)) .0 in
-    let d = differ-parts (rowsIn u) (X .rest) (rw (X .is) at (F .agree)) .0 in
+    let c = all-parts rowConverts (runLines u) (X .rest) (rw (X .is) at (F .convert)) .0 in
+    let d = differ-parts (runLines u) (X .rest) (rw (X .is) at (F .agree)) .0 in
     (λ g room. rw (from-runs file at rows (u ∷ us) F, c, d), follows file us (placeAfter file at) (X .rest) (from-next file at rows u us F X))
 
 -- a file that gives runs breaks none of 50 to 54
@@ -189,8 +190,8 @@ fine file us h =
     let e = cond (returns (runs rows)) (refused 54 0 0) (gives (runs rows)) in
     let d = cond (differ rows) (refused 53 0 0) e in
     let c = cond (not (all rowConverts ls)) (refused 52 0 0) d in
-    let g50 = guard 50 0 0 (isBroken (cut file)) (cond (not (counted ls)) (refused 51 0 0) c) us h in
-    let g51 = guard 51 0 0 (not (counted ls)) c us (g50 .1) in
+    let g50 = guard 50 0 0 (isBroken (cut file)) (cond (not (wellCounted ls)) (refused 51 0 0) c) us h in
+    let g51 = guard 51 0 0 (not (wellCounted ls)) c us (g50 .1) in
     let g52 = guard 52 0 0 (not (all rowConverts ls)) d us (g51 .1) in
     let g53 = guard 53 0 0 (differ rows) e us (g52 .1) in
     let g54 = guard 54 0 0 (returns (runs rows)) (gives (runs rows)) us (g53 .1) in
@@ -210,7 +211,7 @@ from-first file us h =
       runs-are = F .is;
     }
 
-pub in-order : InOrder
+pub in-order : SheetsInOrder
 in-order file us h = follows file us (firstRow file) (drop 2 (linesIn (cut file))) (from-first file us h)
 
 -- ---- the which-th sheet by its place
@@ -219,12 +220,12 @@ from-end : (file : List ℕ) → From file (length file) [] []
 unfolding cut linesAt linesIn isBroken all differ runs
 from-end file = let e = drop-of-length-le file {i = length file} (omega arith) in record { lines = rw e; good = rw e; convert = refl; agree = refl; runs-are = refl }
 
-none-next : (file : List ℕ) (at : ℕ) (rows : List Line) → From file at rows [] → placeAfter file at ≡ length file
-unfolding placeAfter behind
+none-next : (file : List ℕ) (at : ℕ) (rows : List FileLine) → From file at rows [] → placeAfter file at ≡ length file
+unfolding placeAfter behindRun
 none-next file at rows F = rw (from-runs file at rows [] F)
 
-by-place : (n : ℕ) (file : List ℕ) (us : List Run) (at : ℕ) (rows : List Line) → From file at rows us → (g : Given) (room : ℕ)
-    → csvNext file (placeOf file at n) g room ≡ (ordinal us (suc n) >>= λ u. sheetTold g u room)
+by-place : (n : ℕ) (file : List ℕ) (us : List Run) (at : ℕ) (rows : List FileLine) → From file at rows us → (g : Given) (room : ℕ)
+    → csvNext file (placeOf file at n) g room ≡ (ordinal us (suc n) >>= λ u. runTold g u room)
 unfolding placeOf ordinal Follows
 by-place zero file [] at rows F g room = follows file [] at rows F g room
 by-place zero file (u ∷ us) at rows F g room = follows file (u ∷ us) at rows F .0 g room
@@ -238,14 +239,14 @@ unfolding csvSheet
 sheet-by-place file us h n g room = rw h (sym (by-place n file us (firstRow file) (drop 2 (linesIn (cut file))) (from-first file us h) g room))
 
 -- ---- a place lies in the file, and behind the one before
-grown : (f : Items → Items) (c : Lines) (n : ℕ) → sizes (linesIn c) ≤ n → sizes (linesIn (more f c)) ≤ suc n
-unfolding more linesIn sizes
+grown : (f : Items → Items) (c : Lines) (n : ℕ) → bytesIn (linesIn c) ≤ n → bytesIn (linesIn (more f c)) ≤ suc n
+unfolding more linesIn bytesIn
 grown f end n h = omega arith
 grown f broken n h = omega arith
 grown f (line is k ls) n h = omega arith
 
-pub sizes-at : (a : Stand) (s : List ℕ) → sizes (linesIn (linesAt a s)) ≤ length s
-unfolding linesAt linesIn sizes
+pub sizes-at : (a : Stand) (s : List ℕ) → bytesIn (linesIn (linesAt a s)) ≤ length s
+unfolding linesAt linesIn bytesIn
 sizes-at Begins [] = omega arith
 sizes-at Comma [] = omega arith
 sizes-at Inside [] = omega arith
@@ -265,19 +266,19 @@ sizes-at Quote (b ∷ s) =
     cases (eqb b 0x0D) (λ g. rw (e, f, g, linesAt) (grown (λ is. is) (linesAt Cr s) (length s) (sizes-at Cr s))) (λ g. rw (e, f, g, linesAt) (omega arith))))
 sizes-at Cr (b ∷ s) = cases (eqb b 0x0A) (λ e. rw (e, linesAt) (omega (arith, sizes-at Begins s))) (λ e. rw (e, linesAt) (omega arith))
 
-pub sizes-append : (a b : List Line) → sizes (a ++ b) ≡ sizes a + sizes b
-unfolding sizes
+pub sizes-append : (a b : List FileLine) → bytesIn (a ++ b) ≡ bytesIn a + bytesIn b
+unfolding bytesIn
 sizes-append [] b = omega arith
 sizes-append (l ∷ a) b = omega (arith, sizes-append a b)
 
 -- a line that is there has bytes
-more-bytes : (f : Items → Items) (c : Lines) (l : Line) (ls : List Line) → linesIn (more f c) ≡ l ∷ ls → 1 ≤ l .size
+more-bytes : (f : Items → Items) (c : Lines) (l : FileLine) (ls : List FileLine) → linesIn (more f c) ≡ l ∷ ls → 1 ≤ l .size
 unfolding more linesIn
 more-bytes f end l ls h = no-run h
 more-bytes f broken l ls h = no-run h
-more-bytes f (line is n ms) l ls h = let e : (record { items = f is; size = suc n }) ≡ l = cc in let z : suc n ≡ l .size = ap (λ (x : Line). x .size) e in omega arith
+more-bytes f (line is n ms) l ls h = let e : (record { items = f is; size = suc n }) ≡ l = cc in let z : suc n ≡ l .size = ap (λ (x : FileLine). x .size) e in omega arith
 
-pub some-bytes : (s : List ℕ) (l : Line) (ls : List Line) → linesIn (cut s) ≡ l ∷ ls → 1 ≤ l .size
+pub some-bytes : (s : List ℕ) (l : FileLine) (ls : List FileLine) → linesIn (cut s) ≡ l ∷ ls → 1 ≤ l .size
 unfolding cut linesAt linesIn
 some-bytes [] l ls h = no-run h
 some-bytes (b ∷ s) l ls h =
@@ -285,17 +286,17 @@ some-bytes (b ∷ s) l ls h =
 
 -- the place behind a run
 run-place : (file : List ℕ) (at : ℕ) (u : Run) (us : List Run) → runsFrom file at ≡ u ∷ us → (at < placeAfter file at) × (placeAfter file at ≤ length file)
-unfolding runsFrom placeAfter behind sizes cut
+unfolding runsFrom placeAfter behindRun bytesIn cut
 run-place file at u us h =
     let X = first-run (linesIn (cut (drop at file))) u us h in
     let one = some-bytes (drop at file) (u .row) (u .others ++ X .rest) (X .is) in
     let all = sizes-at Begins (drop at file) in
-    let sum = ap sizes (X .is) ∙ sizes-append (rowsIn u) (X .rest) in
+    let sum = ap bytesIn (X .is) ∙ sizes-append (runLines u) (X .rest) in
     let len = length-drop at file in
     rw h (omega (arith, one, all, sum, len), omega (arith, one, all, sum, len))
 
 pub place-within : (file : List ℕ) (at : ℕ) → placeAfter file at ≤ length file
-unfolding placeAfter behind
+unfolding placeAfter behindRun
 place-within file at =
     listCases (runsFrom file at) (λ e. rw e (omega arith)) (λ u us e. run-place file at u us e .1)
 

@@ -9,7 +9,7 @@ use lib.Dec.{eqb}
 use Rattle.rules.specs.Lists.{onto, join, led}
 use Rattle.rules.proofs.Logic.{cases, never}
 use Rattle.csv_rules.specs.Quote.{Stand, Begins, Comma, Inside, Quote, Cr, Items, Lines, end, broken, line, more, linesAt, cut, isBroken, linesIn}
-use Rattle.csv_rules.specs.Written.{doubled, quoted, lineText, Spells, nothing, unended, ended}
+use Rattle.csv_rules.specs.Written.{quotesDoubled, quoted, quotedLine, Spells, nothing, unended, ended}
 use Rattle.csv_rules.specs.Claims.{itemsIn, SpelledIsRead, ReadIsSpelled}
 
 -- ---- what is spelled is read
@@ -22,15 +22,15 @@ one-more : (f : Items → Items) (c : Lines) (is : Items) (ls : Lines) → Is c 
 unfolding more
 one-more f c is ls I = record { size = suc (I .size); are = rw (I .are) }
 
-inside-doubled : (i z : List ℕ) (is : Items) (ls : Lines) → Is (linesAt Quote z) ([] ∷ is) ls → Is (linesAt Inside (doubled i ++ z)) (i ∷ is) ls
-unfolding doubled linesAt onto
+inside-doubled : (i z : List ℕ) (is : Items) (ls : Lines) → Is (linesAt Quote z) ([] ∷ is) ls → Is (linesAt Inside (quotesDoubled i ++ z)) (i ∷ is) ls
+unfolding quotesDoubled linesAt onto
 inside-doubled [] z is ls I = one-more (λ x. x) (linesAt Quote z) ([] ∷ is) ls I
 inside-doubled (b ∷ i) z is ls I =
-    let c = linesAt Inside (doubled i ++ z) in
+    let c = linesAt Inside (quotesDoubled i ++ z) in
     let J = inside-doubled i z is ls I in
     cases (eqb b 0x22)
-    (λ e. let q = eqb-true b 0x22 e in rw (e, doubled, q) (one-more (λ x. x) (more (onto 0x22) c) ((0x22 ∷ i) ∷ is) ls (one-more (onto 0x22) c (i ∷ is) ls J)))
-    (λ e. rw (e, doubled, e, linesAt) (one-more (onto b) c (i ∷ is) ls J))
+    (λ e. let q = eqb-true b 0x22 e in rw (e, quotesDoubled, q) (one-more (λ x. x) (more (onto 0x22) c) ((0x22 ∷ i) ∷ is) ls (one-more (onto 0x22) c (i ∷ is) ls J)))
+    (λ e. rw (e, quotesDoubled, e, linesAt) (one-more (onto b) c (i ∷ is) ls J))
 
 -- the items after one, and what follows them
 quote-led : (is : Items) (t : List ℕ) (ls : Lines) → Is (linesAt Quote t) ([] ∷ []) ls → Is (linesAt Quote (led 0x2C (map quoted is) ++ t)) ([] ∷ is) ls
@@ -38,17 +38,17 @@ unfolding linesAt led quoted
 quote-led [] t ls I = I
 quote-led (i ∷ is) t ls I =
     let z = led 0x2C (map quoted is) ++ t in
-    let c = linesAt Inside (doubled i ++ z) in
+    let c = linesAt Inside (quotesDoubled i ++ z) in
     let J : Is c (i ∷ is) ls = inside-doubled i z is ls (quote-led is t ls I) in
-    rw (append-assoc (doubled i) (led 0x2C (map quoted is)) t)
+    rw (append-assoc (quotesDoubled i) (led 0x2C (map quoted is)) t)
     (one-more (λ (x : Items). [] ∷ x) (more (λ x. x) c) (i ∷ is) ls (one-more (λ x. x) c (i ∷ is) ls J))
 
-line-read : (i : List ℕ) (is : Items) (t : List ℕ) (ls : Lines) → Is (linesAt Quote t) ([] ∷ []) ls → Is (cut (lineText (i ∷ is) ++ t)) (i ∷ is) ls
-unfolding cut linesAt lineText join quoted
+line-read : (i : List ℕ) (is : Items) (t : List ℕ) (ls : Lines) → Is (linesAt Quote t) ([] ∷ []) ls → Is (cut (quotedLine (i ∷ is) ++ t)) (i ∷ is) ls
+unfolding cut linesAt quotedLine join quoted
 line-read i is t ls I =
     let z = led 0x2C (map quoted is) ++ t in
-    rw (append-assoc (doubled i) (led 0x2C (map quoted is)) t)
-    (one-more (λ x. x) (linesAt Inside (doubled i ++ z)) (i ∷ is) ls (inside-doubled i z is ls (quote-led is t ls I)))
+    rw (append-assoc (quotesDoubled i) (led 0x2C (map quoted is)) t)
+    (one-more (λ x. x) (linesAt Inside (quotesDoubled i ++ z)) (i ∷ is) ls (inside-doubled i z is ls (quote-led is t ls I)))
 
 -- the end of a line: with CR LF, and without at the end of the file
 ends-here : Is (linesAt Quote []) ([] ∷ []) end
@@ -68,10 +68,10 @@ pub spelled-is-read : SpelledIsRead
 unfolding cut linesAt isBroken linesIn
 spelled-is-read ls s nothing = (refl, refl)
 spelled-is-read ls s (unended i is) =
-    as-read (cut (lineText (i ∷ is))) i is end [] (rw (append-nil (lineText (i ∷ is))) at (line-read i is [] end ends-here)) refl refl
+    as-read (cut (quotedLine (i ∷ is))) i is end [] (rw (append-nil (quotedLine (i ∷ is))) at (line-read i is [] end ends-here)) refl refl
 spelled-is-read ls s (ended i is ms t S) =
     let R = spelled-is-read ms t S in
-    as-read (cut (lineText (i ∷ is) ++ (0x0D ∷ 0x0A ∷ t))) i is (cut t) ms (line-read i is (0x0D ∷ 0x0A ∷ t) (cut t) (ends-line t)) (R .0) (R .1)
+    as-read (cut (quotedLine (i ∷ is) ++ (0x0D ∷ 0x0A ∷ t))) i is (cut t) ms (line-read i is (0x0D ∷ 0x0A ∷ t) (cut t) (ends-line t)) (R .0) (R .1)
 
 -- ---- what is read is spelled
 -- what follows a line's items: nothing, or CR LF and the other lines
@@ -85,7 +85,7 @@ record Found (x : List ℕ) (is : Items) (ls : Lines) : Type 0 where
   later : Items
   follows : List ℕ
   are : is ≡ item ∷ later
-  text : x ≡ doubled item ++ (led 0x2C (map quoted later) ++ follows)
+  text : x ≡ quotesDoubled item ++ (led 0x2C (map quoted later) ++ follows)
   ends : Ends follows ls
 
 -- what a reader has met, by where it stands
@@ -115,20 +115,20 @@ less f (line js k ms) is n ls h g =
 
 -- a byte b of an item
 found-byte : (b : ℕ) (x : List ℕ) (js is : Items) (ls : Lines) → eqb b 0x22 ≡ false → is ≡ onto b js → Found x js ls → Found (b ∷ x) is ls
-unfolding onto doubled
+unfolding onto quotesDoubled
 found-byte b x js is ls e q F =
     record {
       item = b ∷ F .item;
       later = F .later;
       follows = F .follows;
       are = q ∙ ap (onto b) (F .are);
-      text = rw (e, doubled) (ap (λ (z : List ℕ). b ∷ z) (F .text));
+      text = rw (e, quotesDoubled) (ap (λ (z : List ℕ). b ∷ z) (F .text));
       ends = F .ends;
     }
 
 -- two quotes are one
 found-quote : (x : List ℕ) (js is : Items) (ls : Lines) → is ≡ onto 0x22 js → Found x js ls → Found (0x22 ∷ 0x22 ∷ x) is ls
-unfolding onto doubled
+unfolding onto quotesDoubled
 found-quote x js is ls q F =
     record {
       item = 0x22 ∷ F .item;
@@ -141,20 +141,20 @@ found-quote x js is ls q F =
 
 -- an item is closed and another begins
 found-comma : (z : List ℕ) (js is : Items) (ls : Lines) → is ≡ [] ∷ js → Found z js ls → Found (0x22 ∷ 0x2C ∷ 0x22 ∷ z) is ls
-unfolding doubled led quoted
+unfolding quotesDoubled led quoted
 found-comma z js is ls q F =
     record {
       item = [];
       later = F .item ∷ F .later;
       follows = F .follows;
       are = q ∙ ap (λ (x : Items). [] ∷ x) (F .are);
-      text = ap (λ (x : List ℕ). 0x22 ∷ 0x2C ∷ 0x22 ∷ x) (F .text ∙ sym (append-assoc (doubled (F .item)) (led 0x2C (map quoted (F .later))) (F .follows)));
+      text = ap (λ (x : List ℕ). 0x22 ∷ 0x2C ∷ 0x22 ∷ x) (F .text ∙ sym (append-assoc (quotesDoubled (F .item)) (led 0x2C (map quoted (F .later))) (F .follows)));
       ends = F .ends;
     }
 
 -- the last item of a line is closed
 found-last : (t : List ℕ) (is : Items) (ls : Lines) → is ≡ [] ∷ [] → Ends t ls → Found (0x22 ∷ t) is ls
-unfolding doubled led
+unfolding quotesDoubled led
 found-last t is ls q E = record { item = []; later = []; follows = t; are = q; text = refl; ends = E }
 
 met : (a : Stand) (s : List ℕ) (is : Items) (n : ℕ) (ls : Lines) → linesAt a s ≡ line is n ls → Met a s is ls
@@ -207,11 +207,11 @@ record Line-of (s : List ℕ) (is : Items) (ls : Lines) : Type 0 where
   later : Items
   follows : List ℕ
   are : is ≡ item ∷ later
-  text : s ≡ lineText (item ∷ later) ++ follows
+  text : s ≡ quotedLine (item ∷ later) ++ follows
   ends : Ends follows ls
 
 line-of : (s : List ℕ) (is : Items) (n : ℕ) (ls : Lines) → cut s ≡ line is n ls → Line-of s is ls
-unfolding cut Met lineText join quoted
+unfolding cut Met quotedLine join quoted
 line-of s is n ls h =
     let M = met Begins s is n ls h in
     let F = M .2 in
@@ -220,7 +220,7 @@ line-of s is n ls h =
       later = F .later;
       follows = F .follows;
       are = F .are;
-      text = M .1 ∙ ap (λ (x : List ℕ). 0x22 ∷ x) (F .text ∙ sym (append-assoc (doubled (F .item)) (led 0x2C (map quoted (F .later))) (F .follows)));
+      text = M .1 ∙ ap (λ (x : List ℕ). 0x22 ∷ x) (F .text ∙ sym (append-assoc (quotesDoubled (F .item)) (led 0x2C (map quoted (F .later))) (F .follows)));
       ends = F .ends;
     }
 
@@ -239,13 +239,13 @@ end-is (b ∷ s) h =
     (λ e. let g : broken ≡ end = rw (e, linesAt) at h in let z : _≡_ {A = ℕ} 0 1 = cc in absurd (omega arith))
 
 spelled-after : (i : List ℕ) (is : Items) (t : List ℕ) (ls : Lines) → Ends t ls → isBroken ls ≡ false
-    → ((s : List ℕ) → cut s ≡ ls → isBroken ls ≡ false → Spells (itemsIn ls) s) → Spells ((i ∷ is) ∷ itemsIn ls) (lineText (i ∷ is) ++ t)
+    → ((s : List ℕ) → cut s ≡ ls → isBroken ls ≡ false → Spells (itemsIn ls) s) → Spells ((i ∷ is) ∷ itemsIn ls) (quotedLine (i ∷ is) ++ t)
 unfolding linesIn
-spelled-after i is t ls last b f = rw (append-nil (lineText (i ∷ is))) (unended i is)
+spelled-after i is t ls last b f = rw (append-nil (quotedLine (i ∷ is))) (unended i is)
 spelled-after i is t ls (crlf s) b f = ended i is (itemsIn (cut s)) s (f s refl b)
 
-spelled-as : (s : List ℕ) (is : Items) (ls : Lines) (i : List ℕ) (later : Items) (t : List ℕ) → is ≡ i ∷ later → s ≡ lineText (i ∷ later) ++ t
-    → Spells ((i ∷ later) ∷ itemsIn ls) (lineText (i ∷ later) ++ t) → Spells (is ∷ itemsIn ls) s
+spelled-as : (s : List ℕ) (is : Items) (ls : Lines) (i : List ℕ) (later : Items) (t : List ℕ) → is ≡ i ∷ later → s ≡ quotedLine (i ∷ later) ++ t
+    → Spells ((i ∷ later) ∷ itemsIn ls) (quotedLine (i ∷ later) ++ t) → Spells (is ∷ itemsIn ls) s
 spelled-as s is ls i later t e f S = rw (e, f) S
 
 spelled : (c : Lines) (s : List ℕ) → cut s ≡ c → isBroken c ≡ false → Spells (itemsIn c) s

@@ -18,7 +18,7 @@ use Rattle.rules.specs.Frame.{digit}
 use Rattle.rules.specs.Value.{numeric, point, unsigned, spelled, holds, tooLong, fault, fits}
 use Rattle.rules.proofs.Logic.{cases, both, either, never, and-false, or-true, not-true}
 use Rattle.rules.proofs.Lists.{same-eq, same-self, empty-is, all-first, all-cons, all-each}
-use Rattle.csv_rules.specs.Kanji.{lead, trail, first, second, isPair, Character, one, pair, charactersAt, characters, good, convertible, into, back, shifted, converted}
+use Rattle.csv_rules.specs.Kanji.{lead, trail, first, second, isPair, Character, one, pair, charactersAt, characters, goodCharacter, convertible, into, back, shifted, converted}
 use Rattle.csv_rules.specs.Quote.{Items}
 use Rattle.csv_rules.specs.Columns.{How, text, upToBlank, pastBlank, fifteen, blank, coded, typed, familyOf, givenOf, fifteenOf, meaningOf, typeOf, textAt, valueBy, Entry, columns, keys}
 use Rattle.csv_rules.specs.Sheets.{sameTexts, agree}
@@ -57,19 +57,19 @@ plain-blank : (l : ℕ) → isPair l 0x20 ≡ false
 unfolding isPair
 plain-blank l = and-false (lead l)
 
-characters-at : (o : Option ℕ) (a b : List ℕ) → all good (charactersAt o (a ++ (0x20 ∷ b))) ≡ true
+characters-at : (o : Option ℕ) (a b : List ℕ) → all goodCharacter (charactersAt o (a ++ (0x20 ∷ b))) ≡ true
     → charactersAt o (a ++ (0x20 ∷ b)) ≡ charactersAt o a ++ (one 0x20 ∷ characters b)
-unfolding charactersAt characters good
+unfolding charactersAt characters goodCharacter
 characters-at none [] b h = refl
-characters-at (some l) [] b h = never (sym (good-pair l 0x20 (all-first good (pair l 0x20) (characters b) h .0)) ∙ plain-blank l)
+characters-at (some l) [] b h = never (sym (good-pair l 0x20 (all-first goodCharacter (pair l 0x20) (characters b) h .0)) ∙ plain-blank l)
 characters-at none (x ∷ a) b h =
     cases (lead x)
     (λ e. rw (e, charactersAt) (characters-at (some x) a b (rw (e, charactersAt) at h)))
     (λ e.
-    let g : all good (one x ∷ charactersAt none (a ++ (0x20 ∷ b))) ≡ true = rw (e, charactersAt) at h in
-    rw (e, charactersAt) (ap (λ (r : List Character). one x ∷ r) (characters-at none a b (all-first good (one x) (charactersAt none (a ++ (0x20 ∷ b))) g .1))))
+    let g : all goodCharacter (one x ∷ charactersAt none (a ++ (0x20 ∷ b))) ≡ true = rw (e, charactersAt) at h in
+    rw (e, charactersAt) (ap (λ (r : List Character). one x ∷ r) (characters-at none a b (all-first goodCharacter (one x) (charactersAt none (a ++ (0x20 ∷ b))) g .1))))
 characters-at (some l) (t ∷ a) b h =
-    ap (λ (r : List Character). pair l t ∷ r) (characters-at none a b (all-first good (pair l t) (charactersAt none (a ++ (0x20 ∷ b))) h .1))
+    ap (λ (r : List Character). pair l t ∷ r) (characters-at none a b (all-first goodCharacter (pair l t) (charactersAt none (a ++ (0x20 ∷ b))) h .1))
 
 shifted-at : (two : Bool) (cs ds : List Character) → shifted two (cs ++ (one 0x20 ∷ ds)) ≡ shifted two cs ++ (0x20 ∷ shifted false ds)
 unfolding shifted
@@ -88,10 +88,10 @@ parted : (a b : List ℕ) → convertible (a ++ (0x20 ∷ b)) ≡ true → Parte
 unfolding convertible converted characters
 parted a b h =
     let e = characters-at none a b h in
-    let p = all-parts good (characters a) (one 0x20 ∷ characters b) (rw e at h) in
+    let p = all-parts goodCharacter (characters a) (one 0x20 ∷ characters b) (rw e at h) in
     record {
       left = p .0;
-      right = all-first good (one 0x20) (characters b) (p .1) .1;
+      right = all-first goodCharacter (one 0x20) (characters b) (p .1) .1;
       is = ap (shifted false) e ∙ shifted-at false (characters a) (characters b);
     }
 
@@ -102,25 +102,25 @@ solid b = not (eqb b 0x20)
 solid-from : (b : ℕ) → 0x21 ≤ b → solid b ≡ true
 solid-from b h = ap not (ne-eqb b 0x20 (omega arith))
 
-pair-solid : (l t : ℕ) (s : List ℕ) → good (pair l t) ≡ true → all solid s ≡ true → all solid (first l t ∷ second t ∷ s) ≡ true
+pair-solid : (l t : ℕ) (s : List ℕ) → goodCharacter (pair l t) ≡ true → all solid s ≡ true → all solid (first l t ∷ second t ∷ s) ≡ true
 pair-solid l t s h k =
     let q = every-pair l t (good-pair l t h) in
     let a = in-bounds 0x21 0x7E (first l t) (q .0) in
     let b = in-bounds 0x21 0x7E (second t) (q .1) in
     rw (all-cons solid (first l t) (second t ∷ s), all-cons solid (second t) s, solid-from (first l t) (a .0), solid-from (second t) (b .0), k)
 
-shifted-solid : (two : Bool) (cs : List Character) → all good cs ≡ true → all solid (bytesOf cs) ≡ true → all solid (shifted two cs) ≡ true
+shifted-solid : (two : Bool) (cs : List Character) → all goodCharacter cs ≡ true → all solid (bytesOf cs) ≡ true → all solid (shifted two cs) ≡ true
 unfolding shifted bytesOf all
 shifted-solid true [] h k = refl
 shifted-solid false [] h k = refl
 shifted-solid true (one b ∷ cs) h k =
     let q = all-first solid b (bytesOf cs) k in
-    rw (q .0, all) (shifted-solid false cs (all-first good (one b) cs h .1) (q .1))
+    rw (q .0, all) (shifted-solid false cs (all-first goodCharacter (one b) cs h .1) (q .1))
 shifted-solid false (one b ∷ cs) h k =
     let q = all-first solid b (bytesOf cs) k in
-    rw (q .0, all) (shifted-solid false cs (all-first good (one b) cs h .1) (q .1))
-shifted-solid true (pair l t ∷ cs) h k = pair-solid l t (shifted true cs) (all-first good (pair l t) cs h .0) (shifted-solid true cs (all-first good (pair l t) cs h .1) (all-first solid t (bytesOf cs) (all-first solid l (t ∷ bytesOf cs) k .1) .1))
-shifted-solid false (pair l t ∷ cs) h k = pair-solid l t (shifted true cs) (all-first good (pair l t) cs h .0) (shifted-solid true cs (all-first good (pair l t) cs h .1) (all-first solid t (bytesOf cs) (all-first solid l (t ∷ bytesOf cs) k .1) .1))
+    rw (q .0, all) (shifted-solid false cs (all-first goodCharacter (one b) cs h .1) (q .1))
+shifted-solid true (pair l t ∷ cs) h k = pair-solid l t (shifted true cs) (all-first goodCharacter (pair l t) cs h .0) (shifted-solid true cs (all-first goodCharacter (pair l t) cs h .1) (all-first solid t (bytesOf cs) (all-first solid l (t ∷ bytesOf cs) k .1) .1))
+shifted-solid false (pair l t ∷ cs) h k = pair-solid l t (shifted true cs) (all-first goodCharacter (pair l t) cs h .0) (shifted-solid true cs (all-first goodCharacter (pair l t) cs h .1) (all-first solid t (bytesOf cs) (all-first solid l (t ∷ bytesOf cs) k .1) .1))
 
 converted-solid : (s : List ℕ) → convertible s ≡ true → all solid s ≡ true → all solid (converted s) ≡ true
 unfolding convertible converted characters waiting
@@ -199,8 +199,8 @@ plain b = within 0x20 0x7E b
 not-lead : (b : ℕ) → b ≤ 0x7E → lead b ≡ false
 not-lead b h = rw (lt-leb 0x81 b (omega arith), lt-leb 0xE0 b (omega arith))
 
-plain-characters : (s : List ℕ) → all plain s ≡ true → (all good (charactersAt none s) ≡ true) × (shifted false (charactersAt none s) ≡ s)
-unfolding charactersAt all good shifted
+plain-characters : (s : List ℕ) → all plain s ≡ true → (all goodCharacter (charactersAt none s) ≡ true) × (shifted false (charactersAt none s) ≡ s)
+unfolding charactersAt all goodCharacter shifted
 plain-characters [] h = (refl, refl)
 plain-characters (b ∷ s) h =
     let q = all-first plain b s h in
@@ -228,15 +228,15 @@ record Alone (p : ℕ → Bool) : Type 0 where
   escape : p 0x1B ≡ false
   leads : (l : ℕ) → lead l ≡ true → p l ≡ false
 
-some-pair : (p : ℕ → Bool) → Alone p → (cs : List Character) → all good cs ≡ true → all single cs ≡ false
+some-pair : (p : ℕ → Bool) → Alone p → (cs : List Character) → all goodCharacter cs ≡ true → all single cs ≡ false
     → (all p (bytesOf cs) ≡ false) × (all p (shifted false cs) ≡ false)
-unfolding single all shifted bytesOf good isPair
+unfolding single all shifted bytesOf goodCharacter isPair
 some-pair p A [] h k = never k
 some-pair p A (one b ∷ cs) h k =
-    let r = some-pair p A cs (all-first good (one b) cs h .1) k in
+    let r = some-pair p A cs (all-first goodCharacter (one b) cs h .1) k in
     (rw (all-cons p b (bytesOf cs), r .0) (and-false (p b)), rw (all-cons p b (shifted false cs), r .1) (and-false (p b)))
 some-pair p A (pair l t ∷ cs) h k =
-    let q = both (lead l) (trail t) (good-pair l t (all-first good (pair l t) cs h .0)) in
+    let q = both (lead l) (trail t) (good-pair l t (all-first goodCharacter (pair l t) cs h .0)) in
     (rw (A .leads l (q .0)), rw (A .escape))
 
 pairCases : {P : Type 0} (s : List ℕ) → convertible s ≡ true → (converted s ≡ s → P)

@@ -13,8 +13,8 @@ use Rattle.rules.specs.Told.{Told, gives, refused, number}
 use Rattle.rules.specs.All.{rules}
 use Rattle.rules.proofs.Logic.{not-given}
 use Rattle.rules.proofs.Unique.{refusal-unique}
-use Rattle.csv_rules.specs.declared.Fault.{Fault}
-use Rattle.csv_rules.specs.declared.Fault.the-variants.{Quoting, Columns, Unconverted, HeaderDiffers, Returns}
+use Rattle.csv_rules.specs.declared.FileFault.{FileFault}
+use Rattle.csv_rules.specs.declared.FileFault.the-variants.{Quoting, Columns, Unconverted, HeaderDiffers, Returns}
 use Rattle.csv_rules.specs.declared.Counted.{Counted}
 use Rattle.csv_rules.specs.declared.Counted.the-variants.{Sheets, NotCounted}
 use Rattle.csv_rules.specs.declared.Made.{Made}
@@ -23,25 +23,25 @@ use Rattle.csv_rules.specs.declared.Next.{Next}
 use Rattle.csv_rules.specs.Answers.{faultNumber, toldCount, toldMade, SheetCall}
 use Rattle.csv_rules.specs.Sheets.{csvSheet, csvNext}
 use Rattle.csv_rules.specs.Columns.{columns, dropped}
-use Rattle.csv_rules.specs.Claims.{sameKeys, oneTo, once, uses, EveryKey, EveryColumn, CountedOnce, SheetOnce, NextOnce, SheetLeaves, NextLeaves}
+use Rattle.csv_rules.specs.Claims.{sameKeys, oneTo, eachOnce, uses, EveryKey, EveryColumn, CountedOnce, SheetOnce, NextOnce, SheetLeaves, NextLeaves}
 
 pub every-key : EveryKey
 unfolding rules columns sameKeys
 every-key = refl
 
 pub every-column : EveryColumn
-unfolding rules columns dropped oneTo once uses
+unfolding rules columns dropped oneTo eachOnce uses
 every-column = refl
 
 -- ---- the request's numbers are its own
-unfoldable numbered : List Fault → ℕ → Fault
+unfoldable numbered : List FileFault → ℕ → FileFault
 numbered [] n = Returns
 numbered (f ∷ fs) n = elim (eqb (faultNumber f) n) [ true ↦ f | false ↦ numbered fs n ]
 
-abbrev faults : List Fault
+abbrev faults : List FileFault
 faults = Quoting ∷ Columns ∷ Unconverted ∷ HeaderDiffers ∷ Returns ∷ []
 
-fault-back : (f : Fault) → numbered faults (faultNumber f) ≡ f
+fault-back : (f : FileFault) → numbered faults (faultNumber f) ≡ f
 unfolding numbered
 fault-back Quoting = refl
 fault-back Columns = refl
@@ -49,7 +49,7 @@ fault-back Unconverted = refl
 fault-back HeaderDiffers = refl
 fault-back Returns = refl
 
-fault-unique : (f g : Fault) → faultNumber f ≡ faultNumber g → f ≡ g
+fault-unique : (f g : FileFault) → faultNumber f ≡ faultNumber g → f ≡ g
 fault-unique f g e = sym (fault-back f) ∙ ap (numbered faults) e ∙ fault-back g
 
 low : (k : Kind) → number k ≤ 45
@@ -76,14 +76,14 @@ low LineValue = omega arith
 low Overflow = omega arith
 low Room = omega arith
 
-high : (f : Fault) → 50 ≤ faultNumber f
+high : (f : FileFault) → 50 ≤ faultNumber f
 high Quoting = omega arith
 high Columns = omega arith
 high Unconverted = omega arith
 high HeaderDiffers = omega arith
 high Returns = omega arith
 
-apart : {P : Type 0} (r : Refusal) (f : Fault) → number (r .kind) ≡ faultNumber f → P
+apart : {P : Type 0} (r : Refusal) (f : FileFault) → number (r .kind) ≡ faultNumber f → P
 apart r f e = absurd (omega (arith, low (r .kind), high f, e))
 
 count-once : (a b : Counted) → toldCount a ≡ toldCount b → a ≡ b

@@ -13,7 +13,7 @@ use Rattle.rules.specs.Shift.{within, step, isOne, walk, keeps}
 use Rattle.rules.proofs.Logic.{cases, both}
 use Rattle.rules.proofs.Lists.{all-first}
 use Rattle.rules.proofs.Modes.{walk-step, still-one}
-use Rattle.csv_rules.specs.Kanji.{lead, first, second, isPair, Character, one, pair, charactersAt, characters, good, convertible, into, back, shifted, converted}
+use Rattle.csv_rules.specs.Kanji.{lead, first, second, isPair, Character, one, pair, charactersAt, characters, goodCharacter, convertible, into, back, shifted, converted}
 use Rattle.csv_rules.specs.Claims.{TextKeeps, NoTwoTexts}
 use Rattle.csv_rules.proofs.Pairs.{every-pair, no-two-pairs}
 
@@ -21,8 +21,8 @@ pub in-bounds : (lo hi b : ℕ) → within lo hi b ≡ true → (lo ≤ b) × (b
 in-bounds lo hi b h = let q = both (leb lo b) (leb b hi) h in (leb-true lo b (q .0), leb-true b hi (q .1))
 
 -- what is asked of a pair
-pub good-pair : (l t : ℕ) → good (pair l t) ≡ true → isPair l t ≡ true
-unfolding good
+pub good-pair : (l t : ℕ) → goodCharacter (pair l t) ≡ true → isPair l t ≡ true
+unfolding goodCharacter
 good-pair l t h = h
 
 -- ---- the shift rule
@@ -42,7 +42,7 @@ walk-back : (end : ℕ) (s : List ℕ) → walk end Two (back ++ s) ≡ walk end
 unfolding walk step
 walk-back end s = refl
 
-walk-pair : (end l t : ℕ) (s : List ℕ) → good (pair l t) ≡ true → walk end Two (first l t ∷ second t ∷ s) ≡ walk end Two s
+walk-pair : (end l t : ℕ) (s : List ℕ) → goodCharacter (pair l t) ≡ true → walk end Two (first l t ∷ second t ∷ s) ≡ walk end Two s
 walk-pair end l t s h =
     let q = every-pair l t (good-pair l t h) in
     walk-step end Two (first l t) (second t ∷ s) (to-second end (first l t) (q .0)) ∙ walk-step end Second (second t) s (to-two end (second t) (q .1))
@@ -50,21 +50,21 @@ walk-pair end l t s h =
 walk-single : (end b : ℕ) (s : List ℕ) → within 0x20 0x7E b ≡ true → walk end One (b ∷ s) ≡ walk end One s
 walk-single end b s h = let q = in-bounds 0x20 0x7E b h in walk-step end One b s (still-one end b (q .0) (q .1))
 
-shifted-keeps : (end : ℕ) (two : Bool) (cs : List Character) → all good cs ≡ true → walk end (cond two Two One) (shifted two cs) ≡ One
-unfolding shifted good walk step
+shifted-keeps : (end : ℕ) (two : Bool) (cs : List Character) → all goodCharacter cs ≡ true → walk end (cond two Two One) (shifted two cs) ≡ One
+unfolding shifted goodCharacter walk step
 shifted-keeps end true [] h = refl
 shifted-keeps end false [] h = refl
 shifted-keeps end true (one b ∷ cs) h =
-    let q = all-first good (one b) cs h in
+    let q = all-first goodCharacter (one b) cs h in
     walk-back end (b ∷ shifted false cs) ∙ walk-single end b (shifted false cs) (q .0) ∙ shifted-keeps end false cs (q .1)
 shifted-keeps end false (one b ∷ cs) h =
-    let q = all-first good (one b) cs h in
+    let q = all-first goodCharacter (one b) cs h in
     walk-single end b (shifted false cs) (q .0) ∙ shifted-keeps end false cs (q .1)
 shifted-keeps end true (pair l t ∷ cs) h =
-    let q = all-first good (pair l t) cs h in
+    let q = all-first goodCharacter (pair l t) cs h in
     walk-pair end l t (shifted true cs) (q .0) ∙ shifted-keeps end true cs (q .1)
 shifted-keeps end false (pair l t ∷ cs) h =
-    let q = all-first good (pair l t) cs h in
+    let q = all-first goodCharacter (pair l t) cs h in
     walk-in end (first l t ∷ second t ∷ shifted true cs) ∙ walk-pair end l t (shifted true cs) (q .0) ∙ shifted-keeps end true cs (q .1)
 
 pub text-keeps : TextKeeps
@@ -90,40 +90,40 @@ bytes-back none (b ∷ s) = cases (lead b) (λ e. rw (e, charactersAt) (bytes-ba
 bytes-back (some l) (t ∷ s) = ap (λ (r : List ℕ). l ∷ t ∷ r) (bytes-back none s)
 
 -- an image begins with no 1B
-not-shift : {P : Type 0} (l t : ℕ) (r s : List ℕ) → good (pair l t) ≡ true → 0x1B ∷ r ≡ first l t ∷ s → P
+not-shift : {P : Type 0} (l t : ℕ) (r s : List ℕ) → goodCharacter (pair l t) ≡ true → 0x1B ∷ r ≡ first l t ∷ s → P
 not-shift l t r s h e = let q = in-bounds 0x21 0x7E (first l t) (every-pair l t (good-pair l t h) .0) in let z : 0x1B ≡ first l t = cc in absurd (omega arith)
 
 not-escape : {P : Type 0} (b : ℕ) (r s : List ℕ) → within 0x20 0x7E b ≡ true → 0x1B ∷ r ≡ b ∷ s → P
 not-escape b r s h e = let q = in-bounds 0x20 0x7E b h in let z : 0x1B ≡ b = cc in absurd (omega arith)
 
-same-pair : {P : Type 0} (l t k u : ℕ) (r s : List ℕ) → good (pair l t) ≡ true → good (pair k u) ≡ true → first l t ∷ second t ∷ r ≡ first k u ∷ second u ∷ s
+same-pair : {P : Type 0} (l t k u : ℕ) (r s : List ℕ) → goodCharacter (pair l t) ≡ true → goodCharacter (pair k u) ≡ true → first l t ∷ second t ∷ r ≡ first k u ∷ second u ∷ s
     → (l ≡ k → t ≡ u → r ≡ s → P) → P
 same-pair l t k u r s h j e f = let q = no-two-pairs l t k u (good-pair l t h) (good-pair k u j) (cc) (cc) in f (q .0) (q .1) (cc)
 
-shifted-unique : (two : Bool) (cs ds : List Character) → all good cs ≡ true → all good ds ≡ true → shifted two cs ≡ shifted two ds → cs ≡ ds
-unfolding shifted good
+shifted-unique : (two : Bool) (cs ds : List Character) → all goodCharacter cs ≡ true → all goodCharacter ds ≡ true → shifted two cs ≡ shifted two ds → cs ≡ ds
+unfolding shifted goodCharacter
 shifted-unique two [] [] h j e = refl
 shifted-unique true [] (one d ∷ ds) h j e = cc
 shifted-unique false [] (one d ∷ ds) h j e = cc
-shifted-unique true [] (pair k u ∷ ds) h j e = not-shift k u _ _ (all-first good (pair k u) ds j .0) e
+shifted-unique true [] (pair k u ∷ ds) h j e = not-shift k u _ _ (all-first goodCharacter (pair k u) ds j .0) e
 shifted-unique false [] (pair k u ∷ ds) h j e = cc
 shifted-unique true (one c ∷ cs) [] h j e = cc
 shifted-unique false (one c ∷ cs) [] h j e = cc
-shifted-unique true (pair l t ∷ cs) [] h j e = not-shift l t _ _ (all-first good (pair l t) cs h .0) (sym e)
+shifted-unique true (pair l t ∷ cs) [] h j e = not-shift l t _ _ (all-first goodCharacter (pair l t) cs h .0) (sym e)
 shifted-unique false (pair l t ∷ cs) [] h j e = cc
-shifted-unique true (one c ∷ cs) (one d ∷ ds) h j e = cc (shifted-unique false cs ds (all-first good (one c) cs h .1) (all-first good (one d) ds j .1) (cc))
-shifted-unique false (one c ∷ cs) (one d ∷ ds) h j e = cc (shifted-unique false cs ds (all-first good (one c) cs h .1) (all-first good (one d) ds j .1) (cc))
-shifted-unique true (one c ∷ cs) (pair k u ∷ ds) h j e = not-shift k u _ _ (all-first good (pair k u) ds j .0) e
-shifted-unique false (one c ∷ cs) (pair k u ∷ ds) h j e = not-escape c _ _ (all-first good (one c) cs h .0) (sym e)
-shifted-unique true (pair l t ∷ cs) (one d ∷ ds) h j e = not-shift l t _ _ (all-first good (pair l t) cs h .0) (sym e)
-shifted-unique false (pair l t ∷ cs) (one d ∷ ds) h j e = not-escape d _ _ (all-first good (one d) ds j .0) e
+shifted-unique true (one c ∷ cs) (one d ∷ ds) h j e = cc (shifted-unique false cs ds (all-first goodCharacter (one c) cs h .1) (all-first goodCharacter (one d) ds j .1) (cc))
+shifted-unique false (one c ∷ cs) (one d ∷ ds) h j e = cc (shifted-unique false cs ds (all-first goodCharacter (one c) cs h .1) (all-first goodCharacter (one d) ds j .1) (cc))
+shifted-unique true (one c ∷ cs) (pair k u ∷ ds) h j e = not-shift k u _ _ (all-first goodCharacter (pair k u) ds j .0) e
+shifted-unique false (one c ∷ cs) (pair k u ∷ ds) h j e = not-escape c _ _ (all-first goodCharacter (one c) cs h .0) (sym e)
+shifted-unique true (pair l t ∷ cs) (one d ∷ ds) h j e = not-shift l t _ _ (all-first goodCharacter (pair l t) cs h .0) (sym e)
+shifted-unique false (pair l t ∷ cs) (one d ∷ ds) h j e = not-escape d _ _ (all-first goodCharacter (one d) ds j .0) e
 shifted-unique true (pair l t ∷ cs) (pair k u ∷ ds) h j e =
-    let p = all-first good (pair l t) cs h in
-    let q = all-first good (pair k u) ds j in
+    let p = all-first goodCharacter (pair l t) cs h in
+    let q = all-first goodCharacter (pair k u) ds j in
     same-pair l t k u (shifted true cs) (shifted true ds) (p .0) (q .0) e (λ a b r. cc (a, b, shifted-unique true cs ds (p .1) (q .1) r))
 shifted-unique false (pair l t ∷ cs) (pair k u ∷ ds) h j e =
-    let p = all-first good (pair l t) cs h in
-    let q = all-first good (pair k u) ds j in
+    let p = all-first goodCharacter (pair l t) cs h in
+    let q = all-first goodCharacter (pair k u) ds j in
     same-pair l t k u (shifted true cs) (shifted true ds) (p .0) (q .0) (cc) (λ a b r. cc (a, b, shifted-unique true cs ds (p .1) (q .1) r))
 
 pub no-two-texts : NoTwoTexts

@@ -1,4 +1,5 @@
 -- A name for all of the definitions here: to unfold it is to unfold them, so that they compute.
+use Rattle.rules.specs.Fetch as Fetch
 use Rattle.csv_rules.specs.Quote as Quote
 use Rattle.csv_rules.specs.Written as Written
 use Rattle.csv_rules.specs.Count as Count
@@ -8,5 +9,5 @@ use Rattle.csv_rules.specs.Sheets as Sheets
 use Rattle.csv_rules.specs.Spot as Spot
 
 unfoldable pub csv-rules : Unit {0}
-unfolding Quote.more Quote.linesAt Quote.cut Quote.isBroken Quote.linesIn Written.doubled Written.quoted Written.lineText Written.fileText Count.numeral Count.counts Count.counted Kanji.first Kanji.second Kanji.isPair Kanji.charactersAt Kanji.characters Kanji.good Kanji.convertible Kanji.shifted Kanji.converted Columns.familyOf Columns.givenOf Columns.fifteenOf Columns.meaningOf Columns.typeOf Columns.textAt Columns.valueBy Columns.columns Columns.keys Columns.numberOf Columns.dropped Sheets.sameTexts Sheets.differ Sheets.joinRun Sheets.runs Sheets.returns Sheets.csvTold Sheets.below Sheets.rowsOf Sheets.sheetTold Sheets.sizes Sheets.firstRow Sheets.csvCount Sheets.ordinal Sheets.csvSheet Sheets.firstTold Sheets.runsFrom Sheets.csvNext Sheets.behind Sheets.placeAfter Spot.firstNot Spot.firstAfter Spot.countLine Spot.comesBack Spot.csvSpot
+unfolding Quote.more Quote.linesAt Quote.cut Quote.isBroken Quote.linesIn Written.quotesDoubled Written.quoted Written.quotedLine Written.fileText Count.numeral Count.counts Count.wellCounted Kanji.first Kanji.second Kanji.isPair Kanji.charactersAt Kanji.characters Kanji.goodCharacter Kanji.convertible Kanji.shifted Kanji.converted Columns.familyOf Columns.givenOf Columns.fifteenOf Columns.meaningOf Columns.typeOf Columns.textAt Columns.valueBy Columns.columns Columns.keys Columns.numberOf Columns.dropped Sheets.sameTexts Sheets.differ Sheets.joinRun Sheets.runs Sheets.returns Sheets.csvTold Sheets.below Sheets.sheetRows Sheets.runTold Sheets.bytesIn Sheets.firstRow Sheets.csvCount Fetch.ordinal Sheets.csvSheet Sheets.firstTold Sheets.runsFrom Sheets.csvNext Sheets.behindRun Sheets.placeAfter Spot.firstNot Spot.firstAfter Spot.countLine Spot.comesBack Spot.csvSpot
 csv-rules = tt

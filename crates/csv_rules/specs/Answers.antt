@@ -4,8 +4,8 @@ use mathlib.Core.List.{List}
 use Prim.Native.Nat.{ℕ, _≤_}
 use lib.ListN.{length}
 use Rattle.rules.specs.Told.{Told, gives, refused, refusal, over, lengthOf}
-use Rattle.csv_rules.specs.declared.Fault.{Fault}
-use Rattle.csv_rules.specs.declared.Fault.the-variants.{Quoting, Columns, Unconverted, HeaderDiffers, Returns}
+use Rattle.csv_rules.specs.declared.FileFault.{FileFault}
+use Rattle.csv_rules.specs.declared.FileFault.the-variants.{Quoting, Columns, Unconverted, HeaderDiffers, Returns}
 use Rattle.csv_rules.specs.declared.CsvSheets.{CsvSheets}
 use Rattle.csv_rules.specs.declared.Counted.{Counted}
 use Rattle.csv_rules.specs.declared.Counted.the-variants.{Sheets, NotCounted}
@@ -15,14 +15,14 @@ use Rattle.csv_rules.specs.declared.Next.{Next}
 
 -- "Refusals: 50 quoting, 51 no version or heading line .., 52 a byte that can't be converted, 53 rows of a number that differ in a header key,
 -- 54 a number that returns after another"; they name no line
-abbrev pub faultNumber : Fault → ℕ
+abbrev pub faultNumber : FileFault → ℕ
 faultNumber Quoting = 50
 faultNumber Columns = 51
 faultNumber Unconverted = 52
 faultNumber HeaderDiffers = 53
 faultNumber Returns = 54
 
-abbrev pub toldFault : {A : Type 0} → Fault → Told A
+abbrev pub toldFault : {A : Type 0} → FileFault → Told A
 toldFault f = refused (faultNumber f) 0 0
 
 abbrev pub toldCount : Counted → Told CsvSheets

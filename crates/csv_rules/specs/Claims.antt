@@ -23,7 +23,7 @@ use Rattle.csv_rules.specs.Quote as Csv
 use Rattle.csv_rules.specs.Written.{Spells}
 use Rattle.csv_rules.specs.Kanji.{first, second, isPair, convertible, converted}
 use Rattle.csv_rules.specs.Columns.{Entry, columns, dropped}
-use Rattle.csv_rules.specs.Sheets.{Run, Given, csvTold, sheetTold, csvSheet, firstRow, csvNext, placeAfter}
+use Rattle.csv_rules.specs.Sheets.{Run, Given, csvTold, runTold, csvSheet, firstRow, csvNext, placeAfter}
 
 -- ---- the words of the claims
 unfoldable pub sameKeys : List String → List String → Bool
@@ -37,16 +37,16 @@ oneTo zero = []
 oneTo (suc n) = oneTo n ++ (suc n ∷ [])
 
 -- the columns that feed a line, each once, in the table's order
-unfoldable pub once : List ℕ → List ℕ
-once [] = []
-once (n ∷ ns) = cond (has n ns || eqb n 0) (once ns) (n ∷ once ns)
+unfoldable pub eachOnce : List ℕ → List ℕ
+eachOnce [] = []
+eachOnce (n ∷ ns) = cond (has n ns || eqb n 0) (eachOnce ns) (n ∷ eachOnce ns)
 
 unfoldable pub uses : List ℕ
-uses = once (map (λ (e : Entry). e .column) (columns Pid ++ (columns Pv1 ++ (columns Spm ++ (columns Obr ++ columns Obx)))))
+uses = eachOnce (map (λ (e : Entry). e .column) (columns Pid ++ (columns Pv1 ++ (columns Spm ++ (columns Obr ++ columns Obx)))))
 
 -- ---- 50 refuses exactly the files that no lines spell, and the items read are those spelled
 abbrev pub itemsIn : Lines → List Items
-itemsIn c = map (λ (l : Csv.Line). l .items) (linesIn c)
+itemsIn c = map (λ (l : Csv.FileLine). l .items) (linesIn c)
 
 abbrev pub SpelledIsRead : Type 0
 SpelledIsRead = (ls : List Items) (s : List ℕ) → Spells ls s → (isBroken (cut s) ≡ false) × (itemsIn (cut s) ≡ ls)
@@ -122,10 +122,10 @@ NextLeaves = (file : List ℕ) (at : ℕ) (g : Given) (before after : List ℕ) 
 -- ---- sheet after sheet: from the first row on, the calls give the sheets of the file in order, whatever the caller gives for each, and then 30
 unfoldable pub Follows : List ℕ → ℕ → List Run → Type 0
 Follows file at [] = (g : Given) (room : ℕ) → csvNext file at g room ≡ refused 30 0 0
-Follows file at (u ∷ us) = ((g : Given) (room : ℕ) → csvNext file at g room ≡ sheetTold g u room) × Follows file (placeAfter file at) us
+Follows file at (u ∷ us) = ((g : Given) (room : ℕ) → csvNext file at g room ≡ runTold g u room) × Follows file (placeAfter file at) us
 
-abbrev pub InOrder : Type 0
-InOrder = (file : List ℕ) (us : List Run) → csvTold file ≡ gives us → Follows file (firstRow file) us
+abbrev pub SheetsInOrder : Type 0
+SheetsInOrder = (file : List ℕ) (us : List Run) → csvTold file ≡ gives us → Follows file (firstRow file) us
 
 -- so the which-th sheet is what begins at the which-th place
 unfoldable pub placeOf : List ℕ → ℕ → ℕ → ℕ

@@ -6,7 +6,7 @@ use lib.Dec.{leb, eqb}
 use lib.ListN.{length}
 use Rattle.rules.specs.Lists.{filled, nth, all}
 use Rattle.rules.specs.Frame.{digit}
-use Rattle.csv_rules.specs.Quote.{Line}
+use Rattle.csv_rules.specs.Quote.{FileLine}
 
 -- the number that digits spell, those of n before them
 unfoldable pub numeral : ℕ → List ℕ → ℕ
@@ -18,8 +18,8 @@ unfoldable pub counts : List ℕ → Bool
 counts v = filled v && (all digit v && leb 7 (numeral 0 v))
 
 -- a version line, a heading line, which is no row, and the rows
-unfoldable pub counted : List Line → Bool
-counted [] = false
-counted (version ∷ ls) =
+unfoldable pub wellCounted : List FileLine → Bool
+wellCounted [] = false
+wellCounted (version ∷ ls) =
     let n = nth (version .items) 1 in
-    elim ls [ [] ↦ false | heading ∷ rows ↦ counts n && all (λ (r : Line). eqb (length (r .items)) (numeral 0 n)) rows ]
+    elim ls [ [] ↦ false | heading ∷ rows ↦ counts n && all (λ (r : FileLine). eqb (length (r .items)) (numeral 0 n)) rows ]

@@ -56,11 +56,11 @@ isBroken broken = true
 isBroken (line is n ls) = isBroken ls
 
 -- a line: its items, and its bytes counted
-pub record Line : Type 0 where
+pub record FileLine : Type 0 where
   pub items : Items
   pub size : ℕ
 
-unfoldable pub linesIn : Lines → List Line
+unfoldable pub linesIn : Lines → List FileLine
 linesIn end = []
 linesIn broken = []
 linesIn (line is n ls) = record { items = is; size = n } ∷ linesIn ls

@@ -4,7 +4,7 @@ ghost use mathlib.Core.Path.{_≡_};
 ghost use Rattle.csv_rules.specs.Answers.{faultNumber};
 
 // Why a file is refused: a case for each number of the request.
-pub enum Fault {
+pub enum FileFault {
     Quoting, // 50
     Columns, // 51
     Unconverted, // 52
@@ -20,14 +20,14 @@ pub struct CsvSheets {
 
 pub enum Counted {
     Sheets(CsvSheets),
-    NotCounted(Fault),
+    NotCounted(FileFault),
 }
 
 // A sheet out of a file, by its length; the file's refusal; or another: no such sheet, the sheet's own, a buffer too short.
 pub enum Made {
     Sheet(usize),
     Unfit(Refusal),
-    Faulty(Fault),
+    Faulty(FileFault),
 }
 
 // A sheet of a file that is gone through sheet by sheet, and the place behind its rows.
@@ -37,14 +37,14 @@ pub struct Next {
 }
 
 // The request's number of a fault.
-pub fn fault_number(fault: Fault) -> usize
+pub fn fault_number(fault: FileFault) -> usize
     ensures { λ r. ⌜ r ≡ faultNumber fault ⌝ }
 {
     match fault {
-        Fault::Quoting => 50,
-        Fault::Columns => 51,
-        Fault::Unconverted => 52,
-        Fault::HeaderDiffers => 53,
-        Fault::Returns => 54,
+        FileFault::Quoting => 50,
+        FileFault::Columns => 51,
+        FileFault::Unconverted => 52,
+        FileFault::HeaderDiffers => 53,
+        FileFault::Returns => 54,
     }
 }

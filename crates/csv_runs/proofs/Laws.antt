@@ -9,10 +9,10 @@ use Rattle.rules.specs.declared.Name.the-variants.{Pid, Pv1}
 use Rattle.rules.specs.Lists.{same, all, any}
 use Rattle.rules.proofs.Logic.{cases, both, never, and-true, or-false, and-assoc}
 use Rattle.rules.proofs.Lists.{all-cons, all-first}
-use Rattle.csv_rules.specs.Quote.{Items, Line}
+use Rattle.csv_rules.specs.Quote.{Items, FileLine}
 use Rattle.csv_rules.specs.Kanji.{convertible}
 use Rattle.csv_rules.specs.Columns.{numberOf}
-use Rattle.csv_rules.specs.Sheets.{sameTexts, sameNumber, clash, runs, rowConverts, sizes, runsFrom}
+use Rattle.csv_rules.specs.Sheets.{sameTexts, sameNumber, clash, runs, rowConverts, bytesIn, runsFrom}
 use Rattle.csv_rules.specs.Raw.{rawKeys, rawAgree}
 use Rattle.csv_rules.proofs.Order.{sizes-append}
 use Rattle.csv_rows.specs.Rows.{linesFrom, Spans, RowIs, rowAt}
@@ -84,10 +84,10 @@ none-there f at spans size count good bad t h l = record {
 }
 
 -- ---- the rows of a run so far: the first, and the others
-pub record Read (f : List ℕ) (at : ℕ) (spans : List ℕ) (size : ℕ) (good differs goes : Bool) (first : Line) (others : List Line) : Type 0 where
+pub record Read (f : List ℕ) (at : ℕ) (spans : List ℕ) (size : ℕ) (good differs goes : Bool) (first : FileLine) (others : List FileLine) : Type 0 where
   pub lies : Spans f spans (first .items)
   pub lines : linesFrom f at ≡ first ∷ (others ++ linesFrom f (at + size))
-  pub bytes : size ≡ sizes (first ∷ others)
+  pub bytes : size ≡ bytesIn (first ∷ others)
   pub number : all (numbered (numberOf (first .items))) others ≡ true
   pub converts : good ≡ all rowConverts (first ∷ others)
   pub header : good ≡ true → differs ≡ any (clash (first .items)) others
@@ -96,7 +96,7 @@ pub record Read (f : List ℕ) (at : ℕ) (spans : List ℕ) (size : ℕ) (good 
 
 pub one-read : (f : List ℕ) (at : ℕ) (spans : List ℕ) (size count : ℕ) (good bad : Bool) (t : RowIs f at false spans size count good bad) → bad ≡ false
     → Read f at spans size good false true (record { items = t .items; size = size }) []
-unfolding sizes all any
+unfolding bytesIn all any
 one-read f at spans size count good bad t h = record {
   lies = t .lies;
   lines = row-lines f at false spans size count good bad t h;
@@ -109,12 +109,12 @@ one-read f at spans size count good bad t h = record {
 }
 
 -- a run goes on with the rows of its number, whichever row the number is taken from
-goes-same : (q p : Items) (ls : List Line) → numberOf q ≡ numberOf p → goesOn q ls ≡ goesOn p ls
+goes-same : (q p : Items) (ls : List FileLine) → numberOf q ≡ numberOf p → goesOn q ls ≡ goesOn p ls
 unfolding goesOn
 goes-same q p [] e = refl
 goes-same q p (r ∷ rs) e = rw e
 
-module _ (f : List ℕ) (at : ℕ) (spans : List ℕ) (size : ℕ) (good differs goes : Bool) (first : Line) (others : List Line)
+module _ (f : List ℕ) (at : ℕ) (spans : List ℕ) (size : ℕ) (good differs goes : Bool) (first : FileLine) (others : List FileLine)
     (p : Read f at spans size good differs goes first others) where
   pub run-is : goes ≡ false → runsFrom f at ≡ record { row = first; others = others } ∷ runs (linesFrom f (at + size))
   unfolding runsFrom
@@ -155,14 +155,14 @@ module _ (f : List ℕ) (at : ℕ) (spans : List ℕ) (size : ℕ) (good differs
         })
 
     module _ (J : Joins f (rowAt f spans) (at + size) next m g d) where
-      abbrev row : Line
+      abbrev row : FileLine
       row = record { items = J .items; size = m }
 
       lines-more : linesFrom f at ≡ first ∷ ((others ++ (row ∷ [])) ++ linesFrom f (at + (size + m)))
       lines-more =
           let e : (at + size) + m ≡ at + (size + m) = omega arith in
-          p .lines ∙ ap (λ (l : List Line). first ∷ (others ++ l)) (J .lines ∙ ap (λ (n : ℕ). row ∷ linesFrom f n) e)
-          ∙ ap (λ (l : List Line). first ∷ l) (sym (append-assoc others (row ∷ []) (linesFrom f (at + (size + m)))))
+          p .lines ∙ ap (λ (l : List FileLine). first ∷ (others ++ l)) (J .lines ∙ ap (λ (n : ℕ). row ∷ linesFrom f n) e)
+          ∙ ap (λ (l : List FileLine). first ∷ l) (sym (append-assoc others (row ∷ []) (linesFrom f (at + (size + m)))))
 
       number-first : sameNumber (first .items) (row .items) ≡ true
       number-first = ap (λ (n : List ℕ). same n (numberOf (J .items))) (sym number-same) ∙ J .number
@@ -183,7 +183,7 @@ module _ (f : List ℕ) (at : ℕ) (spans : List ℕ) (size : ℕ) (good differs
           rw (any-snoc (clash (first .items)) others row, c, ← header-raw, p .header (w .0))
 
       pub one-more : j ≡ true → Read f at spans (size + m) (good && g) (differs || d) j first (others ++ (row ∷ []))
-      unfolding sizes
+      unfolding bytesIn
       one-more z = record {
         lies = p .lies;
         lines = lines-more;
@@ -207,8 +207,8 @@ run-less f q at size next m g d j goes t h =
     (λ z. rw z (omega (arith, t .place))))
 
 pub record Going (f : List ℕ) (at : ℕ) (spans : List ℕ) (size : ℕ) (good differs goes : Bool) : Type 0 where
-  pub first : Line
-  pub others : List Line
+  pub first : FileLine
+  pub others : List FileLine
   pub read : Read f at spans size good differs goes first others
 
 pub run-begins : (f : List ℕ) (at : ℕ) (spans : List ℕ) (size count : ℕ) (good bad : Bool) → RowIs f at false spans size count good bad → bad ≡ false

@@ -9,9 +9,9 @@ use Rattle.rules.specs.Lists.{all, ended}
 use Rattle.rules.specs.Sheet.{rowLines, sheetOf}
 use Rattle.rules.proofs.Logic.{cases, both, never}
 use Rattle.rules.proofs.Lists.{all-first}
-use Rattle.csv_rules.specs.Quote.{Items, Line}
+use Rattle.csv_rules.specs.Quote.{Items, FileLine}
 use Rattle.csv_rules.specs.Kanji.{convertible}
-use Rattle.csv_rules.specs.Sheets.{Run, rowConverts, Given, below, rowsOf}
+use Rattle.csv_rules.specs.Sheets.{Run, rowConverts, Given, below, sheetRows}
 use Rattle.reach.proofs.Laws.{adds-none}
 use Rattle.csv_rows.specs.Rows.{Inside, Spans, RowIs, rowAt}
 use Rattle.csv_rows.proofs.Tied.{tied-keys, tied-converts}
@@ -19,11 +19,11 @@ use Rattle.csv_lines.specs.Lines.{AddsLines, headerLines, firstLines, nextLines
 use Rattle.csv_lines.proofs.Groups.{lines-then}
 use Rattle.csv_lines.proofs.Rows.{rows-are, next-are, first-same, next-same}
 use Rattle.csv_runs.specs.Next.{Joins, NextIs}
-use Rattle.csv_runs.specs.Sheet.{Ready, sheetAt, PutIs}
+use Rattle.csv_runs.specs.Sheet.{RowReady, sheetAt, PutIs}
 use Rattle.csv_runs.proofs.Laws.{none-there, Read, one-read, run-is, run-found, none-more, one-more}
 
 -- ---- lines where they are asked for
-module _ (f spans : List ℕ) (asked : Bool) (p : Ready f spans asked) (h : asked ≡ true) where
+module _ (f spans : List ℕ) (asked : Bool) (p : RowReady f spans asked) (h : asked ≡ true) where
   pub ready-inside : Inside f spans
   ready-inside = p .inside h
 
@@ -45,21 +45,21 @@ module _ (asked : Bool) (at r : ℕ) (x y : List ℕ) (ls : List (List ℕ)) whe
   then-none ms h p = rw (h, append-nil ms) p
 
 -- ---- the last of some rows, and the lines of one more
-unfoldable pub lastOf : Line → List Line → Line
+unfoldable pub lastOf : FileLine → List FileLine → FileLine
 lastOf q [] = q
 lastOf q (r ∷ rs) = lastOf r rs
 
-last-snoc : (q r : Line) (rs : List Line) → lastOf q (rs ++ (r ∷ [])) ≡ r
+last-snoc : (q r : FileLine) (rs : List FileLine) → lastOf q (rs ++ (r ∷ [])) ≡ r
 unfolding lastOf
 last-snoc q r [] = refl
 last-snoc q r (p ∷ rs) = last-snoc p r rs
 
-last-converts : (q : Line) (rs : List Line) → all rowConverts (q ∷ rs) ≡ true → rowConverts (lastOf q rs) ≡ true
+last-converts : (q : FileLine) (rs : List FileLine) → all rowConverts (q ∷ rs) ≡ true → rowConverts (lastOf q rs) ≡ true
 unfolding lastOf
 last-converts q [] h = all-first rowConverts q [] h .0
 last-converts q (r ∷ rs) h = last-converts r rs (all-first rowConverts q (r ∷ rs) h .1)
 
-one-below : (q r : Line) (rs : List Line)
+one-below : (q r : FileLine) (rs : List FileLine)
     → rowLines (below (q .items) (rs ++ (r ∷ []))) ≡ rowLines (below (q .items) rs) ++ nextLines (lastOf q rs .items) (r .items)
 unfolding rowLines below lastOf
 one-below q r [] = next-are (q .items) r [] ∙ append-nil (nextLines (q .items) (r .items))
@@ -81,8 +81,8 @@ no-sheet f at spans size count good bad g x t h l = record {
 
 -- ---- the rows so far, and the lines of those behind the first, over x₀ from k₀ on, as far as all convert; before: where the last row lies
 pub record Putting (f : List ℕ) (at : ℕ) (spans : List ℕ) (good₀ : Bool) (x₀ : List ℕ) (k₀ : ℕ) (x : List ℕ) (size : ℕ) (good differs goes : Bool) (before : List ℕ) (k : ℕ) : Type 0 where
-  pub first : Line
-  pub others : List Line
+  pub first : FileLine
+  pub others : List FileLine
   pub read : Read f at spans size good differs goes first others
   pub last : goes ≡ true → Spans f before (lastOf first others .items)
   pub done : List (List ℕ)
@@ -92,7 +92,7 @@ pub record Putting (f : List ℕ) (at : ℕ) (spans : List ℕ) (good₀ : Bool)
   pub room : length f < 18446744073709551616
 
 module _ (f : List ℕ) (at : ℕ) (spans : List ℕ) (size count : ℕ) (good bad : Bool) (t : RowIs f at false spans size count good bad) where
-  pub first-ready : Ready f spans good
+  pub first-ready : RowReady f spans good
   first-ready = record { inside = λ h. t .lies .inside; converts = λ h. tied-converts f spans (t .items) (t .lies) (sym (t .converts) ∙ h) }
 
   pub put-begins : (x : List ℕ) (k : ℕ) → bad ≡ false → k ≤ length x → length f < 18446744073709551616 → Putting f at spans good x k x size good false true spans k
@@ -109,7 +109,7 @@ module _ (f : List ℕ) (at : ℕ) (spans : List ℕ) (size count : ℕ) (good b
     room = v;
   }
 
-pub next-ready : (f : List ℕ) (q : Items) (at : ℕ) (next : List ℕ) (m : ℕ) (good g d j : Bool) → NextIs f q at next m g d j → Ready f next (j && (good && g))
+pub next-ready : (f : List ℕ) (q : Items) (at : ℕ) (next : List ℕ) (m : ℕ) (good g d j : Bool) → NextIs f q at next m g d j → RowReady f next (j && (good && g))
 next-ready f q at next m good g d j t = record {
   inside = λ o. t .joined (both j (good && g) o .0) .lies .inside;
   converts = λ o.
@@ -123,7 +123,7 @@ module _ (f : List ℕ) (at : ℕ) (spans : List ℕ) (good₀ : Bool) (x₀ : L
   abbrev run : Run
   run = record { row = P .first; others = P .others }
 
-  pub before-ready : (g j : Bool) → goes ≡ true → Ready f before (j && (good && g))
+  pub before-ready : (g j : Bool) → goes ≡ true → RowReady f before (j && (good && g))
   before-ready g j h = record {
     inside = λ o. P .last h .inside;
     converts = λ o.
@@ -139,7 +139,7 @@ module _ (f : List ℕ) (at : ℕ) (spans : List ℕ) (good₀ : Bool) (x₀ : L
 
     put-one : j ≡ true → Joins f (rowAt f spans) (at + size) next m g d → Putting f at spans good₀ x₀ k₀ y (size + m) (good && g) (differs || d) j next r
     put-one z J =
-        let row : Line = record { items = J .items; size = m } in
+        let row : FileLine = record { items = J .items; size = m } in
         let q = lastOf (P .first) (P .others) .items in
         record {
           first = P .first;
@@ -180,7 +180,7 @@ module _ (f : List ℕ) (at : ℕ) (spans : List ℕ) (good₀ : Bool) (x₀ : L
     abbrev given : Given
     given = record { mode = mode; sent = sent; control = control }
 
-    sheet-lines : good ≡ true → rowLines (rowsOf given run) ≡ (headerLines mode sent control ++ cond good₀ (firstLines (rowAt f spans)) []) ++ P .done
+    sheet-lines : good ≡ true → rowLines (sheetRows given run) ≡ (headerLines mode sent control ++ cond good₀ (firstLines (rowAt f spans)) []) ++ P .done
     sheet-lines o =
         let T = tied-keys f spans (P .first .items) (P .read .lies) in
         let H = headerLines mode sent control in

@@ -5,13 +5,13 @@ use mathlib.Core.List.{List, [], _∷_}
 use Prim.Native.Nat.{ℕ, _+_, _≤_, _<_}
 use lib.ListN.{length}
 use Rattle.rules.specs.declared.Name.the-variants.{Pid, Pv1}
-use Rattle.csv_rules.specs.Quote.{Items, Line}
+use Rattle.csv_rules.specs.Quote.{Items, FileLine}
 use Rattle.csv_rules.specs.Sheets.{sameNumber, rowConverts}
 use Rattle.csv_rules.specs.Raw.{rawAgree}
 use Rattle.csv_rows.specs.Rows.{linesFrom, Spans}
 
 -- whether the first of some rows has the number of the row q
-unfoldable pub goesOn : Items → List Line → Bool
+unfoldable pub goesOn : Items → List FileLine → Bool
 goesOn q [] = false
 goesOn q (r ∷ rs) = sameNumber q (r .items)
 

@@ -6,16 +6,16 @@ use Prim.Native.Nat.{ℕ, _+_, _≤_}
 use lib.ListN.{length, drop}
 use Rattle.rules.specs.Lists.{all}
 use Rattle.csv_rules.specs.Quote.{cut, isBroken}
-use Rattle.csv_rules.specs.Sheets.{Run, rowsIn, rowConverts, differ, sizes, runsFrom}
+use Rattle.csv_rules.specs.Sheets.{Run, runLines, rowConverts, differ, bytesIn, runsFrom}
 
 -- a run begins at the place at: its bytes, whether its rows convert, and then whether two of them differ in a header key
 pub record Found (f : List ℕ) (at size : ℕ) (good differs : Bool) : Type 0 where
   pub run : Run
   pub others : List Run
   pub begins : runsFrom f at ≡ run ∷ others
-  pub bytes : size ≡ sizes (rowsIn run)
-  pub converts : good ≡ all rowConverts (rowsIn run)
-  pub header : good ≡ true → differs ≡ differ (rowsIn run)
+  pub bytes : size ≡ bytesIn (runLines run)
+  pub converts : good ≡ all rowConverts (runLines run)
+  pub header : good ≡ true → differs ≡ differ (runLines run)
 
 -- nothing but a line that breaks the quoting stands there
 pub record Broken (f : List ℕ) (at : ℕ) : Type 0 where

@@ -7,7 +7,7 @@ ghost use Rattle.csv_rows.specs.Rows.{Inside, rowAt};
 ghost use Rattle.csv_lines.specs.Lines.{AddsLines, headerLines, firstLines, nextLines};
 ghost use Rattle.csv_runs.specs.Next.{NextIs};
 ghost use Rattle.csv_runs.specs.Runs.{RunIs};
-ghost use Rattle.csv_runs.specs.Sheet.{Ready, PutIs};
+ghost use Rattle.csv_runs.specs.Sheet.{RowReady, PutIs};
 
 // A run of rows with one number: its bytes; whether each row converts; whether two rows differ in a header key; whether there is none, since the
 // line at the place breaks the quoting.
@@ -117,7 +117,7 @@ fn put_first(
     spans: &[usize; 90],
     asked: bool,
 ) -> usize
-    requires { ⌜ Ready (now file) (now spans) asked ⌝ }
+    requires { ⌜ RowReady (now file) (now spans) asked ⌝ }
     ensures { λ r. ⌜ AddsLines 0 (now (out .entry)) (headerLines (now (mode .entry)) (now (sent .entry)) (now (control .entry)) ++ cond asked (firstLines (rowAt (now (file .entry)) (now (spans .entry)))) []) r (now (out .exit)) ⌝ }
 {
     let at = csv_lines::header(out, 0, mode, sent, control);
@@ -136,7 +136,7 @@ fn put_next(
     spans: &[usize; 90],
     asked: bool,
 ) -> usize
-    requires { ⌜ (at ≤ length (now out)) × Ready (now file) (now before) asked × Ready (now file) (now spans) asked ⌝ }
+    requires { ⌜ (at ≤ length (now out)) × RowReady (now file) (now before) asked × RowReady (now file) (now spans) asked ⌝ }
     ensures { λ r. ⌜ AddsLines at (now (out .entry)) (cond asked (nextLines (rowAt (now (file .entry)) (now (before .entry))) (rowAt (now (file .entry)) (now (spans .entry)))) []) r (now (out .exit)) ⌝ }
 {
     if asked {

@@ -62,19 +62,15 @@ fn convert(text: &[u8], mode: &[u8], sent: &[u8], control: &[u8])
 {
     match oul::csv_count(text) {
         Counted::Sheets(sheets) => {
-            if all(text, sheets, mode, sent, control, false) {
-                finish(all(text, sheets, mode, sent, control, true));
+            if all(text, sheets, mode, sent, control, false)
+                && all(text, sheets, mode, sent, control, true)
+            {
+                program::output(&NAME, b"", b"");
             }
         }
         Counted::NotCounted(fault) => {
-            file::refuse(&NAME, b"sheet=0\n", text, fault);
+            refusals::tell_file(&NAME, b"sheet=0\n", text, fault);
         }
-    }
-}
-
-fn finish(written: bool) {
-    if written {
-        program::output(&NAME, b"", b"");
     }
 }
 
@@ -140,7 +136,7 @@ fn one(text: &[u8], k: usize, made: Made, sheet: &[u8], message: &mut [u8], writ
         Made::Sheet(n) => message_of(k, program::front(sheet, n), message, writing),
         Made::Unfit(refusal) => refuse(k, refusal),
         Made::Faulty(fault) => {
-            file::refuse(&NAME, b"sheet=0\n", text, fault);
+            refusals::tell_file(&NAME, b"sheet=0\n", text, fault);
             false
         }
     }
@@ -165,6 +161,6 @@ fn handed(message: &[u8], writing: bool) -> bool {
 }
 
 fn refuse(k: usize, refusal: Refusal) -> bool {
-    file::refuse_one(&NAME, k, refusal);
+    refusals::tell_one(&NAME, k, refusal);
     false
 }

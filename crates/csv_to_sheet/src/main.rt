@@ -62,10 +62,10 @@ fn convert(text: &[u8], which: usize, mode: &[u8], sent: &[u8], control: &[u8]) 
     match oul::csv_sheet(text, which, mode, sent, control, &mut sheet) {
         Made::Sheet(n) => program::output(&NAME, program::front(&sheet, n), b""),
         Made::Unfit(refusal) => {
-            file::refuse_sheet(&NAME, refusal);
+            refusals::tell_csv_sheet(&NAME, refusal);
         }
         Made::Faulty(fault) => {
-            file::refuse(&NAME, b"", text, fault);
+            refusals::tell_file(&NAME, b"", text, fault);
         }
     }
 }

@@ -31,7 +31,7 @@ use Rattle.rules.proofs.Logic.{neither, not-true, not-false}
 use Rattle.rules.proofs.Header.{header}
 use Rattle.rules.proofs.Pieces.{start-first}
 use Rattle.rules.proofs.Where.{accepted-passes}
-use Rattle.bytes.specs.Bytes.{is}
+use Rattle.bytes.specs.Bytes.{isByte}
 use Rattle.rules.specs.declared.KnownSegment.{KnownSegment}
 use Rattle.rules.specs.declared.Found.{Found}
 use Rattle.rules.specs.declared.Found.the-variants as Found

@@ -62,7 +62,7 @@ fn fetch(m: &[u8], ordinal: usize, field: usize, component: usize) {
     match answer {
         Fetched::At(_) => program::output(&NAME, oul::bytes_of(m, answer), b"\n"),
         Fetched::NotFetched(refusal) => {
-            program::refuse_message(&NAME, m, refusal);
+            refusals::tell_message(&NAME, m, refusal);
         }
     }
 }

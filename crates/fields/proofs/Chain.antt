@@ -17,8 +17,8 @@ use Rattle.rules.specs.View.{pieceOf, fieldOf, componentOf, firstRepetition, se
 use Rattle.rules.specs.Judge.{plainOf, judge, judgeAll}
 use Rattle.rules.specs.Check.{Context, partNo, ownFault, laterFault, partFault, faultTold, partsTold}
 use Rattle.rules.proofs.Logic.{cases, then-zero, then-none, done}
-use Rattle.bytes.specs.Bytes.{until, is}
-use Rattle.scan.specs.Scan.{ends, after, onward}
+use Rattle.bytes.specs.Bytes.{until, isByte}
+use Rattle.scan.specs.Scan.{ends, afterSep, onward}
 use Rattle.value.specs.Rules.{ruleOf, faultNo, fineOf}
 use Rattle.value.specs.declared.Fault.{Fault}
 use Rattle.value.specs.declared.Rule.{Rule}
@@ -65,7 +65,7 @@ stops : (f : Fault) (i k l : ℕ) (t u : Told (Unit {0})) → fineOf f ≡ false
 unfolding faultTold
 stops f i k l t u h = rw (fault-some f h)
 
-onward-suc : (sep n : ℕ) (m : List ℕ) → after sep (onward sep n m) ≡ onward sep (suc n) m
+onward-suc : (sep n : ℕ) (m : List ℕ) → afterSep sep (onward sep n m) ≡ onward sep (suc n) m
 unfolding onward
 onward-suc sep n m = rw add-one at (onward-add sep n 1 m)
 
@@ -80,9 +80,9 @@ module _ {n : Name} {d : Delims} {ctx : Context} {s : List ℕ} {F : Field} {lef
       ap (λ k. onward (d .field) k (met (drop (w .at) s))) a ∙ ap (onward (d .field) (f - w .field - 1)) (x .rest h)
       ∙ onward-add (d .field) (suc (pieceOf n (w .field))) (f - w .field - 1) (met s) ∙ ap (λ k. onward (d .field) k (met s)) b
 
-  pub field-from : fineOf (w .fault) ≡ true → until (is (d .field)) (onward (d .field) (f - w .field) (met (drop (w .at) s))) ≡ fieldOf d (asKnown n (met s)) f
+  pub field-from : fineOf (w .fault) ≡ true → until (isByte (d .field)) (onward (d .field) (f - w .field) (met (drop (w .at) s))) ≡ fieldOf d (asKnown n (met s)) f
   unfolding fieldOf
-  field-from h = ap (until (is (d .field))) (from h) ∙ sym (piece-at (d .field) (pieceOf n f) (met s))
+  field-from h = ap (until (isByte (d .field))) (from h) ∙ sym (piece-at (d .field) (pieceOf n f) (met s))
 
   judged-at : fineOf (w .fault) ≡ true → JudgedField d s f own first (onward (d .field) (pieceOf n f) (met s)) r
   judged-at h = subst (λ m. JudgedField d s f own first m r) (from h) (g .judged h)
@@ -166,9 +166,9 @@ module _ {n : Name} {d : Delims} {ctx : Context} {s : List ℕ} {left : List Fie
   value-read o h =
       let m : List ℕ = onward (d .field) (pieceOf n f) (met s) in
       let j = judged-at x (g .went) l (earlier-fine (g .went) h) in
-      let c : List ℕ = componentOf d (firstRepetition d (until (is (d .field)) m)) 1 in
+      let c : List ℕ = componentOf d (firstRepetition d (until (isByte (d .field)) m)) 1 in
       let e : c ≡ until (ends d) m = component-is d p 0 m in
-      let a : (22 when has (d .repetition) (until (is (d .field)) m) then (judge d true (ruleOf rule) c then 0)) ≡ 0 = sym (j .told) ∙ h in
-      let b : judge d true (ruleOf rule) c ≡ 0 = then-none (judge d true (ruleOf rule) c) 0 (then-none (22 when has (d .repetition) (until (is (d .field)) m)) (judge d true (ruleOf rule) c then 0) a .1) .0 in
+      let a : (22 when has (d .repetition) (until (isByte (d .field)) m) then (judge d true (ruleOf rule) c then 0)) ≡ 0 = sym (j .told) ∙ h in
+      let b : judge d true (ruleOf rule) c ≡ 0 = then-none (judge d true (ruleOf rule) c) 0 (then-none (22 when has (d .repetition) (until (isByte (d .field)) m)) (judge d true (ruleOf rule) c then 0) a .1) .0 in
       sym (j .raw) ∙ ap (map byteOf) (sym e) ∙ sym (raw-value d p (ruleOf rule) c o b)
       ∙ ap (λ t. plainOf d (componentOf d (firstRepetition d t) 1)) (sym (piece-at (d .field) (pieceOf n f) (met s)))

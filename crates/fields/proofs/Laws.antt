@@ -15,8 +15,8 @@ use Rattle.rules.specs.View.{componentOf, firstRepetition, seenIn}
 use Rattle.rules.proofs.Logic.{cases, both, never, not-true, not-false, then-zero}
 use Rattle.rules.proofs.Lists.{rest-is, rest-length}
 use Rattle.rules.proofs.Header.{delim-small}
-use Rattle.bytes.specs.Bytes.{until, is}
-use Rattle.scan.specs.Scan.{ends, after, next, onward}
+use Rattle.bytes.specs.Bytes.{until, isByte}
+use Rattle.scan.specs.Scan.{ends, afterSep, next, onward}
 use Rattle.scan.proofs.Laws.{from-met, far-is, after-field}
 use Rattle.value.specs.Rules.{ruleOf, faultNo, fineOf}
 use Rattle.value.specs.declared.Fault.{Fault}
@@ -43,11 +43,11 @@ repeated-no q f h = rw h
 
 -- ---- the components of a field as the table lists them
 pub component-is : (d : Delims) → Proper d → (n : ℕ) (m : List ℕ)
-    → componentOf d (firstRepetition d (until (is (d .field)) m)) (suc n) ≡ until (ends d) (forward d n m)
+    → componentOf d (firstRepetition d (until (isByte (d .field)) m)) (suc n) ≡ until (ends d) (forward d n m)
 unfolding componentOf firstRepetition onward
 component-is d p n m =
     let z : suc n - 1 ≡ n = omega arith in
-    rw (z, piece-at (d .repetition) 0 (until (is (d .field)) m), repetition-is d m) (component-at d p n m)
+    rw (z, piece-at (d .repetition) 0 (until (isByte (d .field)) m), repetition-is d m) (component-at d p n m)
 
 forward-next : (d : Delims) (k : ℕ) (m : List ℕ) → forward d (suc k) m ≡ next d (forward d k m)
 unfolding forward
@@ -55,15 +55,15 @@ forward-next d zero m = refl
 forward-next d (suc k) m = forward-next d k (next d m)
 
 entries-are : (d : Delims) → Proper d → (m : List ℕ) (k : ℕ) (ps : List Place)
-    → componentsFault d ps (forward d k m) ≡ judgeAll d (map (seenIn d (firstRepetition d (until (is (d .field)) m))) (entriesFrom (suc k) ps))
+    → componentsFault d ps (forward d k m) ≡ judgeAll d (map (seenIn d (firstRepetition d (until (isByte (d .field)) m))) (entriesFrom (suc k) ps))
 unfolding componentsFault entriesFrom judgeAll seenIn placeFault
 entries-are d p m k [] = refl
 entries-are d p m k (q ∷ ps) =
     let e = ap (componentsFault d ps) (sym (forward-next d k m)) ∙ entries-are d p m (suc k) ps in
     placed q e
   where
-    placed : (q : Place) → componentsFault d ps (next d (forward d k m)) ≡ judgeAll d (map (seenIn d (firstRepetition d (until (is (d .field)) m))) (entriesFrom (suc (suc k)) ps))
-        → componentsFault d (q ∷ ps) (forward d k m) ≡ judgeAll d (map (seenIn d (firstRepetition d (until (is (d .field)) m))) (entriesFrom (suc k) (q ∷ ps)))
+    placed : (q : Place) → componentsFault d ps (next d (forward d k m)) ≡ judgeAll d (map (seenIn d (firstRepetition d (until (isByte (d .field)) m))) (entriesFrom (suc (suc k)) ps))
+        → componentsFault d (q ∷ ps) (forward d k m) ≡ judgeAll d (map (seenIn d (firstRepetition d (until (isByte (d .field)) m))) (entriesFrom (suc k) (q ∷ ps)))
     placed Unread e = e
     placed (Must r) e = rw (component-is d p k m) (ap (λ n. judge d true (ruleOf r) (until (ends d) (forward d k m)) then n) e)
     placed (May r) e = rw (component-is d p k m) (ap (λ n. judge d false (ruleOf r) (until (ends d) (forward d k m)) then n) e)
@@ -87,11 +87,11 @@ module _ (d : Delims) (p : Proper d) (form : Form) (t : List ℕ) (more : Bool) 
   read-three x y z q c = rw (q, e .1, e .2) (divided-read d p (x ∷ y ∷ z ∷ []) t more f g h l c (e .0))
 
 module _ (d : Delims) (form : Form) (t : List ℕ) (f g : Fault) (h k l : ℕ) (e : (g ≡ f) × (h ≡ 0) × (k ≡ l)) where
-  pub read-charset : form ≡ Charset → ClosedOf (charsetFault d) (until (is (d .field)) (met t)) (faultNo f) l → ReadOf d (formFault d form) (formHead d form) t (faultNo g) h k
+  pub read-charset : form ≡ Charset → ClosedOf (charsetFault d) (until (isByte (d .field)) (met t)) (faultNo f) l → ReadOf d (formFault d form) (formHead d form) t (faultNo g) h k
   unfolding formFault formHead
   read-charset q c = rw (q, e .0, e .1, e .2) (record { told = c .told; raw = refl; long = c .long })
 
-  pub read-names : form ≡ Names → ClosedOf (namesFault d) (until (is (d .field)) (met t)) (faultNo f) l → ReadOf d (formFault d form) (formHead d form) t (faultNo g) h k
+  pub read-names : form ≡ Names → ClosedOf (namesFault d) (until (isByte (d .field)) (met t)) (faultNo f) l → ReadOf d (formFault d form) (formHead d form) t (faultNo g) h k
   unfolding formFault formHead
   read-names q c = rw (q, e .0, e .1, e .2) (record { told = c .told; raw = refl; long = c .long })
 
@@ -135,12 +135,12 @@ head-is s a n = let z : a + n - a ≡ n = omega arith in rw z
 
 -- ---- on to a field
 pub past-on : (s x : List ℕ) (sep left to r : ℕ) → x ≡ onward sep left (met (drop to s)) → 0 < left
-    → met (drop r (take (length s - to) (drop to s))) ≡ after sep (met (take (length s - to) (drop to s))) → x ≡ onward sep (left - 1) (met (drop (to + r) s))
+    → met (drop r (take (length s - to) (drop to s))) ≡ afterSep sep (met (take (length s - to) (drop to s))) → x ≡ onward sep (left - 1) (met (drop (to + r) s))
 unfolding onward
 past-on s x sep zero to r inv h e = absurd (omega arith)
 past-on s x sep (suc k) to r inv h e =
     let j : suc k - 1 ≡ k = omega arith in
-    let q : met (drop (to + r) s) ≡ after sep (met (drop to s)) = rw (rest-is s to, drop-drop) at e in
+    let q : met (drop (to + r) s) ≡ afterSep sep (met (drop to s)) = rw (rest-is s to, drop-drop) at e in
     rw (j, q) inv
 
 pub past-end : (s x : List ℕ) (sep left to : ℕ) → x ≡ onward sep left (met (drop to s)) → left ≤ 0 → met (drop to s) ≡ x
@@ -158,12 +158,12 @@ module _ (d : Delims) (s : List ℕ) (n : ℕ) (own : List ℕ → ℕ) (first :
     ended = λ z. never (sym (not-false q h) ∙ e ∙ z);
     judged = λ z. let t : List ℕ = drop u s in
         let x : ReadOf d own first t (faultNo (r .fault)) (r .head) k = rw (rest-is s u) at c in
-        let m : drop (r .at) s ≡ drop (length (until (is (d .field)) (met t))) t = rw f (sym (drop-drop k u s) ∙ ap (λ i. drop i t) (x .long)) in
+        let m : drop (r .at) s ≡ drop (length (until (isByte (d .field)) (met t))) t = rw f (sym (drop-drop k u s) ∙ ap (λ i. drop i t) (x .long)) in
         record {
-          told = x .told ∙ ap (λ l. own (until (is (d .field)) l)) g;
+          told = x .told ∙ ap (λ l. own (until (isByte (d .field)) l)) g;
           numbered = a;
           raw = sym (ap (λ l. map byteOf (first l)) g) ∙ x .raw ∙ ap (λ i. take (r .head) (drop i s)) (sym b);
-          rest = ap (λ l. after (d .field) (met l)) m ∙ ap (after (d .field)) (sym (from-met (is (d .field)) (far-is (d .field) (delim-small (d .field) (p .field))) t)) ∙ after-field (d .field) (met t) ∙ ap (after (d .field)) g;
+          rest = ap (λ l. afterSep (d .field) (met l)) m ∙ ap (afterSep (d .field)) (sym (from-met (isByte (d .field)) (far-is (d .field) (delim-small (d .field) (p .field))) t)) ∙ after-field (d .field) (met t) ∙ ap (afterSep (d .field)) g;
         };
   }
 

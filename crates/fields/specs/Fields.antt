@@ -12,8 +12,8 @@ use Rattle.rules.specs.Places.{Field, reads, closed, charset, names, _must_, _m
 use Rattle.rules.specs.Places as Table
 use Rattle.rules.specs.View.{firstRepetition, seenIn}
 use Rattle.rules.specs.Judge.{judgeAll, namesFault}
-use Rattle.bytes.specs.Bytes.{until, is}
-use Rattle.scan.specs.Scan.{ends, after, onward}
+use Rattle.bytes.specs.Bytes.{until, isByte}
+use Rattle.scan.specs.Scan.{ends, afterSep, onward}
 use Rattle.value.specs.Rules.{ruleOf, faultNo, fineOf}
 use Rattle.judge.specs.Judge.{Small}
 use Rattle.components.specs.Components.{Smalls}
@@ -65,9 +65,9 @@ formHead d Names m = []
 
 -- the field at the start of t
 pub record ReadOf (d : Delims) (own : List ℕ → ℕ) (first : List ℕ → List ℕ) (t : List ℕ) (fault head len : ℕ) : Type 0 where
-  pub told : fault ≡ own (until (is (d .field)) (met t))
+  pub told : fault ≡ own (until (isByte (d .field)) (met t))
   pub raw : map byteOf (first (met t)) ≡ take head t
-  pub long : len ≡ length (until (is (d .field)) (met t))
+  pub long : len ≡ length (until (isByte (d .field)) (met t))
 
 -- ---- a segment s, field by field
 pub record Begins (n : ℕ) (w : Walk) : Type 0 where
@@ -84,10 +84,10 @@ pub record Ready (s : List ℕ) (n : ℕ) (w : Walk) : Type 0 where
 
 -- field n, from which m goes on, is judged
 pub record JudgedField (d : Delims) (s : List ℕ) (n : ℕ) (own : List ℕ → ℕ) (first : List ℕ → List ℕ) (m : List ℕ) (w : Walk) : Type 0 where
-  pub told : faultNo (w .fault) ≡ own (until (is (d .field)) m)
+  pub told : faultNo (w .fault) ≡ own (until (isByte (d .field)) m)
   pub numbered : w .field ≡ n
   pub raw : map byteOf (first m) ≡ take (w .head) (drop (w .start) s)
-  pub rest : after (d .field) (met (drop (w .at) s)) ≡ after (d .field) m
+  pub rest : afterSep (d .field) (met (drop (w .at) s)) ≡ afterSep (d .field) m
 
 -- from w on to field n; a fault that is found ends the segment
 pub record Went (d : Delims) (s : List ℕ) (n : ℕ) (own : List ℕ → ℕ) (first : List ℕ → List ℕ) (w r : Walk) : Type 0 where

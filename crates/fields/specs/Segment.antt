@@ -12,7 +12,7 @@ use Rattle.rules.specs.Frame.{Known}
 use Rattle.rules.specs.Places.{Field}
 use Rattle.rules.specs.View.{pieceOf, partOf, Segment, segmentOf}
 use Rattle.rules.specs.Check.{Context, faultTold, partsTold}
-use Rattle.scan.specs.Scan.{after, onward}
+use Rattle.scan.specs.Scan.{afterSep, onward}
 use Rattle.value.specs.Rules.{faultNo, fineOf}
 use Rattle.fields.specs.declared.Walk.{Walk}
 
@@ -32,7 +32,7 @@ pub record Walked (n : Name) (d : Delims) (x : Context) (s : List ℕ) (left : L
   pub told : (i : ℕ) → partsTold d x i (segment n d s) (segment n d s .parts)
       ≡ (faultTold i (w .field) (faultNo (w .fault)) >> partsTold d x i (segment n d s) (map (partOf d (asKnown n (met s))) left))
   pub lead : (f : ℕ) → w .field ≤ f → pieceOf n f ≡ pieceOf n (w .field) + (f - w .field)
-  pub rest : fineOf (w .fault) ≡ true → after (d .field) (met (drop (w .at) s)) ≡ onward (d .field) (suc (pieceOf n (w .field))) (met s)
+  pub rest : fineOf (w .fault) ≡ true → afterSep (d .field) (met (drop (w .at) s)) ≡ onward (d .field) (suc (pieceOf n (w .field))) (met s)
 
 -- the fault at a field is what the table tells of the segment, whatever its ordinal
 pub record FoundIn (n : Name) (d : Delims) (x : Context) (body : List ℕ) (field fault : ℕ) : Type 0 where

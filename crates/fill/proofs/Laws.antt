@@ -30,30 +30,30 @@ use Rattle.unescape.specs.declared.Unescaped.the-variants.{Got, Faulty, Over}
 use Rattle.writer.specs.Over.{Wrote}
 use Rattle.writer.specs.Over as W
 use Rattle.writer.proofs.Laws.{tail-none}
-use Rattle.fill.specs.Fill.{least, Filled, fillAt, FilledAt, Lined}
+use Rattle.fill.specs.Fill.{lesser, Filled, fillAt, FilledAt, Lined}
 
 -- ---- the lesser of two numbers
-pub least-first : (a b : ℕ) → a < b → a ≡ least a b
-unfolding least
+pub least-first : (a b : ℕ) → a < b → a ≡ lesser a b
+unfolding lesser
 least-first zero b h = refl
 least-first (suc a) zero h = absurd (omega arith)
 least-first (suc a) (suc b) h = ap suc (least-first a b (omega arith))
 
-pub least-second : (a b : ℕ) → b ≤ a → b ≡ least a b
-unfolding least
+pub least-second : (a b : ℕ) → b ≤ a → b ≡ lesser a b
+unfolding lesser
 least-second zero b h = omega arith
 least-second (suc a) zero h = refl
 least-second (suc a) (suc b) h = ap suc (least-second a b (omega arith))
 
 -- ---- bytes as they are
-fill-over : (s old : List ℕ) → take (least (length s) (length old)) s ++ drop (least (length s) (length old)) old ≡ fill s old
-unfolding least fill
+fill-over : (s old : List ℕ) → take (lesser (length s) (length old)) s ++ drop (lesser (length s) (length old)) old ≡ fill s old
+unfolding lesser fill
 fill-over [] old = refl
 fill-over (x ∷ s) [] = refl
 fill-over (x ∷ s) (o ∷ old) = ap (λ (l : List ℕ). x ∷ l) (fill-over s old)
 
-pub put-fills : (s old x : List ℕ) (n k : ℕ) → n ≡ least (length s) (length old) → (n ≤ length s) × (n ≤ length old) → Wrote k x (take n s) old → Filled (length s) x s old
-unfolding W.over
+pub put-fills : (s old x : List ℕ) (n k : ℕ) → n ≡ lesser (length s) (length old) → (n ≤ length s) × (n ≤ length old) → Wrote k x (take n s) old → Filled (length s) x s old
+unfolding W.overFront
 put-fills s old x n k e h w = record {
   ends = refl;
   is = w .is ∙ rw (length-take-le n s (h .0), e) (fill-over s old);
@@ -118,20 +118,20 @@ length-fill [] old = refl
 length-fill (x ∷ w) [] = refl
 length-fill (x ∷ w) (o ∷ old) = ap suc (length-fill w old)
 
-fill-more : (w b old : List ℕ) → take (least (length w) (length old)) (fill w old) ++ fill b (drop (least (length w) (length old)) (fill w old)) ≡ fill (w ++ b) old
-unfolding least fill
+fill-more : (w b old : List ℕ) → take (lesser (length w) (length old)) (fill w old) ++ fill b (drop (lesser (length w) (length old)) (fill w old)) ≡ fill (w ++ b) old
+unfolding lesser fill
 fill-more [] b old = refl
 fill-more (x ∷ w) b [] = fill-nil b
 fill-more (x ∷ w) b (o ∷ old) = ap (λ (l : List ℕ). x ∷ l) (fill-more w b old)
 
 -- the buffer once what is left of it from a place on, which was lent to a routine, is back
-pub back : (x y b : List ℕ) (at f r : ℕ) → f ≡ least at (length x) → Filled r y b (take (length x - f) (drop f x))
+pub back : (x y b : List ℕ) (at f r : ℕ) → f ≡ lesser at (length x) → Filled r y b (take (length x - f) (drop f x))
     → FilledAt at x b (at + r) (take f x ++ (y ++ drop (length x - f) (drop f x)))
 unfolding fillAt
 back x y b at f r e q = record { ends = omega (arith, q .ends); is = rw (q .is, rest-is, tail-none, append-nil, e) }
 
 pub add-twice : (at : ℕ) (b c x : List ℕ) → fillAt (at + length b) c (fillAt at b x) ≡ fillAt at (b ++ c) x
-unfolding fillAt least
+unfolding fillAt lesser
 add-twice zero b c x = rw (zero-add, length-fill b x) (fill-more b c x)
 add-twice (suc at) b c [] = rw (fill-nil b, suc-add) (rw (fill-nil c, fill-nil (b ++ c)))
 add-twice (suc at) b c (o ∷ x) = rw suc-add (ap (λ (l : List ℕ). o ∷ l) (add-twice at b c x))

@@ -9,10 +9,10 @@ use Rattle.rules.specs.Judge.{plainOf}
 use Rattle.unescape.specs.Unescaped.{fill}
 
 -- the lesser of two numbers
-unfoldable pub least : ℕ → ℕ → ℕ
-least zero n = 0
-least (suc a) zero = 0
-least (suc a) (suc n) = suc (least a n)
+unfoldable pub lesser : ℕ → ℕ → ℕ
+lesser zero n = 0
+lesser (suc a) zero = 0
+lesser (suc a) (suc n) = suc (lesser a n)
 
 -- a text w over old's front, as far as old reaches: r is how long it is, x what it leaves
 pub record Filled (r : ℕ) (x w old : List ℕ) : Type 0 where
@@ -21,7 +21,7 @@ pub record Filled (r : ℕ) (x w old : List ℕ) : Type 0 where
 
 -- a text b over x from at on, as far as x reaches: it ends at r, and leaves y
 unfoldable pub fillAt : ℕ → List ℕ → List ℕ → List ℕ
-fillAt at b x = take (least at (length x)) x ++ fill b (drop (least at (length x)) x)
+fillAt at b x = take (lesser at (length x)) x ++ fill b (drop (lesser at (length x)) x)
 
 pub record FilledAt (at : ℕ) (x b : List ℕ) (r : ℕ) (y : List ℕ) : Type 0 where
   pub ends : r ≡ at + length b

@@ -9,11 +9,11 @@ ghost use lib.ListN.{length};
 ghost use Rattle.rules.specs.Shift.{met};
 ghost use Rattle.rules.specs.Proper.{Proper};
 ghost use Rattle.rules.specs.Judge.{plainOf};
-ghost use Rattle.fill.specs.Fill.{least, Filled, FilledAt, Lined, keyed, longest, Near};
+ghost use Rattle.fill.specs.Fill.{lesser, Filled, FilledAt, Lined, keyed, longest, Near};
 
 // The lesser of two numbers.
 pub fn lesser(a: usize, b: usize) -> usize
-    ensures { λ r. ⌜ r ≡ least a b ⌝ }
+    ensures { λ r. ⌜ r ≡ lesser a b ⌝ }
     ensures within { λ r. ⌜ (r ≤ a) × (r ≤ b) ⌝ }
 {
     if a < b { a } else { b }
@@ -29,7 +29,7 @@ fn put(out: &mut [u8], bytes: &[u8]) -> usize
 }
 
 // A component of a segment without its escapes; nothing where it has a bad one.
-pub fn plain(out: &mut [u8], raw: &[u8], d: Delims) -> usize
+pub fn text(out: &mut [u8], raw: &[u8], d: Delims) -> usize
     requires { ⌜ Proper d × (length (now raw) ≤ 4096) ⌝ }
     ensures { λ r. ⌜ Filled r (now (out .exit)) (plainOf d (met (now (raw .entry)))) (now (out .entry)) ⌝ }
     ensures within { λ r. ⌜ r ≤ length (now (raw .entry)) ⌝ }
@@ -56,13 +56,13 @@ fn put_at(out: &mut [u8], at: usize, bytes: &[u8]) -> usize
     at + put(&mut out[from..], bytes)
 }
 
-fn plain_at(out: &mut [u8], at: usize, raw: &[u8], d: Delims) -> usize
+fn text_at(out: &mut [u8], at: usize, raw: &[u8], d: Delims) -> usize
     requires { ⌜ Proper d × (length (now raw) ≤ 4096) × (at + length (now raw) < 18446744073709551616) ⌝ }
     ensures { λ r. ⌜ FilledAt at (now (out .entry)) (plainOf d (met (now (raw .entry)))) r (now (out .exit)) ⌝ }
     ensures within { λ r. ⌜ r ≤ at + length (now (raw .entry)) ⌝ }
 {
     let from = lesser(at, out.len());
-    at + plain(&mut out[from..], raw, d)
+    at + text(&mut out[from..], raw, d)
 }
 
 // A line: its key with `=`, its value, 0A.
@@ -72,7 +72,7 @@ pub fn line(out: &mut [u8], at: usize, key: &[u8], raw: &[u8], d: Delims) -> usi
     ensures within { λ r. ⌜ r ≤ at + longest 1 ⌝ }
 {
     let at = put_at(out, at, key);
-    let at = plain_at(out, at, raw, d);
+    let at = text_at(out, at, raw, d);
     put_at(out, at, b"\n")
 }
 

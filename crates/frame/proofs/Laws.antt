@@ -27,14 +27,14 @@ use Rattle.order.specs.Order.{reachedOf}
 use Rattle.order.specs.declared.Reached.{Reached}
 use Rattle.order.proofs.Laws.{reached-is}
 use Rattle.frame.proofs.Rules.{counted-skipped, counted-next, closing-is, sound}
-use Rattle.frame.specs.Frame.{mostBytes, goodOf, nothingSeen, tallied, countedOf, seenIn, passFrom, closing, frameOf, framedTold, Within, Sound}
+use Rattle.frame.specs.Frame.{mostBytes, goodOf, nothingSeen, tallied, countedOf, seenAfter, passFrom, closing, frameOf, framedTold, Within, Sound}
 use Rattle.rules.specs.declared.Kind.the-variants.{TooLong, Header, Bytes, Segment, TooMany, Order}
 use Rattle.frame.specs.declared.Opened.{Opened}
 use Rattle.frame.specs.declared.Framed.{Framed}
 use Rattle.frame.specs.declared.Framed.the-variants.{Open, Not}
-use Rattle.frame.specs.declared.segments.Seen.{Seen}
-use Rattle.frame.specs.declared.segments.Passed.{Passed}
-use Rattle.frame.specs.declared.segments.Passed.the-variants.{Whole, Bad}
+use Rattle.frame.specs.declared.all_segments.Seen.{Seen}
+use Rattle.frame.specs.declared.all_segments.SegmentsPassed.{SegmentsPassed}
+use Rattle.frame.specs.declared.all_segments.SegmentsPassed.the-variants.{Whole, Bad}
 
 -- ---- the first of two faults
 module _ (f at : ℕ) (t : Bool) where
@@ -92,14 +92,14 @@ and-exchange true b c = refl
 and-exchange false true c = refl
 and-exchange false false c = refl
 
-module _ (bar : ℕ) (r : List ℕ) (n : ℕ) (en : n ≡ length (until (Bytes.is 0x0D) r)) where
+module _ (bar : ℕ) (r : List ℕ) (n : ℕ) (en : n ≡ length (until (Bytes.isByte 0x0D) r)) where
   pub ok-unended : 0 < length r → n ≡ length r → segmentsOk bar r ≡ false
   unfolding segmentsOk last
   ok-unended f h = rw (split-last 0x0D r (sym en ∙ h), filled-some r (λ q. omega arith))
 
   module _ (h : n < length r) where
     cut : split 0x0D r ≡ take n r ∷ split 0x0D (drop (suc n) r)
-    cut = let k : length (until (Bytes.is 0x0D) r) < length r = omega arith in rw (← en) at (split-more 0x0D r k)
+    cut = let k : length (until (Bytes.isByte 0x0D) r) < length r = omega arith in rw (← en) at (split-more 0x0D r k)
 
     pub segments-next : segments r ≡ take n r ∷ segments (drop (suc n) r)
     unfolding segments
@@ -112,16 +112,16 @@ module _ (bar : ℕ) (r : List ℕ) (n : ℕ) (en : n ≡ length (until (Bytes.i
         (and-exchange (empty (last (split 0x0D (drop (suc n) r)))) (goodOf bar (take n r)) (all (goodOf bar) (segments (drop (suc n) r))))
 
     pass-next : (v : Seen) → passFrom v bar r ≡ cond (goodOf bar (take n r)) (passFrom (countedOf v (nameOf (take n r))) bar (drop (suc n) r)) Bad
-    unfolding passFrom seenIn
+    unfolding passFrom seenAfter
     pass-next v = rw (ok-next, segments-next) (cases (goodOf bar (take n r)) (λ e. rw e) (λ e. rw e))
 
 pub pass-starts : (m : List ℕ) (bar : ℕ) (v : Seen) → v ≡ nothingSeen → passFrom nothingSeen bar m ≡ passFrom v bar m
 pass-starts m bar v e = rw e
 
 -- ---- one turn of a loop over the segments, at `at`, as its code has the rest
-module _ (m : List ℕ) (at n : ℕ) (en : n ≡ length (until (Bytes.is 0x0D) (take (length m - at) (drop at m)))) where
-  pub there : n ≡ length (until (Bytes.is 0x0D) (drop at m))
-  there = until-rest (Bytes.is 0x0D) m at n en
+module _ (m : List ℕ) (at n : ℕ) (en : n ≡ length (until (Bytes.isByte 0x0D) (take (length m - at) (drop at m)))) where
+  pub there : n ≡ length (until (Bytes.isByte 0x0D) (drop at m))
+  there = until-rest (Bytes.isByte 0x0D) m at n en
 
   pub segment-there : n < length (drop at m) → segments (drop at m) ≡ take n (drop at m) ∷ segments (drop (at + (n + 1)) m)
   segment-there h = segments-next 0 (drop at m) n there h ∙ ap (λ l. take n (drop at m) ∷ segments l) (rest-on m at n)
@@ -143,7 +143,7 @@ named-there m at n x e = ap (λ l. nameOf (take n l)) (sym (rest-is m at)) ∙ s
 
 -- the pass at `at`
 module _ (m : List ℕ) (bar at n : ℕ) (v : Seen) (inv : passFrom nothingSeen bar m ≡ passFrom v bar (drop at m))
-    (en : n ≡ length (until (Bytes.is 0x0D) (take (length m - at) (drop at m)))) where
+    (en : n ≡ length (until (Bytes.isByte 0x0D) (take (length m - at) (drop at m)))) where
   pub pass-open : at < length m → n ≡ length (take (length m - at) (drop at m)) → Bad ≡ passFrom nothingSeen bar m
   unfolding passFrom
   pass-open h e = sym (inv ∙ rw (ok-unended bar (drop at m) n (there m at n en) (omega (arith, length-drop at m)) (e ∙ ap length (rest-is m at))))
@@ -164,7 +164,7 @@ module _ (m : List ℕ) (bar at n : ℕ) (v : Seen) (inv : passFrom nothingSeen 
       pass-on x w h ex ew = turn ∙ rw (not-false t h, ew, ex, rest-is m at)
 
 pub pass-end : (m : List ℕ) (bar at : ℕ) (v : Seen) → passFrom nothingSeen bar m ≡ passFrom v bar (drop at m) → length m ≤ at → Whole v ≡ passFrom nothingSeen bar m
-unfolding passFrom seenIn segmentsOk segments split allButLast last empty all
+unfolding passFrom seenAfter segmentsOk segments split allButLast last empty all
 pass-end m bar at v inv h = sym (inv ∙ rw (over m at h))
 
 -- ---- the numbers of a pass stay below the bytes passed
@@ -216,16 +216,16 @@ close-open d v t at h et ea n = rw (le-ltb 512 (v .segments) h, ← et, ← ea, 
 -- ---- what a pass that is over says
 passed-bad : (v : Seen) (bar : ℕ) (r : List ℕ) → passFrom v bar r ≡ Bad → segmentsOk bar r ≡ false
 unfolding passFrom
-passed-bad v bar r h = cases (segmentsOk bar r) (λ e. let z : Whole (seenIn v (segments r)) ≡ Bad = rw e at h in cc) (λ e. e)
+passed-bad v bar r h = cases (segmentsOk bar r) (λ e. let z : Whole (seenAfter v (segments r)) ≡ Bad = rw e at h in cc) (λ e. e)
 
-passed-whole : (v w : Seen) (bar : ℕ) (r : List ℕ) → passFrom v bar r ≡ Whole w → (segmentsOk bar r ≡ true) × (seenIn v (segments r) ≡ w)
+passed-whole : (v w : Seen) (bar : ℕ) (r : List ℕ) → passFrom v bar r ≡ Whole w → (segmentsOk bar r ≡ true) × (seenAfter v (segments r) ≡ w)
 unfolding passFrom
 passed-whole v w bar r h =
     cases (segmentsOk bar r)
-    (λ e. let z : Whole (seenIn v (segments r)) ≡ Whole w = rw e at h in (e, cc))
+    (λ e. let z : Whole (seenAfter v (segments r)) ≡ Whole w = rw e at h in (e, cc))
     (λ e. let z : Bad ≡ Whole w = rw e at h in (cc, cc))
 
-pub whole-within : (p : Passed) (v : Seen) → ((w : Seen) → p ≡ Whole w → Within mostBytes w) → p ≡ Whole v → Within mostBytes v
+pub whole-within : (p : SegmentsPassed) (v : Seen) → ((w : Seen) → p ≡ Whole w → Within mostBytes w) → p ≡ Whole v → Within mostBytes v
 whole-within p v f e = f v e
 
 -- ---- 10 to 15
@@ -247,7 +247,7 @@ module _ (m : List ℕ) (r : Framed) where
       unfolding frameOf frameTold
       frame-12 h e = rw (e, le-ltb 32768 (length m) l, ← et, not-false t ht, ← eu, not-true u h)
 
-      module _ (hu : not u ≡ false) (d : Delims) (ed : d ≡ delimsOf m) (p : Passed) (ep : p ≡ passFrom nothingSeen (d .field) m) where
+      module _ (hu : not u ≡ false) (d : Delims) (ed : d ≡ delimsOf m) (p : SegmentsPassed) (ep : p ≡ passFrom nothingSeen (d .field) m) where
         pub frame-13 : p ≡ Bad → r ≡ Not (record { kind = Segment; segment = 0; field = 0 }) → framedTold r ≡ frameOf m
         unfolding frameOf frameTold
         frame-13 h e =

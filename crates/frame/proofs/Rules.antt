@@ -21,10 +21,10 @@ use Rattle.rules.specs.Check.{frameTold, namesOf, countsTold, unsaid, placesTol
 use Rattle.rules.proofs.Logic.{cases, toldCases, then-zero, then-gives}
 use Rattle.rules.proofs.Header.{header}
 use Rattle.rules.proofs.Where.{passes}
-use Rattle.order.specs.Order.{reachedOf, codeOf}
-use Rattle.frame.specs.Frame.{frameOf, Sound, nothingSeen, tallied, countedOf, seenIn, closing}
+use Rattle.order.specs.Order.{reachedOf, codeReached}
+use Rattle.frame.specs.Frame.{frameOf, Sound, nothingSeen, tallied, countedOf, seenAfter, closing}
 use Rattle.frame.specs.declared.Opened.{Opened}
-use Rattle.frame.specs.declared.segments.Seen.{Seen}
+use Rattle.frame.specs.declared.all_segments.Seen.{Seen}
 
 -- ---- the names of the known segments
 unfoldable namesFrom : Delims → ℕ → List (List ℕ) → List Name
@@ -51,7 +51,7 @@ counted-skipped v n e = rw e
 
 pub counted-next : (v : Seen) (n : Name) → is n Other ≡ false
     → countedOf v n
-    ≡ record { segments = v .segments + 1; known = v .known + 1; reached = codeOf (past (reachedOf (v .reached)) n); fault = v .fault then (v .known + 1 when not (mayFollow (reachedOf (v .reached)) n)); counts = tallied (v .counts) n }
+    ≡ record { segments = v .segments + 1; known = v .known + 1; reached = codeReached (past (reachedOf (v .reached)) n); fault = v .fault then (v .known + 1 when not (mayFollow (reachedOf (v .reached)) n)); counts = tallied (v .counts) n }
 unfolding countedOf
 counted-next v n e = rw e
 
@@ -59,8 +59,8 @@ counted-next v n e = rw e
 counted-one : (v : Seen) (n : Name) → countedOf v n .segments ≡ v .segments + 1
 counted-one v n = cases (is n Other) (λ e. ap (λ w. w .segments) (counted-skipped v n e)) (λ e. ap (λ w. w .segments) (counted-next v n e))
 
-seen-segments : (v : Seen) (ss : List (List ℕ)) → seenIn v ss .segments ≡ v .segments + length ss
-unfolding seenIn
+seen-segments : (v : Seen) (ss : List (List ℕ)) → seenAfter v ss .segments ≡ v .segments + length ss
+unfolding seenAfter
 seen-segments v [] = omega arith
 seen-segments v (s ∷ ss) = omega (arith, seen-segments (countedOf v (nameOf s)) ss, counted-one v (nameOf s))
 
@@ -72,13 +72,13 @@ tallied-next : (c : Counts) (n : Name) (ns : List Name) → talliedAll (tallied 
 unfolding tallied count
 tallied-next c n ns = rw (add-assoc (c .spm) (1 when is Spm n), add-assoc (c .obr) (1 when is Obr n), add-assoc (c .obx) (1 when is Obx n))
 
-seen-counts : (d : Delims) (at : ℕ) (v : Seen) (ss : List (List ℕ)) → seenIn v ss .counts ≡ talliedAll (v .counts) (namesFrom d at ss)
-unfolding seenIn count
+seen-counts : (d : Delims) (at : ℕ) (v : Seen) (ss : List (List ℕ)) → seenAfter v ss .counts ≡ talliedAll (v .counts) (namesFrom d at ss)
+unfolding seenAfter count
 seen-counts d at v [] = rw (names-nil d at, add-zero (v .counts .spm), add-zero (v .counts .obr), add-zero (v .counts .obx))
 seen-counts d at v (s ∷ ss) =
     let n : Name = nameOf s in
     let ns : List Name = namesFrom d (at + suc (length s)) ss in
-    let r : seenIn (countedOf v n) ss .counts ≡ talliedAll (countedOf v n .counts) ns = seen-counts d (at + suc (length s)) (countedOf v n) ss in
+    let r : seenAfter (countedOf v n) ss .counts ≡ talliedAll (countedOf v n .counts) ns = seen-counts d (at + suc (length s)) (countedOf v n) ss in
     cases (is n Other)
     (λ e. r ∙ rw (counted-skipped v n e, names-other d at s ss e))
     (λ e. r ∙ rw (counted-next v n e, names-known d at s ss e) (tallied-next (v .counts) n ns))
@@ -99,24 +99,24 @@ order-next f k a n ns =
     (λ e. rw (e, orderFault, then-zero f, add-one (k + 1)))
     (λ e. rw (e, orderFault) (then-first f k (orderFault (past a n) (k + 1 + 1) ns)))
 
-seen-order : (d : Delims) (at : ℕ) (v : Seen) (ss : List (List ℕ)) → orderEnd (seenIn v ss) ≡ (v .fault then orderFault (reachedOf (v .reached)) (v .known + 1) (namesFrom d at ss))
-unfolding seenIn orderEnd orderFault
+seen-order : (d : Delims) (at : ℕ) (v : Seen) (ss : List (List ℕ)) → orderEnd (seenAfter v ss) ≡ (v .fault then orderFault (reachedOf (v .reached)) (v .known + 1) (namesFrom d at ss))
+unfolding seenAfter orderEnd orderFault
 seen-order d at v [] = rw (names-nil d at) (cases (mayEnd (reachedOf (v .reached))) (λ e. rw e) (λ e. rw e))
 seen-order d at v (s ∷ ss) =
     let n : Name = nameOf s in
     let ns : List Name = namesFrom d (at + suc (length s)) ss in
-    let r : orderEnd (seenIn (countedOf v n) ss) ≡ (countedOf v n .fault then orderFault (reachedOf (countedOf v n .reached)) (countedOf v n .known + 1) ns) = seen-order d (at + suc (length s)) (countedOf v n) ss in
+    let r : orderEnd (seenAfter (countedOf v n) ss) ≡ (countedOf v n .fault then orderFault (reachedOf (countedOf v n .reached)) (countedOf v n .known + 1) ns) = seen-order d (at + suc (length s)) (countedOf v n) ss in
     cases (is n Other)
     (λ e. r ∙ rw (counted-skipped v n e, names-other d at s ss e))
     (λ e. r ∙ rw (counted-next v n e, names-known d at s ss e) (order-next (v .fault) (v .known) (reachedOf (v .reached)) n ns))
 
 -- so 14 and 15 are the rules' own
-pub closing-is : (m : List ℕ) (d : Delims) → closing d (seenIn nothingSeen (segments m))
+pub closing-is : (m : List ℕ) (d : Delims) → closing d (seenAfter nothingSeen (segments m))
     ≡ (refuse 14 if ltb 512 (length (segments m)) else
     cond (eqb (orderFault start 1 (namesOf (view m))) 0) (countsTold (namesOf (view m)) >>= λ c. gives (record { delims = d; counts = c })) (refused 15 (orderFault start 1 (namesOf (view m))) 0))
 unfolding closing orderEnd namesFrom view known countsTold
 closing-is m d =
-    let w : Seen = seenIn nothingSeen (segments m) in
+    let w : Seen = seenAfter nothingSeen (segments m) in
     let ns : List Name = namesOf (view m) in
     let en : namesFrom (delimsOf m) 0 (segments m) ≡ ns = refl in
     let eo : (w .fault then (w .known + 1 when not (mayEnd (reachedOf (w .reached))))) ≡ orderFault start 1 ns

@@ -15,13 +15,13 @@ use Rattle.rules.specs.Frame.{delimsOf, nameOk, nameOf, segments, segmentsOk, i
 use Rattle.rules.specs.Proper.{Proper}
 use Rattle.rules.specs.View.{view}
 use Rattle.rules.specs.Check.{frameTold, namesOf, countsTold}
-use Rattle.order.specs.Order.{reachedOf, codeOf}
+use Rattle.order.specs.Order.{reachedOf, codeReached}
 use Rattle.frame.specs.declared.Opened.{Opened}
 use Rattle.frame.specs.declared.Framed.{Framed}
 use Rattle.frame.specs.declared.Framed.the-variants.{Open, Not}
-use Rattle.frame.specs.declared.segments.Seen.{Seen}
-use Rattle.frame.specs.declared.segments.Passed.{Passed}
-use Rattle.frame.specs.declared.segments.Passed.the-variants.{Whole, Bad}
+use Rattle.frame.specs.declared.all_segments.Seen.{Seen}
+use Rattle.frame.specs.declared.all_segments.SegmentsPassed.{SegmentsPassed}
+use Rattle.frame.specs.declared.all_segments.SegmentsPassed.the-variants.{Whole, Bad}
 
 -- "At most 32,768 bytes."
 abbrev pub mostBytes : ℕ
@@ -53,7 +53,7 @@ abbrev pub goodOf : ℕ → List ℕ → Bool
 goodOf bar s = leb (length s) 4096 && nameOk bar s
 
 abbrev pub nothingSeen : Seen
-nothingSeen = record { segments = 0; known = 0; reached = codeOf start; fault = 0; counts = record { spm = 0; obr = 0; obx = 0 } }
+nothingSeen = record { segments = 0; known = 0; reached = codeReached start; fault = 0; counts = record { spm = 0; obr = 0; obx = 0 } }
 
 unfoldable pub tallied : Counts → Name → Counts
 tallied c n = record { spm = c .spm + (1 when is Spm n); obr = c .obr + (1 when is Obr n); obx = c .obx + (1 when is Obx n) }
@@ -68,18 +68,18 @@ countedOf v n =
     (record {
       segments = v .segments + 1;
       known = at;
-      reached = codeOf (past reached n);
+      reached = codeReached (past reached n);
       fault = v .fault then (at when not (mayFollow reached n));
       counts = tallied (v .counts) n;
     })
 
-unfoldable pub seenIn : Seen → List (List ℕ) → Seen
-seenIn v [] = v
-seenIn v (s ∷ ss) = seenIn (countedOf v (nameOf s)) ss
+unfoldable pub seenAfter : Seen → List (List ℕ) → Seen
+seenAfter v [] = v
+seenAfter v (s ∷ ss) = seenAfter (countedOf v (nameOf s)) ss
 
 -- the rest r of a message, after what is seen
-unfoldable pub passFrom : Seen → ℕ → List ℕ → Passed
-passFrom v bar r = cond (segmentsOk bar r) (Whole (seenIn v (segments r))) Bad
+unfoldable pub passFrom : Seen → ℕ → List ℕ → SegmentsPassed
+passFrom v bar r = cond (segmentsOk bar r) (Whole (seenAfter v (segments r))) Bad
 
 -- 14 and 15, when all is seen
 unfoldable pub closing : Delims → Seen → Told Opened

@@ -1,6 +1,6 @@
 // The frame of a message: checks 10 to 15 in their order, its delimiters and its counts.
-use crate::segments::Passed;
-use crate::segments::Seen;
+use crate::all_segments::Seen;
+use crate::all_segments::SegmentsPassed;
 use rules::Counts;
 use rules::Delims;
 use rules::Kind;
@@ -8,7 +8,7 @@ use rules::Refusal;
 ghost use mathlib.Core.Path.{_≡_};
 ghost use Rattle.frame.specs.Frame.{mostBytes, framedTold, frameOf, closing, Within, Sound};
 
-pub mod segments;
+pub mod all_segments;
 
 // What a message that passes 10 to 15 is read with, and what the check gives in the end.
 pub struct Opened {
@@ -36,9 +36,9 @@ pub fn frame(m: &[u8]) -> Framed
         return refused(Kind::Bytes, 0);
     }
     let d = header::delims(m);
-    match segments::pass(m, d.field) {
-        Passed::Bad => refused(Kind::Segment, 0),
-        Passed::Whole(seen) => close(seen, d),
+    match all_segments::pass(m, d.field) {
+        SegmentsPassed::Bad => refused(Kind::Segment, 0),
+        SegmentsPassed::Whole(seen) => close(seen, d),
     }
 }
 
@@ -51,7 +51,7 @@ fn close(seen: Seen, d: Delims) -> Framed
         return refused(Kind::TooMany, 0);
     }
     let reached = seen.reached;
-    let at = segments::first_fault(seen.fault, order::may_end(reached), seen.known + 1);
+    let at = all_segments::first_fault(seen.fault, order::may_end(reached), seen.known + 1);
     if at != 0 {
         return refused(Kind::Order, at);
     }

@@ -16,7 +16,7 @@ use Rattle.rules.specs.Frame as Frame
 use Rattle.rules.specs.Fetch.{ordinal}
 use Rattle.rules.proofs.Logic.{cases, zeroCases}
 use Rattle.rules.proofs.Lists.{over, rest-is, rest-inside, rest-end}
-use Rattle.bytes.specs.Bytes.{until, is}
+use Rattle.bytes.specs.Bytes.{until, isByte}
 use Rattle.bytes.proofs.Laws.{split-last}
 use Rattle.frame.proofs.Laws.{there, segment-there, named-there}
 use Rattle.rules.specs.declared.KnownSegment.{KnownSegment}
@@ -32,7 +32,7 @@ known-here : (at : ℕ) (s : List ℕ) (ss : List (List ℕ)) → Frame.is (name
 unfolding knownFrom
 known-here at s ss e = rw e
 
-ordinal-none : (n : ℕ) → ordinal [] (suc n) ≡ refused 30 0 0
+ordinal-none : (n : ℕ) → ordinal {A = Known} [] (suc n) ≡ refused 30 0 0
 unfolding ordinal
 ordinal-none n = refl
 
@@ -60,7 +60,7 @@ pub segment-over : (m : List ℕ) (o left at : ℕ) → Seeking m o left at → 
 unfolding segments split allButLast knownFrom
 segment-over m o left at inv h = sym (inv .same ∙ ap (λ l. ordinal (knownFrom at (segments l)) (suc left)) (over m at h) ∙ ordinal-none left)
 
-module _ (m : List ℕ) (o left at n : ℕ) (inv : Seeking m o left at) (en : n ≡ length (until (is 0x0D) (take (length m - at) (drop at m)))) where
+module _ (m : List ℕ) (o left at n : ℕ) (inv : Seeking m o left at) (en : n ≡ length (until (isByte 0x0D) (take (length m - at) (drop at m)))) where
   pub segment-open : n ≡ length (take (length m - at) (drop at m)) → refused 30 0 0 ≡ ordinal (known m) o
   unfolding segments allButLast knownFrom
   segment-open h =

@@ -14,7 +14,7 @@ use Rattle.rules.specs.Sheet.{linesOf}
 use Rattle.rules.proofs.Logic.{cases, never, not-true, not-false}
 use Rattle.rules.proofs.Lists.{over, rest-is, rest-inside, take-own}
 use Rattle.rules.proofs.Split.{butLast-split, ended-split}
-use Rattle.bytes.specs.Bytes.{until, is}
+use Rattle.bytes.specs.Bytes.{until, isByte}
 use Rattle.scan.proofs.Laws.{until-rest}
 use Rattle.value.specs.declared.Fault.{Fault}
 use Rattle.value.specs.declared.Place.{Place}
@@ -25,17 +25,17 @@ use Rattle.bytes.proofs.Laws.{split-last, split-more}
 use Rattle.value.proofs.Laws.{fine-zero, fault-some}
 use Rattle.lines.specs.declared.Verdict.{Verdict}
 use Rattle.lines.specs.declared.Verdict.the-variants.{Fine, Key, Value}
-use Rattle.lines.specs.Lines.{behind, Cut, fitsPlace, andThen, isFine, lineAs, lineAt}
+use Rattle.lines.specs.Lines.{behindLine, Cut, fitsPlace, andThen, isFine, lineAs, lineAt}
 
 -- ---- lines by their 0A
-none : (s : List ℕ) → length (until (is 0x0A) s) ≡ length s → linesOf s ≡ []
+none : (s : List ℕ) → length (until (isByte 0x0A) s) ≡ length s → linesOf s ≡ []
 unfolding linesOf allButLast
 none s h = rw (split-last 0x0A s h)
 
-some : (s : List ℕ) → length (until (is 0x0A) s) < length s
-    → linesOf s ≡ take (length (until (is 0x0A) s)) s ∷ linesOf (drop (suc (length (until (is 0x0A) s))) s)
+some : (s : List ℕ) → length (until (isByte 0x0A) s) < length s
+    → linesOf s ≡ take (length (until (isByte 0x0A) s)) s ∷ linesOf (drop (suc (length (until (isByte 0x0A) s))) s)
 unfolding linesOf
-some s h = rw (split-more 0x0A s h) (butLast-split 0x0A (take (length (until (is 0x0A) s)) s) (drop (suc (length (until (is 0x0A) s))) s))
+some s h = rw (split-more 0x0A s h) (butLast-split 0x0A (take (length (until (isByte 0x0A) s)) s) (drop (suc (length (until (isByte 0x0A) s))) s))
 
 -- the first line stands at the front
 line-front : (t l : List ℕ) (ls : List (List ℕ)) → linesOf t ≡ l ∷ ls → take (length l) t ≡ l
@@ -46,9 +46,9 @@ line-front t l ls e =
     ap (take (length l)) z ∙ take-own l ((0x0A ∷ ended 0x0A ls) ++ last (split 0x0A t))
 
 -- as the code finds them: the part from a place on, and how many bytes stand in it before a 0A
-module _ (s : List ℕ) (at n : ℕ) (e : n ≡ length (until (is 0x0A) (take (length s - at) (drop at s)))) (w : n ≤ length (take (length s - at) (drop at s))) where
-  there : n ≡ length (until (is 0x0A) (drop at s))
-  there = until-rest (is 0x0A) s at n e
+module _ (s : List ℕ) (at n : ℕ) (e : n ≡ length (until (isByte 0x0A) (take (length s - at) (drop at s)))) (w : n ≤ length (take (length s - at) (drop at s))) where
+  there : n ≡ length (until (isByte 0x0A) (drop at s))
+  there = until-rest (isByte 0x0A) s at n e
 
   size : length (take (length s - at) (drop at s)) ≡ length (drop at s)
   size = ap length (rest-is s at)
@@ -58,7 +58,7 @@ module _ (s : List ℕ) (at n : ℕ) (e : n ≡ length (until (is 0x0A) (take (l
 
   found-some : (n ≡ length (take (length s - at) (drop at s)) → ⊥) → linesOf (drop at s) ≡ take n (drop at s) ∷ linesOf (drop (suc n) (drop at s))
   found-some h =
-      let l : length (until (is 0x0A) (drop at s)) < length (drop at s) = rw (there) at (rest-inside s at n w h) in
+      let l : length (until (isByte 0x0A) (drop at s)) < length (drop at s) = rw (there) at (rest-inside s at n w h) in
       rw (there) (some (drop at s) l)
 
   pub past-none : n ≡ length (take (length s - at) (drop at s)) → linesOf (drop at s) ≡ drop 1 (linesOf (drop at s))
@@ -72,12 +72,12 @@ module _ (s : List ℕ) (at n : ℕ) (e : n ≡ length (until (is 0x0A) (take (l
   pub past-within : at ≤ length s → (n ≡ length (take (length s - at) (drop at s)) → ⊥) → at + n + 1 ≤ length s
   past-within g h = omega (arith, size, length-drop at s)
 
-  pub behind-none : n ≡ length (take (length s - at) (drop at s)) → at ≡ behind (linesOf (drop at s)) at
-  unfolding behind
+  pub behind-none : n ≡ length (take (length s - at) (drop at s)) → at ≡ behindLine (linesOf (drop at s)) at
+  unfolding behindLine
   behind-none h = rw (found-none h)
 
-  pub behind-some : (n ≡ length (take (length s - at) (drop at s)) → ⊥) → at + n + 1 ≡ behind (linesOf (drop at s)) at
-  unfolding behind
+  pub behind-some : (n ≡ length (take (length s - at) (drop at s)) → ⊥) → at + n + 1 ≡ behindLine (linesOf (drop at s)) at
+  unfolding behindLine
   behind-some h = rw (found-some h) (let z : length (take n (drop at s)) ≡ n = simp (length-take) (omega (arith, size)) in omega (arith, z))
 
 -- ---- the places of a group's lines
@@ -104,7 +104,7 @@ up-to P m k w p q = cases (eqb k m) (λ b. subst P (sym (eqb-true k m b)) q) (λ
 
 -- one more: the place r behind the line at the last
 module _ (s at : List ℕ) (i r : ℕ) (c : Cut i s at) (h : i < 10)
-    (e : r ≡ behind (linesOf (drop (getD at i 0) s)) (getD at i 0))
+    (e : r ≡ behindLine (linesOf (drop (getD at i 0) s)) (getD at i 0))
     (f : linesOf (drop r s) ≡ drop 1 (linesOf (drop (getD at i 0) s)))
     (g : r ≤ length s) where
   abbrev more : List ℕ
@@ -128,9 +128,9 @@ module _ (s at : List ℕ) (i r : ℕ) (c : Cut i s at) (h : i < 10)
       (λ v. rw (old k (omega arith)) (c .from k (omega arith)))
       (rw new (f ∙ ap (drop 1) (c .from i (omega arith)) ∙ drop-drop 1 i (linesOf s)))
 
-  more-next : (k : ℕ) → k < i + 1 → getD more (k + 1) 0 ≡ behind (drop k (linesOf s)) (getD more k 0)
+  more-next : (k : ℕ) → k < i + 1 → getD more (k + 1) 0 ≡ behindLine (drop k (linesOf s)) (getD more k 0)
   more-next k w =
-      up-to (λ (m : ℕ). getD more (m + 1) 0 ≡ behind (drop m (linesOf s)) (getD more m 0)) i k w
+      up-to (λ (m : ℕ). getD more (m + 1) 0 ≡ behindLine (drop m (linesOf s)) (getD more m 0)) i k w
       (λ v. rw (old k (omega arith), old (k + 1) (omega arith)) (c .next k v))
       (rw (new, old i (omega arith), ← c .from i (omega arith)) e)
 
@@ -145,13 +145,13 @@ pub cut-ends : (s at : List ℕ) (i : ℕ) → Cut i s at → i ≤ 10 → 10 �
 cut-ends s at i c h g = let z : i ≡ 10 = omega arith in subst (λ (m : ℕ). Cut m s at) z c
 
 -- the place behind a first line is not the start
-behind-zero : (ls : List (List ℕ)) (p : ℕ) → p ≡ behind ls 0 → not (eqb p 0) ≡ filled ls
-unfolding behind empty
+behind-zero : (ls : List (List ℕ)) (p : ℕ) → p ≡ behindLine ls 0 → not (eqb p 0) ≡ filled ls
+unfolding behindLine empty
 behind-zero [] p e = rw (eq-eqb p 0 e)
 behind-zero (l ∷ ls) p e = rw (ne-eqb p 0 (λ z. omega arith))
 
 pub places-line : (at s : List ℕ) → Cut 10 s at → not (eqb (getD at 1 0) 0) ≡ filled (linesOf s)
-places-line at s c = behind-zero (linesOf s) (getD at 1 0) (c .next 0 (omega arith) ∙ ap (behind (linesOf s)) (c .start))
+places-line at s c = behind-zero (linesOf s) (getD at 1 0) (c .next 0 (omega arith) ∙ ap (behindLine (linesOf s)) (c .start))
 
 -- the k-th line, between its place and its 0A
 module _ (s at : List ℕ) (k : ℕ) (c : Cut 10 s at) (h : k < 10) where
@@ -165,19 +165,19 @@ module _ (s at : List ℕ) (k : ℕ) (c : Cut 10 s at) (h : k < 10) where
   line-room = omega (arith, c .within (k + 1) (omega arith))
 
   pub line-missing : getD at (k + 1) 0 ≡ getD at k 0 → take (getD at k 0 - getD at k 0) (drop (getD at k 0) s) ≡ nth (linesOf s) k
-  unfolding behind
+  unfolding behindLine
   line-missing e = ap (λ (n : ℕ). take n (drop (getD at k 0) s)) z ∙ gone (drop k (linesOf s)) (c .next k h) ∙ nth-first
     where
       z : getD at k 0 - getD at k 0 ≡ 0
       z = omega arith
 
-      gone : (ls : List (List ℕ)) → getD at (k + 1) 0 ≡ behind ls (getD at k 0) → [] ≡ nth ls 0
+      gone : (ls : List (List ℕ)) → getD at (k + 1) 0 ≡ behindLine ls (getD at k 0) → [] ≡ nth ls 0
       gone [] q = refl
       gone (l ∷ ls) q = absurd (omega (arith, e, q))
 
   module _ (e : getD at (k + 1) 0 ≡ getD at k 0 → ⊥) where
-    between : (ls : List (List ℕ)) → linesOf (drop (getD at k 0) s) ≡ ls → getD at (k + 1) 0 ≡ behind ls (getD at k 0) → (getD at k 0 < getD at (k + 1) 0) × (take (getD at (k + 1) 0 - 1 - getD at k 0) (drop (getD at k 0) s) ≡ nth ls 0)
-    unfolding behind
+    between : (ls : List (List ℕ)) → linesOf (drop (getD at k 0) s) ≡ ls → getD at (k + 1) 0 ≡ behindLine ls (getD at k 0) → (getD at k 0 < getD at (k + 1) 0) × (take (getD at (k + 1) 0 - 1 - getD at k 0) (drop (getD at k 0) s) ≡ nth ls 0)
+    unfolding behindLine
     between [] f q = absurd (e q)
     between (l ∷ ls) f q = (omega (arith, q), (let z : getD at (k + 1) 0 - 1 - getD at k 0 ≡ length l = omega (arith, q) in rw z (line-front (drop (getD at k 0) s) l ls f)))
 

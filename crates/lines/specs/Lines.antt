@@ -18,9 +18,9 @@ abbrev pub longestSheet : ℕ
 longestSheet = 65536
 
 -- the place behind the first of the lines ls, where it starts at p; p itself where there is none
-unfoldable pub behind : List (List ℕ) → ℕ → ℕ
-behind [] p = p
-behind (l ∷ ls) p = p + length l + 1
+unfoldable pub behindLine : List (List ℕ) → ℕ → ℕ
+behindLine [] p = p
+behindLine (l ∷ ls) p = p + length l + 1
 
 -- at holds the places of the first n lines of s and the place behind each; eleven places, for no group has more than ten lines
 pub record Cut (n : ℕ) (s at : List ℕ) : Type 0 where
@@ -28,7 +28,7 @@ pub record Cut (n : ℕ) (s at : List ℕ) : Type 0 where
   pub start : getD at 0 0 ≡ 0
   pub within : (k : ℕ) → k ≤ n → getD at k 0 ≤ length s
   pub from : (k : ℕ) → k ≤ n → linesOf (drop (getD at k 0) s) ≡ drop k (linesOf s)
-  pub next : (k : ℕ) → k < n → getD at (k + 1) 0 ≡ behind (drop k (linesOf s)) (getD at k 0)
+  pub next : (k : ℕ) → k < n → getD at (k + 1) 0 ≡ behindLine (drop k (linesOf s)) (getD at k 0)
 
 -- q says of any text whose lines have these places whether it has a line
 abbrev pub HasLine : Bool → List ℕ → Type 0

@@ -10,7 +10,7 @@ ghost use Rattle.rules.specs.Lists as Lists;
 ghost use Rattle.rules.specs.Value.{fits};
 ghost use Rattle.rules.specs.Sheet.{linesOf};
 ghost use Rattle.value.specs.Rules.{ruleOf};
-ghost use Rattle.lines.specs.Lines.{fitsPlace, andThen, isFine, lineAs, lineAt, behind, Cut, HasLine};
+ghost use Rattle.lines.specs.Lines.{fitsPlace, andThen, isFine, lineAs, lineAt, behindLine, Cut, HasLine};
 
 pub mod keys;
 
@@ -46,7 +46,7 @@ fn first(a: Verdict, b: Verdict) -> Verdict
 // The place behind the line at a place, or that place where no 0A ends one.
 fn next_line(s: &[u8], at: usize) -> usize
     requires { ⌜ at ≤ length (now s) ⌝ }
-    ensures { λ r. ⌜ r ≡ behind (linesOf (drop at (now (s .entry)))) at ⌝ }
+    ensures { λ r. ⌜ r ≡ behindLine (linesOf (drop at (now (s .entry)))) at ⌝ }
     ensures rest { λ r. ⌜ linesOf (drop r (now (s .entry))) ≡ drop 1 (linesOf (drop at (now (s .entry)))) ⌝ }
     ensures within { λ r. ⌜ r ≤ length (now (s .entry)) ⌝ }
 {

@@ -25,7 +25,7 @@ fn convert(m: &[u8], sheet: &mut [u8]) {
     match oul::to_sheet(m, sheet) {
         Written::Wrote(n) => program::output(&NAME, program::front(sheet, n), b""),
         Written::NotWritten(refusal) => {
-            program::refuse_message(&NAME, m, refusal);
+            refusals::tell_message(&NAME, m, refusal);
         }
     }
 }

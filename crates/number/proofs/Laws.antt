@@ -13,7 +13,7 @@ use Rattle.rules.specs.Frame.{digit}
 use Rattle.rules.specs.Value as Val
 use Rattle.rules.proofs.Logic.{and-false, or-assoc, and-true, or-false}
 use Rattle.rules.proofs.Lists.{here, over, rest-is, all-cons, any-cons}
-use Rattle.number.specs.Number.{readByte, unread}
+use Rattle.number.specs.Number.{readByte, noneRead}
 use Rattle.number.specs.declared.Spelling.{Spelling}
 
 -- ---- general
@@ -73,11 +73,11 @@ spelled-from t (b ∷ v) =
     )
 
 -- the fold accepts the spellings of the definitions
-pub spelled-is : (v : List ℕ) → (foldl readByte unread v .good && foldl readByte unread v .digit) ≡ Val.spelled v
+pub spelled-is : (v : List ℕ) → (foldl readByte noneRead v .good && foldl readByte noneRead v .digit) ≡ Val.spelled v
 unfolding Val.spelled
-spelled-is v = spelled-from unread v ∙ rw zero-add
+spelled-is v = spelled-from noneRead v ∙ rw zero-add
 
-pub number-is : (v s : List ℕ) (t : Spelling) → s ≡ Val.unsigned v → t ≡ foldl readByte unread s → (t .good && t .digit) ≡ Val.holds Val.numeric v
+pub number-is : (v s : List ℕ) (t : Spelling) → s ≡ Val.unsigned v → t ≡ foldl readByte noneRead s → (t .good && t .digit) ≡ Val.holds Val.numeric v
 unfolding Val.holds
 number-is v s t es et = cc (spelled-is s)
 

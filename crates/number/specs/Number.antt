@@ -6,8 +6,8 @@ use Rattle.rules.specs.Value.{point}
 use Rattle.number.specs.declared.Spelling.{Spelling}
 
 -- before the first byte
-abbrev pub unread : Spelling
-unread = record { good = true; point = false; digit = false }
+abbrev pub noneRead : Spelling
+noneRead = record { good = true; point = false; digit = false }
 
 -- after one byte more: good, if it is a digit or a point and no second point
 unfoldable pub readByte : Spelling → ℕ → Spelling

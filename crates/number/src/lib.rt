@@ -2,7 +2,7 @@
 ghost use mathlib.Core.Path.{_≡_};
 ghost use mathlib.Core.List.{foldl};
 ghost use Rattle.rules.specs.Value as Val;
-ghost use Rattle.number.specs.Number.{readByte, unread};
+ghost use Rattle.number.specs.Number.{readByte, noneRead};
 
 // What the bytes of a number have shown so far.
 struct Spelling {
@@ -26,7 +26,7 @@ fn read_byte(t: Spelling, b: u8) -> Spelling
 
 // The spelling after all bytes of v.
 fn read_all(v: &[u8]) -> Spelling
-    ensures { λ r. ⌜ r ≡ foldl readByte unread (now (v .entry)) ⌝ }
+    ensures { λ r. ⌜ r ≡ foldl readByte noneRead (now (v .entry)) ⌝ }
 {
     let mut t = Spelling {
         good: true,

@@ -17,11 +17,11 @@ use Rattle.rules.specs.Message as Message
 use Rattle.rules.specs.Message.{valueText, zeros}
 use Rattle.rules.proofs.Measures.{tens, decimal-few}
 use Rattle.rules.proofs.Names.{name-is}
-use Rattle.writer.specs.Over.{over, Wrote, fitted, Fit}
+use Rattle.writer.specs.Over.{overFront, Wrote, fitted, Fit}
 use Rattle.writer.specs.Woven.{woven}
 use Rattle.writer.proofs.Laws.{front}
 use Rattle.groups.proofs.Laws.{blank}
-use Rattle.segments.specs.Segments.{segmentOf}
+use Rattle.segments.specs.Segments.{groupSegment}
 use Rattle.segments.proofs.Texts.{shapes, fit-as}
 use Rattle.numbered.specs.Numbered.{numberIs, hasNumber, numberedPiece, numberedText, filledSN, greatestNumber}
 
@@ -66,11 +66,11 @@ sn-is ts type v q b et ev eq h = rw (← et, ← ev, ← eq, ← blank v) h
 
 -- ---- a segment with its number
 module _ (d : Delims) (ts : List (List ℕ)) (n : Name) (number : List ℕ) (k r : ℕ) (x old : List ℕ) (q : Bool) (e : number ≡ decimal k) (eq : q ≡ is n Spm) where
-  pub numbered-specimen : q ≡ true → Fit r x (numberedText d number Spm ts) old → Fit r x (segmentOf d (numberIs k) n 0 ts) old
+  pub numbered-specimen : q ≡ true → Fit r x (numberedText d number Spm ts) old → Fit r x (groupSegment d (numberIs k) n 0 ts) old
   unfolding shapes numberedPiece numberedText
   numbered-specimen h p = rw (name-is n Spm (sym eq ∙ h)) (fit-as (rw e) p)
 
-  pub numbered-result : q ≡ false → hasNumber n ≡ true → Fit r x (numberedText d number Obx ts) old → Fit r x (segmentOf d (numberIs k) n 0 ts) old
+  pub numbered-result : q ≡ false → hasNumber n ≡ true → Fit r x (numberedText d number Obx ts) old → Fit r x (groupSegment d (numberIs k) n 0 ts) old
   unfolding shapes numberedPiece numberedText
   numbered-result h c p =
       let o : is n Obx ≡ true = rw (← eq, h) at c in
@@ -88,44 +88,44 @@ number-size r n x old p h = omega (arith, ap length (front p), number-short n h)
 
 -- ---- a segment by its name
 module _ (d : Delims) (ts : List (List ℕ)) (n : Message.Numbers) (m : Name) (r : ℕ) (x old : List ℕ) where
-  as-named : (w : List ℕ) (g : Name) → w ≡ segmentOf d n g 0 ts → m ≡ g → Fit r x w old → Fit r x (segmentOf d n m 0 ts) old
-  as-named w g e h p = rw (e ∙ ap (λ (k : Name). segmentOf d n k 0 ts) (sym h)) at p
+  as-named : (w : List ℕ) (g : Name) → w ≡ groupSegment d n g 0 ts → m ≡ g → Fit r x w old → Fit r x (groupSegment d n m 0 ts) old
+  as-named w g e h p = rw (e ∙ ap (λ (k : Name). groupSegment d n k 0 ts) (sym h)) at p
 
-  pub put-msh : m ≡ Msh → Fit r x (segmentOf d zeros Msh 0 ts) old → Fit r x (segmentOf d n m 0 ts) old
+  pub put-msh : m ≡ Msh → Fit r x (groupSegment d zeros Msh 0 ts) old → Fit r x (groupSegment d n m 0 ts) old
   unfolding shapes
   put-msh = as-named _ Msh refl
 
-  pub put-pid : m ≡ Pid → Fit r x (segmentOf d zeros Pid 0 ts) old → Fit r x (segmentOf d n m 0 ts) old
+  pub put-pid : m ≡ Pid → Fit r x (groupSegment d zeros Pid 0 ts) old → Fit r x (groupSegment d n m 0 ts) old
   unfolding shapes
   put-pid = as-named _ Pid refl
 
-  pub put-pv1 : m ≡ Pv1 → Fit r x (segmentOf d zeros Pv1 0 ts) old → Fit r x (segmentOf d n m 0 ts) old
+  pub put-pv1 : m ≡ Pv1 → Fit r x (groupSegment d zeros Pv1 0 ts) old → Fit r x (groupSegment d n m 0 ts) old
   unfolding shapes
   put-pv1 = as-named _ Pv1 refl
 
-  pub put-obr : m ≡ Obr → Fit r x (segmentOf d zeros Obr 0 ts) old → Fit r x (segmentOf d n m 0 ts) old
+  pub put-obr : m ≡ Obr → Fit r x (groupSegment d zeros Obr 0 ts) old → Fit r x (groupSegment d n m 0 ts) old
   unfolding shapes
   put-obr = as-named _ Obr refl
 
-  pub put-spm : m ≡ Spm → Fit r x (segmentOf d (numberIs (n .specimen)) m 0 ts) old → Fit r x (segmentOf d n m 0 ts) old
+  pub put-spm : m ≡ Spm → Fit r x (groupSegment d (numberIs (n .specimen)) m 0 ts) old → Fit r x (groupSegment d n m 0 ts) old
   unfolding shapes
-  put-spm h p = as-named (segmentOf d (numberIs (n .specimen)) Spm 0 ts) Spm refl h (rw h at p)
+  put-spm h p = as-named (groupSegment d (numberIs (n .specimen)) Spm 0 ts) Spm refl h (rw h at p)
 
-  pub put-obx : m ≡ Obx → Fit r x (segmentOf d (numberIs (n .result)) m 0 ts) old → Fit r x (segmentOf d n m 0 ts) old
+  pub put-obx : m ≡ Obx → Fit r x (groupSegment d (numberIs (n .result)) m 0 ts) old → Fit r x (groupSegment d n m 0 ts) old
   unfolding shapes
-  put-obx h p = as-named (segmentOf d (numberIs (n .result)) Obx 0 ts) Obx refl h (rw h at p)
+  put-obx h p = as-named (groupSegment d (numberIs (n .result)) Obx 0 ts) Obx refl h (rw h at p)
 
 -- an ORC stands in its order, and no group is another
 module _ (d : Delims) (ts : List (List ℕ)) (n : Message.Numbers) (m : Name) (old : List ℕ) where
   nothing : Fit 0 old [] old
-  unfolding fitted over
+  unfolding fitted overFront
   nothing = record { ends = refl; is = rw (le-leb 0 (length old) (omega arith)) }
 
-  pub put-orc : m ≡ Orc → Fit 0 old (segmentOf d n m 0 ts) old
+  pub put-orc : m ≡ Orc → Fit 0 old (groupSegment d n m 0 ts) old
   unfolding shapes
   put-orc h = rw h nothing
 
-  pub put-other : m ≡ Other → Fit 0 old (segmentOf d n m 0 ts) old
+  pub put-other : m ≡ Other → Fit 0 old (groupSegment d n m 0 ts) old
   unfolding shapes
   put-other h = rw h nothing
 

@@ -10,7 +10,7 @@ ghost use Rattle.rules.specs.Sheet.{linesOf};
 ghost use Rattle.rules.specs.Proper.{Proper};
 ghost use Rattle.writer.specs.Over.{Fit};
 ghost use Rattle.lines.specs.Lines.{longestSheet, Cut};
-ghost use Rattle.segments.specs.Segments.{segmentOf, Source, longestSegment};
+ghost use Rattle.segments.specs.Segments.{groupSegment, Source, longestSegment};
 ghost use Rattle.numbered.specs.Numbered.{numbersOf, numberIs, hasNumber, numberedText, filledSN, greatestNumber, Sources};
 
 // "SPM-1 and OBX-1 count from 1, OBX-1 anew in each order".
@@ -33,12 +33,12 @@ fn specimen<'a>(
     ensures { λ r. ⌜ Fit r (now (out .exit)) (numberedText d (now (number .entry)) Name.Spm (linesOf (now (s .entry)))) (now (out .entry)) ⌝ }
     ensures within { λ r. ⌜ r ≤ longestSegment ⌝ }
 {
-    let kind = lines::value_at(s, places, 0, keys::SPECIMEN.len());
+    let specimen_type = lines::value_at(s, places, 0, keys::SPECIMEN.len());
     let collected = lines::value_at(s, places, 1, keys::COLLECTED.len());
     writer::fit_woven(
         out,
         b"#|#|||$^^JC10|||||||||||||$\r",
-        &[spm, number, kind, collected],
+        &[spm, number, specimen_type, collected],
         d,
     )
 }
@@ -60,7 +60,7 @@ fn structured<'a>(
 {
     let item = lines::value_at(s, places, 0, keys::ITEM.len());
     let name = lines::value_at(s, places, 1, keys::NAME.len());
-    let kind = lines::value_at(s, places, 2, keys::TYPE.len());
+    let value_type = lines::value_at(s, places, 2, keys::TYPE.len());
     let compare = lines::value_at(s, places, 3, keys::COMPARE.len());
     let value = lines::value_at(s, places, 4, keys::VALUE.len());
     let join = lines::value_at(s, places, 5, keys::JOIN.len());
@@ -74,7 +74,7 @@ fn structured<'a>(
         &[
             obx,
             number,
-            kind,
+            value_type,
             item,
             name,
             compare,
@@ -104,7 +104,7 @@ fn single<'a>(
 {
     let item = lines::value_at(s, places, 0, keys::ITEM.len());
     let name = lines::value_at(s, places, 1, keys::NAME.len());
-    let kind = lines::value_at(s, places, 2, keys::TYPE.len());
+    let value_type = lines::value_at(s, places, 2, keys::TYPE.len());
     let value = lines::value_at(s, places, 4, keys::VALUE.len());
     let unit = lines::value_at(s, places, 7, keys::UNIT.len());
     let flag = lines::value_at(s, places, 8, keys::FLAG.len());
@@ -112,7 +112,17 @@ fn single<'a>(
     writer::fit_woven(
         out,
         b"#|#|$|$^$^JC10||$|$||$|||$\r",
-        &[obx, number, kind, item, name, value, unit, flag, status],
+        &[
+            obx,
+            number,
+            value_type,
+            item,
+            name,
+            value,
+            unit,
+            flag,
+            status,
+        ],
         d,
     )
 }
@@ -129,9 +139,9 @@ fn result<'a>(
     ensures { λ r. ⌜ Fit r (now (out .exit)) (numberedText d (now (number .entry)) Name.Obx (linesOf (now (s .entry)))) (now (out .entry)) ⌝ }
     ensures within { λ r. ⌜ r ≤ longestSegment ⌝ }
 {
-    let kind = lines::value_at(s, places, 2, keys::TYPE.len());
+    let value_type = lines::value_at(s, places, 2, keys::TYPE.len());
     let value = lines::value_at(s, places, 4, keys::VALUE.len());
-    if bytes::equal(kind, b"SN") & (value.len() != 0) {
+    if bytes::equal(value_type, b"SN") & (value.len() != 0) {
         return structured(out, obx, number, s, places, d);
     }
     single(out, obx, number, s, places, d)
@@ -147,7 +157,7 @@ fn put_numbered(
     d: Delims,
 ) -> usize
     requires { ⌜ (length (now s) ≤ longestSheet) × Cut 10 (now s) (now places) × (hasNumber name ≡ true) × (n ≤ greatestNumber) × Proper d ⌝ }
-    ensures { λ r. ⌜ Fit r (now (out .exit)) (segmentOf d (numberIs n) name 0 (linesOf (now (s .entry)))) (now (out .entry)) ⌝ }
+    ensures { λ r. ⌜ Fit r (now (out .exit)) (groupSegment d (numberIs n) name 0 (linesOf (now (s .entry)))) (now (out .entry)) ⌝ }
     ensures within { λ r. ⌜ r ≤ longestSegment ⌝ }
 {
     let mut digits = [0u8; 5];
@@ -170,7 +180,7 @@ pub fn put_first(
     d: Delims,
 ) -> usize
     requires { ⌜ Sources (now s) (now places) numbers d ⌝ }
-    ensures { λ r. ⌜ Fit r (now (out .exit)) (segmentOf d (numbersOf numbers) name 0 (linesOf (now (s .entry)))) (now (out .entry)) ⌝ }
+    ensures { λ r. ⌜ Fit r (now (out .exit)) (groupSegment d (numbersOf numbers) name 0 (linesOf (now (s .entry)))) (now (out .entry)) ⌝ }
     ensures within { λ r. ⌜ r ≤ longestSegment ⌝ }
 {
     let specimen = numbers.specimen;

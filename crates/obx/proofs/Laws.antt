@@ -18,7 +18,7 @@ use Rattle.rules.specs.Check.{Context, unsaid, valueAt, rawFourOf, partNo, ownF
 use Rattle.rules.specs.Judge.{rawFour, beside, valueFault, agrees}
 use Rattle.rules.proofs.Logic.{never, not-true, then-zero}
 use Rattle.rules.proofs.Lists.{rest-is, rest-length}
-use Rattle.bytes.specs.Bytes.{until, is}
+use Rattle.bytes.specs.Bytes.{until, isByte}
 use Rattle.scan.specs.Scan.{onward}
 use Rattle.value.specs.declared.Fault.the-variants.{Status}
 use Rattle.value.specs.Rules.{ruleOf, textOf, faultNo, fineOf}
@@ -50,14 +50,14 @@ module _ (d : Delims) (s type : List ℕ) (w : Walk) (b : Ready s valueField w) 
   }
 
   pub value-judged : (r : Walk) (u k : ℕ) (y z : Bool) → Proper d → not q ≡ false → met (drop u s) ≡ onward (d .field) (valueField - w .field) (met (drop (w .at) s)) → u ≤ length s
-      → ValueOf d type (until (is (d .field)) (met (take (length s - u) (drop u s)))) (faultNo (r .fault)) k y z → k ≤ length (take (length s - u) (drop u s))
+      → ValueOf d type (until (isByte (d .field)) (met (take (length s - u) (drop u s)))) (faultNo (r .fault)) k y z → k ≤ length (take (length s - u) (drop u s))
       → r .field ≡ 5 → r .start ≡ u → r .head ≡ 0 → r .at ≡ u + k → ValueTo d s type w r y z
   value-judged r u k y z p h g v c l a x i f =
       let m : met (take (length s - u) (drop u s)) ≡ onward (d .field) (valueField - w .field) (met (drop (w .at) s)) = ap met (rest-is s u) ∙ g in
       record {
         went = went-judged d s valueField (valueFault d type) (λ m. []) w q e r u k p h g (record { told = c .told; raw = rw i; long = c .long }) a x f;
-        filled = λ o n. c .filled n ∙ ap (λ t. L.filled (rawFour d type (until (is (d .field)) t) .value)) m;
-        beside = λ o n. c .beside n ∙ ap (λ t. beside (rawFour d type (until (is (d .field)) t))) m;
+        filled = λ o n. c .filled n ∙ ap (λ t. L.filled (rawFour d type (until (isByte (d .field)) t) .value)) m;
+        beside = λ o n. c .beside n ∙ ap (λ t. beside (rawFour d type (until (isByte (d .field)) t))) m;
         upto = omega arith;
         part = omega arith;
         low = omega (arith, rest-length s u);

@@ -12,7 +12,7 @@ use Rattle.rules.specs.Places.{places}
 use Rattle.rules.specs.Judge.{rawFour, valueFault}
 use Rattle.rules.specs.Judge as J
 use Rattle.rules.specs.Check.{Context, rawFourOf}
-use Rattle.bytes.specs.Bytes.{until, is}
+use Rattle.bytes.specs.Bytes.{until, isByte}
 use Rattle.scan.specs.Scan.{onward}
 use Rattle.value.specs.Rules.{faultNo, fineOf}
 use Rattle.fields.specs.declared.Walk.{Walk}
@@ -25,7 +25,7 @@ valueField = 5
 
 -- the field that follows w
 abbrev pub valueAfter : Delims → List ℕ → Walk → List ℕ
-valueAfter d s w = until (is (d .field)) (onward (d .field) (valueField - w .field) (met (drop (w .at) s)))
+valueAfter d s w = until (isByte (d .field)) (onward (d .field) (valueField - w .field) (met (drop (w .at) s)))
 
 -- from w on to OBX-5, and what 26 asks of it
 pub record ValueTo (d : Delims) (s type : List ℕ) (w r : Walk) (number parts : Bool) : Type 0 where

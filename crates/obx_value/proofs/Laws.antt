@@ -20,7 +20,7 @@ use Rattle.rules.specs.Judge.{judge, faultOr23, isSN, rawFour, beside, unjoined
 use Rattle.rules.proofs.Logic.{cases, optionCases, nothing-some, then-none, then-zero, when-none, and-true, and-false}
 use Rattle.rules.proofs.Escaped.{pushCases}
 use Rattle.rules.proofs.Modes.{length-met}
-use Rattle.bytes.specs.Bytes.{until, is}
+use Rattle.bytes.specs.Bytes.{until, isByte}
 use Rattle.scan.specs.Scan.{ends, next}
 use Rattle.value.specs.Rules.{faultNo, ruleOf, rulesOf}
 use Rattle.value.specs.declared.Fault.{Fault}
@@ -33,7 +33,7 @@ use Rattle.judge.specs.Judge.{Small}
 use Rattle.components.specs.Components.{fieldAt, componentAt, forward, placeFault, JudgedOf, componentsFault, ComponentsOf}
 use Rattle.components.proofs.Laws.{next-within}
 use Rattle.components.proofs.Pieces.{component-at, components-over, forward-long, forward-repeats, rest-long, rest-none, whole-field}
-use Rattle.obx_value.specs.Value.{SmallParts, shapeFault, component, lastTwo, joinedFault, LastOf, fourFrom, numberFault, NumberOf, ValueOf}
+use Rattle.obx_value.specs.Value.{SmallParts, shapeFault, componentFrom, lastTwo, joinedFault, LastOf, fourFrom, numberFault, NumberOf, ValueOf}
 
 -- ---- faults
 module _ (repeats excess : Bool) where
@@ -82,8 +82,8 @@ module _ (d : Delims) (p : Proper d) (t : List ℕ) (h l : ℕ) (eh : h ≡ leng
   over-first : has (d .repetition) (fieldAt d t) ≡ false → ltb 1 (length (split (d .component) (fieldAt d t))) ≡ ltb h l
   unfolding forward
   over-first z =
-      let e : l ≡ h + length (until (is (d .field)) (drop (length (componentAt d t)) (met t))) = omega (arith, rest-long d (met t)) in
-      components-over d p 0 (met t) z ∙ sym (rw e (more-than h (length (until (is (d .field)) (drop (length (componentAt d t)) (met t))))) ∙ rest-none d (met t) z)
+      let e : l ≡ h + length (until (isByte (d .field)) (drop (length (componentAt d t)) (met t))) = omega (arith, rest-long d (met t)) in
+      components-over d p 0 (met t) z ∙ sym (rw e (more-than h (length (until (isByte (d .field)) (drop (length (componentAt d t)) (met t))))) ∙ rest-none d (met t) z)
 
   shape-first : (more : Bool) → more ≡ has (d .repetition) (fieldAt d t) → (22 when more then 23 when ltb h l) ≡ shapeFault d 0 (fieldAt d t)
   unfolding shapeFault
@@ -94,7 +94,7 @@ shape-forward : (d : Delims) → Proper d → (n k : ℕ) (t u : List ℕ) → f
 unfolding shapeFault
 shape-forward d p n k t u e =
     let r : has (d .repetition) (fieldAt d u) ≡ has (d .repetition) (fieldAt d t)
-    = sym (forward-repeats d p k (met u)) ∙ ap (λ m. has (d .repetition) (until (is (d .field)) m)) (sym e) ∙ forward-repeats d p n (met t) in
+    = sym (forward-repeats d p k (met u)) ∙ ap (λ m. has (d .repetition) (until (isByte (d .field)) m)) (sym e) ∙ forward-repeats d p n (met t) in
     cases (has (d .repetition) (fieldAt d t))
     (λ h. rw (r, h))
     (λ h. rw (r, h, components-over d p k (met u) (r ∙ h), components-over d p n (met t) h, e))
@@ -163,7 +163,7 @@ unrepeated d n f k h =
     when-none 21 (has (d .repetition) f) (then-none (22 when has (d .repetition) f) (23 when ltb (suc n) (length (split (d .component) f))) (then-none (shapeFault d n f) k h .0) .0)
 
 -- the field's components, where it has no repetition
-field-component : (d : Delims) → Proper d → (n : ℕ) (t : List ℕ) → has (d .repetition) (fieldAt d t) ≡ false → nth (split (d .component) (fieldAt d t)) n ≡ component d (met t) n
+field-component : (d : Delims) → Proper d → (n : ℕ) (t : List ℕ) → has (d .repetition) (fieldAt d t) ≡ false → nth (split (d .component) (fieldAt d t)) n ≡ componentFrom d (met t) n
 field-component d p n t h = ap (λ l. nth (split (d .component) l) n) (whole-field d (met t) h) ∙ component-at d p n (met t)
 
 -- ---- NM and ST
@@ -207,12 +207,12 @@ module _ (t : List ℕ) (d : Delims) (rules : Parts) (a r f h l : ℕ) (more : B
 rest-long-on : (t u : List ℕ) (d : Delims) → Proper d → met u ≡ next d (met t) → length t - length u + length (fieldAt d u) ≡ length (fieldAt d t)
 unfolding forward
 rest-long-on t u d p e =
-    omega (arith, forward-long d p 1 (met t), length-met t, length-met u, ap length e, next-within t u d p e, ap (λ m. length (until (is (d .field)) m)) e)
+    omega (arith, forward-long d p 1 (met t), length-met t, length-met u, ap length e, next-within t u d p e, ap (λ m. length (until (isByte (d .field)) m)) e)
 
 -- the joiner and the second number
 module _ (t u : List ℕ) (d : Delims) (rules : Parts) (a f g h k l n o q r : ℕ) (more : Bool) (p : Proper d) (x : JudgedOf d (May (rules .join)) t f n)
     (e : met u ≡ next d (met t)) (c : ComponentsOf d (May (rules .second) ∷ []) u more g h l) where
-  last-second : component d (met t) 1 ≡ componentAt d u
+  last-second : componentFrom d (met t) 1 ≡ componentAt d u
   unfolding forward
   last-second = ap (until (ends d)) (sym e)
 
@@ -232,9 +232,9 @@ module _ (t u : List ℕ) (d : Delims) (rules : Parts) (a f g h k l n o q r : �
 module _ (t u : List ℕ) (d : Delims) (rules : Parts) (f g i l n r s : ℕ) (compared a b z : Bool) (p : Proper d) (x : JudgedOf d (May (rules .value)) t f n)
     (e : met u ≡ next d (met t)) (w : LastOf d (rulesOf rules) u s g l a b)
     (ez : (c : Four (List ℕ)) → compared ≡ filled (c .compare) → a ≡ filled (c .join) → b ≡ filled (c .second) → z ≡ beside c) where
-  on-next : (n : ℕ) → component d (met t) (suc n) ≡ component d (met u) n
+  on-next : (n : ℕ) → componentFrom d (met t) (suc n) ≡ componentFrom d (met u) n
   unfolding forward
-  on-next n = ap (λ m. component d m n) (sym e)
+  on-next n = ap (λ m. componentFrom d m n) (sym e)
 
   number-beside : (compare : List ℕ) → compared ≡ filled compare → z ≡ beside (fourFrom d compare (met t))
   number-beside compare h =
@@ -257,7 +257,7 @@ module _ (t u : List ℕ) (d : Delims) (rules : Parts) (f g i l n r s : ℕ) (co
 
 -- the four
 abbrev fourIn : Delims → List ℕ → Four (List ℕ)
-fourIn d m = record { compare = component d m 0; value = component d m 1; join = component d m 2; second = component d m 3 }
+fourIn d m = record { compare = componentFrom d m 0; value = componentFrom d m 1; join = componentFrom d m 2; second = componentFrom d m 3 }
 
 four-is : (d : Delims) → Proper d → (type t : List ℕ) → isSN type ≡ true → has (d .repetition) (fieldAt d t) ≡ false → rawFour d type (fieldAt d t) ≡ fourIn d (met t)
 unfolding rawFour

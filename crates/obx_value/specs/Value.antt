@@ -29,8 +29,8 @@ unfoldable pub shapeFault : Delims → ℕ → List ℕ → ℕ
 shapeFault d n f = 22 when has (d .repetition) f then 23 when ltb (suc n) (length (split (d .component) f))
 
 -- the n-th next component, from the start of m on
-abbrev pub component : Delims → List ℕ → ℕ → List ℕ
-component d m n = until (ends d) (forward d n m)
+abbrev pub componentFrom : Delims → List ℕ → ℕ → List ℕ
+componentFrom d m n = until (ends d) (forward d n m)
 
 -- SN: a joiner and a second number, "a second number needs a joiner, judged at that number"
 abbrev pub lastTwo : List ℕ → List ℕ → Four (List ℕ)
@@ -43,14 +43,14 @@ joinedFault d r join second =
 -- the two at the start of t, the last of their field
 pub record LastOf (d : Delims) (r : Four Rule) (t : List ℕ) (form fault len : ℕ) (joiner second : Bool) : Type 0 where
   pub shape : form ≡ shapeFault d 1 (fieldAt d t)
-  pub told : fault ≡ joinedFault d r (component d (met t) 0) (component d (met t) 1)
+  pub told : fault ≡ joinedFault d r (componentFrom d (met t) 0) (componentFrom d (met t) 1)
   pub long : len ≡ length (fieldAt d t)
-  pub join : joiner ≡ L.filled (component d (met t) 0)
-  pub number : second ≡ L.filled (component d (met t) 1)
+  pub join : joiner ≡ L.filled (componentFrom d (met t) 0)
+  pub number : second ≡ L.filled (componentFrom d (met t) 1)
 
 -- SN's number and what follows it at the start of m, after a comparator
 abbrev pub fourFrom : Delims → List ℕ → List ℕ → Four (List ℕ)
-fourFrom d compare m = record { compare = compare; value = component d m 0; join = component d m 1; second = component d m 2 }
+fourFrom d compare m = record { compare = compare; value = componentFrom d m 0; join = componentFrom d m 1; second = componentFrom d m 2 }
 
 unfoldable pub numberFault : Delims → Four Rule → Four (List ℕ) → ℕ
 numberFault d r c = judge d (J.beside c) (r .value) (c .value) then joinedFault d r (c .join) (c .second)
@@ -59,7 +59,7 @@ pub record NumberOf (d : Delims) (r : Four Rule) (compared : Bool) (t : List ℕ
   pub shape : form ≡ shapeFault d 2 (fieldAt d t)
   pub told : (compare : List ℕ) → compared ≡ L.filled compare → fault ≡ numberFault d r (fourFrom d compare (met t))
   pub long : len ≡ length (fieldAt d t)
-  pub filled : number ≡ L.filled (component d (met t) 0)
+  pub filled : number ≡ L.filled (componentFrom d (met t) 0)
   pub beside : (compare : List ℕ) → compared ≡ L.filled compare → parts ≡ J.beside (fourFrom d compare (met t))
 
 -- OBX-5 by OBX-2's word; where it has no fault also whether its value is filled, and whether a part beside it is

@@ -8,12 +8,12 @@ use Rattle.rules.specs.Frame.{is, after, mayFollow}
 use Rattle.rules.specs.Frame as Frame
 use Rattle.rules.proofs.Logic.{or-false, or-assoc}
 use Rattle.rules.proofs.Lists.{any-cons, any-nil}
-use Rattle.order.specs.Order.{reachedOf, codeOf}
+use Rattle.order.specs.Order.{reachedOf, codeReached}
 use Rattle.order.specs.declared.Reached.{Reached}
 
 -- the code's state is known by the definitions'
-pub reached-is : (r : Reached) (a : Frame.Reached) → reachedOf r ≡ a → r ≡ codeOf a
-reached-is r a e = ap codeOf e
+pub reached-is : (r : Reached) (a : Frame.Reached) → reachedOf r ≡ a → r ≡ codeReached a
+reached-is r a e = ap codeReached e
 
 -- ---- what may follow each name
 module _ (a : Frame.Reached) (b : Name) (t : Bool) where

@@ -5,5 +5,5 @@ use Rattle.order.specs.declared.Reached.{Reached}
 abbrev pub reachedOf : Reached → Frame.Reached
 reachedOf a = record { last = a .last }
 
-abbrev pub codeOf : Frame.Reached → Reached
-codeOf a = record { last = a .last }
+abbrev pub codeReached : Frame.Reached → Reached
+codeReached a = record { last = a .last }

@@ -1,7 +1,7 @@
 // The face of the library for C: the calls of `oul` on numbers and bytes. Each answers 0, or the number of the refusal, and fills three numbers that the caller
 // lends: what was asked for, or the refusal's segment (or line), its field and 0. include/oul.h declares them.
 use csv_rules::Counted;
-use csv_rules::Fault;
+use csv_rules::FileFault;
 use csv_rules::Made;
 use rules::Answer;
 use rules::Fetched;
@@ -12,23 +12,22 @@ use rules::Written;
 ghost use mathlib.Core.Path.{_≡_};
 ghost use mathlib.Core.List.{[], _∷_};
 ghost use lib.ListN.{length};
-ghost use Rattle.rules.specs.Told.{number, lengthOf, over};
+ghost use Rattle.rules.specs.Told.{gives, number, toldLength};
 ghost use Rattle.rules.specs.Frame.{known};
 ghost use Rattle.rules.specs.Check.{checkTold};
 ghost use Rattle.rules.specs.Fetch.{fetchTold, ordinal, textTold};
 ghost use Rattle.rules.specs.Sheet.{toSheet};
 ghost use Rattle.rules.specs.Message.{toMessage};
-ghost use Rattle.csv_rules.specs.Answers.{faultNumber};
+ghost use Rattle.csv_rules.specs.Answers.{faultNumber, toldMade};
 ghost use Rattle.csv_rules.specs.Sheets.{csvCount, csvSheet, csvNext, placeAfter};
 ghost use Rattle.csv_rules.specs.Spot.{csvSpot};
 ghost use Rattle.spot.specs.Spot.{spotOf};
-ghost use Rattle.oul_c.specs.Numbers.{numberOf, placeOf, countsOf, stretchOf, writtenOf, segmentOf, spotIn, sheetsOf, besideOf, Says, SaysMade};
+ghost use Rattle.oul_c.specs.Numbers.{countNumbers, spanNumbers, segmentNumbers, spotNumbers, sheetNumbers, oneNumber, Tells, TellsWritten, TellsNext};
 
 // The counts of the specimens, orders and results of a message.
 #[no_mangle]
 pub extern "C" fn oul_check(m: &[u8], told: &mut [usize; 3]) -> usize
-    ensures { λ r. ⌜ r ≡ numberOf (checkTold (now (m .entry))) ⌝ }
-    ensures { λ _. ⌜ now (told .exit) ≡ countsOf (checkTold (now (m .entry))) ⌝ }
+    ensures { λ r. ⌜ Tells countNumbers (checkTold (now (m .entry))) r (now (told .exit)) ⌝ }
 {
     match oul::check(m) {
         Answer::Accepted(counts) => {
@@ -48,8 +47,7 @@ pub extern "C" fn oul_locate(
     component: usize,
     told: &mut [usize; 3],
 ) -> usize
-    ensures { λ r. ⌜ r ≡ numberOf (fetchTold (now (m .entry)) ordinal field component) ⌝ }
-    ensures { λ _. ⌜ now (told .exit) ≡ stretchOf (fetchTold (now (m .entry)) ordinal field component) ⌝ }
+    ensures { λ r. ⌜ Tells spanNumbers (fetchTold (now (m .entry)) ordinal field component) r (now (told .exit)) ⌝ }
 {
     match oul::locate(m, ordinal, field, component) {
         Fetched::At(p) => {
@@ -70,9 +68,7 @@ pub extern "C" fn oul_part_text(
     out: &mut [u8],
     told: &mut [usize; 3],
 ) -> usize
-    ensures { λ r. ⌜ r ≡ numberOf (lengthOf (textTold (now (m .entry)) ordinal field component (length (now (out .entry))))) ⌝ }
-    ensures { λ _. ⌜ now (told .exit) ≡ writtenOf (lengthOf (textTold (now (m .entry)) ordinal field component (length (now (out .entry))))) ⌝ }
-    ensures buffer { λ _. ⌜ now (out .exit) ≡ over (textTold (now (m .entry)) ordinal field component (length (now (out .entry)))) (now (out .entry)) ⌝ }
+    ensures { λ r. ⌜ TellsWritten (textTold (now (m .entry)) ordinal field component (length (now (out .entry)))) (now (out .entry)) r (now (told .exit)) (now (out .exit)) ⌝ }
 {
     written(oul::part_text(m, ordinal, field, component, out), told)
 }
@@ -80,9 +76,7 @@ pub extern "C" fn oul_part_text(
 // Writes the sheet of a message into the lent buffer: how many bytes it has.
 #[no_mangle]
 pub extern "C" fn oul_to_sheet(m: &[u8], out: &mut [u8], told: &mut [usize; 3]) -> usize
-    ensures { λ r. ⌜ r ≡ numberOf (lengthOf (toSheet (now (m .entry)) (length (now (out .entry))))) ⌝ }
-    ensures { λ _. ⌜ now (told .exit) ≡ writtenOf (lengthOf (toSheet (now (m .entry)) (length (now (out .entry))))) ⌝ }
-    ensures buffer { λ _. ⌜ now (out .exit) ≡ over (toSheet (now (m .entry)) (length (now (out .entry)))) (now (out .entry)) ⌝ }
+    ensures { λ r. ⌜ TellsWritten (toSheet (now (m .entry)) (length (now (out .entry)))) (now (out .entry)) r (now (told .exit)) (now (out .exit)) ⌝ }
 {
     written(oul::to_sheet(m, out), told)
 }
@@ -90,9 +84,7 @@ pub extern "C" fn oul_to_sheet(m: &[u8], out: &mut [u8], told: &mut [usize; 3]) 
 // Writes the message of a sheet in the same way; a refusal carries the line in place of the segment.
 #[no_mangle]
 pub extern "C" fn oul_to_message(sheet: &[u8], out: &mut [u8], told: &mut [usize; 3]) -> usize
-    ensures { λ r. ⌜ r ≡ numberOf (lengthOf (toMessage (now (sheet .entry)) (length (now (out .entry))))) ⌝ }
-    ensures { λ _. ⌜ now (told .exit) ≡ writtenOf (lengthOf (toMessage (now (sheet .entry)) (length (now (out .entry))))) ⌝ }
-    ensures buffer { λ _. ⌜ now (out .exit) ≡ over (toMessage (now (sheet .entry)) (length (now (out .entry)))) (now (out .entry)) ⌝ }
+    ensures { λ r. ⌜ TellsWritten (toMessage (now (sheet .entry)) (length (now (out .entry)))) (now (out .entry)) r (now (told .exit)) (now (out .exit)) ⌝ }
 {
     written(oul::to_message(sheet, out), told)
 }
@@ -100,8 +92,7 @@ pub extern "C" fn oul_to_message(sheet: &[u8], out: &mut [u8], told: &mut [usize
 // Where the known segment with this ordinal starts, and how long it is without its 0D; its name is its first three bytes. It takes any bytes.
 #[no_mangle]
 pub extern "C" fn oul_segment(m: &[u8], number: usize, told: &mut [usize; 3]) -> usize
-    ensures { λ r. ⌜ r ≡ numberOf (ordinal (known (now (m .entry))) number) ⌝ }
-    ensures { λ _. ⌜ now (told .exit) ≡ segmentOf (ordinal (known (now (m .entry))) number) ⌝ }
+    ensures { λ r. ⌜ Tells segmentNumbers (ordinal (known (now (m .entry))) number) r (now (told .exit)) ⌝ }
 {
     match oul::known_segment(m, number) {
         Found::At(s) => {
@@ -122,8 +113,7 @@ pub extern "C" fn oul_segment(m: &[u8], number: usize, told: &mut [usize; 3]) ->
 // The line and the byte at which a text breaks the rule of its refusal 12, 13 or 41. It always answers 0.
 #[no_mangle]
 pub extern "C" fn oul_spot(text: &[u8], refusal: usize, told: &mut [usize; 3]) -> usize
-    ensures { λ r. ⌜ r ≡ 0 ⌝ }
-    ensures { λ _. ⌜ now (told .exit) ≡ spotIn (spotOf refusal (now (text .entry))) ⌝ }
+    ensures { λ r. ⌜ Tells spotNumbers (gives (spotOf refusal (now (text .entry)))) r (now (told .exit)) ⌝ }
 {
     let s = oul::spot_of(text, refusal);
     *told = [s.line, s.byte, 0];
@@ -134,8 +124,7 @@ pub extern "C" fn oul_spot(text: &[u8], refusal: usize, told: &mut [usize; 3]) -
 // How many sheets a file holds, and where its first row stands.
 #[no_mangle]
 pub extern "C" fn oul_csv_count(file: &[u8], told: &mut [usize; 3]) -> usize
-    ensures { λ r. ⌜ r ≡ numberOf (csvCount (now (file .entry))) ⌝ }
-    ensures { λ _. ⌜ now (told .exit) ≡ sheetsOf (csvCount (now (file .entry))) ⌝ }
+    ensures { λ r. ⌜ Tells sheetNumbers (csvCount (now (file .entry))) r (now (told .exit)) ⌝ }
 {
     match oul::csv_count(file) {
         Counted::Sheets(sheets) => {
@@ -157,9 +146,7 @@ pub extern "C" fn oul_csv_sheet(
     out: &mut [u8],
     told: &mut [usize; 3],
 ) -> usize
-    ensures { λ r. ⌜ r ≡ numberOf (lengthOf (csvSheet (now (file .entry)) which (record { mode = now (mode .entry); sent = now (sent .entry); control = now (control .entry) }) (length (now (out .entry))))) ⌝ }
-    ensures { λ _. ⌜ now (told .exit) ≡ writtenOf (lengthOf (csvSheet (now (file .entry)) which (record { mode = now (mode .entry); sent = now (sent .entry); control = now (control .entry) }) (length (now (out .entry))))) ⌝ }
-    ensures buffer { λ _. ⌜ now (out .exit) ≡ over (csvSheet (now (file .entry)) which (record { mode = now (mode .entry); sent = now (sent .entry); control = now (control .entry) }) (length (now (out .entry)))) (now (out .entry)) ⌝ }
+    ensures { λ r. ⌜ TellsWritten (csvSheet (now (file .entry)) which (record { mode = now (mode .entry); sent = now (sent .entry); control = now (control .entry) }) (length (now (out .entry)))) (now (out .entry)) r (now (told .exit)) (now (out .exit)) ⌝ }
 {
     made(oul::csv_sheet(file, which, mode, sent, control, out), told)
 }
@@ -175,9 +162,7 @@ pub extern "C" fn oul_csv_next(
     out: &mut [u8],
     told: &mut [usize; 3],
 ) -> usize
-    ensures { λ r. ⌜ r ≡ numberOf (lengthOf (csvNext (now (file .entry)) at (record { mode = now (mode .entry); sent = now (sent .entry); control = now (control .entry) }) (length (now (out .entry))))) ⌝ }
-    ensures { λ _. ⌜ now (told .exit) ≡ besideOf (writtenOf (lengthOf (csvNext (now (file .entry)) at (record { mode = now (mode .entry); sent = now (sent .entry); control = now (control .entry) }) (length (now (out .entry)))))) (placeAfter (now (file .entry)) at) ⌝ }
-    ensures buffer { λ _. ⌜ now (out .exit) ≡ over (csvNext (now (file .entry)) at (record { mode = now (mode .entry); sent = now (sent .entry); control = now (control .entry) }) (length (now (out .entry)))) (now (out .entry)) ⌝ }
+    ensures { λ r. ⌜ TellsNext (csvNext (now (file .entry)) at (record { mode = now (mode .entry); sent = now (sent .entry); control = now (control .entry) }) (length (now (out .entry)))) (placeAfter (now (file .entry)) at) (now (out .entry)) r (now (told .exit)) (now (out .exit)) ⌝ }
 {
     let next = oul::csv_next(file, at, mode, sent, control, out);
     let answer = next.made;
@@ -189,8 +174,7 @@ pub extern "C" fn oul_csv_next(
 // The line where a file is refused, 0 where it isn't. It always answers 0.
 #[no_mangle]
 pub extern "C" fn oul_csv_spot(file: &[u8], told: &mut [usize; 3]) -> usize
-    ensures { λ r. ⌜ r ≡ 0 ⌝ }
-    ensures { λ _. ⌜ now (told .exit) ≡ csvSpot (now (file .entry)) ∷ 0 ∷ 0 ∷ [] ⌝ }
+    ensures { λ r. ⌜ Tells oneNumber (gives (csvSpot (now (file .entry)))) r (now (told .exit)) ⌝ }
 {
     *told = [oul::csv_spot(file), 0, 0];
     0
@@ -199,7 +183,7 @@ pub extern "C" fn oul_csv_spot(file: &[u8], told: &mut [usize; 3]) -> usize
 // ---- answers as numbers
 // How many bytes were written, as numbers.
 fn written(answer: Written, told: &mut [usize; 3]) -> usize
-    ensures { λ r. ⌜ Says answer r (now (told .exit)) ⌝ }
+    ensures { λ r. ⌜ Tells oneNumber (toldLength answer) r (now (told .exit)) ⌝ }
 {
     match answer {
         Written::Wrote(n) => {
@@ -213,7 +197,7 @@ fn written(answer: Written, told: &mut [usize; 3]) -> usize
 // A refusal as numbers.
 fn refuse(r: Refusal, told: &mut [usize; 3]) -> usize
     ensures { λ n. ⌜ n ≡ number (r .kind) ⌝ }
-    ensures { λ _. ⌜ now (told .exit) ≡ placeOf (r .segment) (r .field) ⌝ }
+    ensures { λ _. ⌜ now (told .exit) ≡ r .segment ∷ r .field ∷ 0 ∷ [] ⌝ }
 {
     *told = [r.segment, r.field, 0];
     let kind = r.kind;
@@ -221,9 +205,9 @@ fn refuse(r: Refusal, told: &mut [usize; 3]) -> usize
 }
 
 // A file's fault, which names no place.
-fn faulty(fault: Fault, told: &mut [usize; 3]) -> usize
+fn faulty(fault: FileFault, told: &mut [usize; 3]) -> usize
     ensures { λ n. ⌜ n ≡ faultNumber fault ⌝ }
-    ensures { λ _. ⌜ now (told .exit) ≡ placeOf 0 0 ⌝ }
+    ensures { λ _. ⌜ now (told .exit) ≡ 0 ∷ 0 ∷ 0 ∷ [] ⌝ }
 {
     *told = [0, 0, 0];
     csv_rules::fault_number(fault)
@@ -231,7 +215,7 @@ fn faulty(fault: Fault, told: &mut [usize; 3]) -> usize
 
 // How many bytes the sheet has, or its refusal.
 fn made(answer: Made, told: &mut [usize; 3]) -> usize
-    ensures { λ r. ⌜ SaysMade answer r (now (told .exit)) ⌝ }
+    ensures { λ r. ⌜ Tells oneNumber (toldMade answer) r (now (told .exit)) ⌝ }
 {
     match answer {
         Made::Sheet(n) => {

@@ -14,14 +14,14 @@ use Rattle.rules.specs.Fetch.{span, startOf}
 use Rattle.rules.proofs.Lists.{rest-is, take-own, nth-at}
 use Rattle.rules.proofs.Split.{split-cons}
 use Rattle.rules.proofs.Modes.{length-met, take-marks}
-use Rattle.bytes.specs.Bytes.{until, is}
+use Rattle.bytes.specs.Bytes.{until, isByte}
 use Rattle.scan.proofs.Laws.{take-until, after-drop, first-piece}
 use Rattle.scan.proofs.Walk.{past-next}
 use Rattle.bytes.proofs.Laws.{split-last, split-more}
 use Rattle.pieces.specs.Pieces.{PieceOf, Nearest}
 
 -- what follows a separator that acts is met from one-byte mode on
-next-met : (sep : ℕ) → Delim sep → (u : List ℕ) (len : ℕ) → len ≡ length (until (is sep) (met u)) → len < length u → drop (suc len) (met u) ≡ met (drop (len + 1) u)
+next-met : (sep : ℕ) → Delim sep → (u : List ℕ) (len : ℕ) → len ≡ length (until (isByte sep) (met u)) → len < length u → drop (suc len) (met u) ≡ met (drop (len + 1) u)
 unfolding met
 next-met sep p u len e h =
     let k : suc len ≡ len + 1 = omega arith in
@@ -39,9 +39,9 @@ pub record Walked (sep : ℕ) (s : List ℕ) (number at len : ℕ) : Type 0 wher
   pub pieces : split sep (met s) ≡ passed ++ split sep (met (drop at s))
   pub count : length passed ≡ number
   pub place : span passed ≡ at
-  pub long : len ≡ length (until (is sep) (met (drop at s)))
+  pub long : len ≡ length (until (isByte sep) (met (drop at s)))
 
-pub walked-starts : (sep : ℕ) (s : List ℕ) (len : ℕ) → len ≡ length (until (is sep) (marks 0x0D One s)) → Walked sep s 0 0 len
+pub walked-starts : (sep : ℕ) (s : List ℕ) (len : ℕ) → len ≡ length (until (isByte sep) (marks 0x0D One s)) → Walked sep s 0 0 len
 unfolding met span
 walked-starts sep s len e = record { passed = []; pieces = refl; count = refl; place = refl; long = e }
 
@@ -50,11 +50,11 @@ module _ (sep : ℕ) (s : List ℕ) (number at len : ℕ) (inv : Walked sep s nu
   rest = met (drop at s)
 
   walked-on : (next : ℕ) → Delim sep → at + len ≤ length s → (at + len ≡ length s → ⊥)
-      → next ≡ length (until (is sep) (marks 0x0D One (take (length s - (at + len + 1)) (drop (at + len + 1) s)))) → Walked sep s (number + 1) (at + len + 1) next
+      → next ≡ length (until (isByte sep) (marks 0x0D One (take (length s - (at + len + 1)) (drop (at + len + 1) s)))) → Walked sep s (number + 1) (at + len + 1) next
   unfolding met
   walked-on next p h g e =
       let l : len < length (drop at s) = omega (arith, length-drop at s) in
-      let m : length (until (is sep) rest) < length rest = omega (arith, inv .long, length-met (drop at s)) in
+      let m : length (until (isByte sep) rest) < length rest = omega (arith, inv .long, length-met (drop at s)) in
       let k : at + (len + 1) ≡ at + len + 1 = omega arith in
       let after : drop (suc len) rest ≡ met (drop (at + len + 1) s) = next-met sep p (drop at s) len (inv .long) l ∙ ap met (drop-drop (len + 1) at s ∙ ap (λ n. drop n s) k) in
       let cut : split sep rest ≡ take len rest ∷ split sep (met (drop (at + len + 1) s))
@@ -64,11 +64,11 @@ module _ (sep : ℕ) (s : List ℕ) (number at len : ℕ) (inv : Walked sep s nu
         pieces = inv .pieces ∙ ap (λ ps. inv .passed ++ ps) cut ∙ sym (append-assoc (inv .passed) (take len rest ∷ []) (split sep (met (drop (at + len + 1) s))));
         count = length-append (inv .passed) (take len rest ∷ []) ∙ ap (λ n. n + 1) (inv .count);
         place = span-end (inv .passed) (take len rest) ∙ omega (arith, inv .place, length-take-le len rest (omega (arith, length-met (drop at s))));
-        long = e ∙ ap (λ l. length (until (is sep) (met l))) (rest-is s (at + len + 1));
+        long = e ∙ ap (λ l. length (until (isByte sep) (met l))) (rest-is s (at + len + 1));
       }
 
   pub walked-next : (next i a l : ℕ) → Delim sep → at + len ≤ length s → (at + len ≡ length s → ⊥)
-      → next ≡ length (until (is sep) (marks 0x0D One (take (length s - (at + len + 1)) (drop (at + len + 1) s))))
+      → next ≡ length (until (isByte sep) (marks 0x0D One (take (length s - (at + len + 1)) (drop (at + len + 1) s))))
       → i ≡ number + 1 → a ≡ at + len + 1 → l ≡ next → Walked sep s i a l
   walked-next next i a l p h g e ei ea el = rw (ei, ea, el) (walked-on next p h g e)
 
@@ -77,13 +77,13 @@ module _ (sep : ℕ) (s : List ℕ) (number at len : ℕ) (inv : Walked sep s nu
   unfolding startOf met front
   piece-is =
       let cut : split sep (met s) ≡ inv .passed ++ (front sep rest ∷ later sep rest) = inv .pieces ∙ ap (λ ps. inv .passed ++ ps) (split-cons sep rest) in
-      let first : nth (split sep (met s)) number ≡ until (is sep) rest
+      let first : nth (split sep (met s)) number ≡ until (isByte sep) rest
       = ap (λ ps. nth ps number) cut ∙ rw (← inv .count) (nth-at (inv .passed) (front sep rest) (later sep rest)) ∙ first-piece sep rest in
       let size : number < length (split sep (met s)) = omega (arith, ap length cut, length-append (inv .passed) (front sep rest ∷ later sep rest), inv .count) in
       let before : take number (split sep (met s)) ≡ inv .passed = ap (take number) cut ∙ rw (← inv .count) (take-own (inv .passed) (front sep rest ∷ later sep rest)) in
       record {
         start = sym (rw (lt-ltb number (length (split sep (met s))) size, before) (inv .place));
-        own = sym (take-marks 0x0D len One (drop at s)) ∙ ap (λ n. take n rest) (inv .long) ∙ take-until (is sep) rest ∙ sym first;
+        own = sym (take-marks 0x0D len One (drop at s)) ∙ ap (λ n. take n rest) (inv .long) ∙ take-until (isByte sep) rest ∙ sym first;
         long = inv .long ∙ ap length (sym first);
       }
 
@@ -92,7 +92,7 @@ module _ (sep : ℕ) (s : List ℕ) (number at len : ℕ) (inv : Walked sep s nu
 
   pub reach-last : (n : ℕ) → number ≤ n → at + len ≡ length s → Nearest sep n s number at len
   reach-last n h e =
-      let z : length (until (is sep) rest) ≡ length rest = omega (arith, inv .long, length-met (drop at s), length-drop at s) in
+      let z : length (until (isByte sep) rest) ≡ length rest = omega (arith, inv .long, length-met (drop at s), length-drop at s) in
       let cut : split sep (met s) ≡ inv .passed ++ (rest ∷ []) = inv .pieces ∙ ap (λ ps. inv .passed ++ ps) (split-last sep rest z) in
       record { piece = piece-is; near = h; last = λ l. omega (arith, ap length cut, length-append (inv .passed) (rest ∷ []), inv .count) }
 

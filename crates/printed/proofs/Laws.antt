@@ -9,7 +9,7 @@ use Rattle.rules.specs.declared.Refusal.{Refusal}
 use Rattle.rules.specs.Told.{number}
 use Rattle.rules.specs.Lists.{bytes, decimal}
 use Rattle.rules.proofs.Measures.{tens, decimal-few}
-use Rattle.csv_rules.specs.declared.Fault.{Fault}
+use Rattle.csv_rules.specs.declared.FileFault.{FileFault}
 use Rattle.csv_rules.specs.Answers.{faultNumber}
 use Rattle.writer.specs.Over.{Wrote, Put}
 use Rattle.writer.proofs.Laws.{then, front-within, front-is}
@@ -40,7 +40,7 @@ module _ (old z : List ℕ) (n r : ℕ) where
   unfolding refusalText
   refused-is place f e w = rw e at w
 
-  pub fault-is : (f : Fault) → n ≡ faultNumber f → Wrote r z (threeText (108 ∷ 105 ∷ 110 ∷ 101 ∷ 61 ∷ []) n 0 0) old → Wrote r z (faultText f) old
+  pub fault-is : (f : FileFault) → n ≡ faultNumber f → Wrote r z (threeText (108 ∷ 105 ∷ 110 ∷ 101 ∷ 61 ∷ []) n 0 0) old → Wrote r z (faultText f) old
   unfolding faultText bytes
   fault-is f e w = rw e at w
 

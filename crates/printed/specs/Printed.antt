@@ -7,7 +7,7 @@ use Rattle.rules.specs.declared.Counts.{Counts}
 use Rattle.rules.specs.declared.Refusal.{Refusal}
 use Rattle.rules.specs.Told.{number}
 use Rattle.rules.specs.Lists.{bytes, decimal}
-use Rattle.csv_rules.specs.declared.Fault.{Fault}
+use Rattle.csv_rules.specs.declared.FileFault.{FileFault}
 use Rattle.csv_rules.specs.Answers.{faultNumber}
 
 -- a key, a number and 0A
@@ -21,7 +21,7 @@ unfoldable pub refusalText : List ℕ → Refusal → List ℕ
 refusalText place r = threeText place (number (r .kind)) (r .segment) (r .field)
 
 -- 50 to 54 name no line
-unfoldable pub faultText : Fault → List ℕ
+unfoldable pub faultText : FileFault → List ℕ
 faultText f = threeText (bytes "line=") (faultNumber f) 0 0
 
 -- "The check gives the counts of SPM, OBR and OBX."

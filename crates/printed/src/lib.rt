@@ -1,5 +1,5 @@
 // What the programs print on standard output, as texts: the counts, a number, and a refusal in three lines.
-use csv_rules::Fault;
+use csv_rules::FileFault;
 use rules::Counts;
 use rules::Refusal;
 ghost use mathlib.Core.List.{_++_};
@@ -26,7 +26,7 @@ pub fn of_sheet(out: &mut [u8; 96], refusal: Refusal) -> usize
 }
 
 // A file's fault names no line.
-pub fn of_fault(out: &mut [u8; 96], fault: Fault) -> usize
+pub fn of_fault(out: &mut [u8; 96], fault: FileFault) -> usize
     ensures { λ r. ⌜ Wrote r (now (out .exit)) (faultText fault) (now (out .entry)) ⌝ }
     ensures within { λ r. ⌜ Front r (now (out .exit)) ⌝ }
 {

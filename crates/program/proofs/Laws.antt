@@ -14,7 +14,7 @@ use mir.Val.{toZ, ofZ, SFits}
 use mir.ValLaws.{toZ-ofZ}
 use Rattle.program.specs.declared.Input.{Input}
 use Rattle.program.specs.declared.Input.the-variants.{Whole, Failed}
-use Rattle.program.specs.Reading.{endingOf, Within}
+use Rattle.program.specs.Reading.{endingOf, InBuffer}
 
 -- ---- what a read that brought nothing says
 negative : (z : ℤ) (done : ℕ) → ltZ z (pos 0) ≡ true → Failed ≡ endingOf z done
@@ -35,15 +35,15 @@ module _ (z : ℤ) (done : ℕ) (f : SFits w64 z) where
   end-is h = other z done (subst (λ (v : ℤ). ltZ v (pos 0) ≡ false) (toZ-ofZ w64 z f) h)
 
 -- ---- it lies in the buffer
-pub ending-within : (z : ℤ) (done n : ℕ) (r : Input) → r ≡ endingOf z done → done ≤ n → Within n r
+pub ending-within : (z : ℤ) (done n : ℕ) (r : Input) → r ≡ endingOf z done → done ≤ n → InBuffer n r
 unfolding endingOf
 ending-within (pos k) done n r e h = rw e h
 ending-within (negsuc k) done n r e h = rw e tt
 
-pub failed-within : (n : ℕ) (r : Input) → r ≡ Failed → Within n r
+pub failed-within : (n : ℕ) (r : Input) → r ≡ Failed → InBuffer n r
 failed-within n r e = rw e tt
 
-pub whole-within : (n k : ℕ) (r : Input) → r ≡ Whole k → Within n r → Within n (Whole k)
+pub whole-within : (n k : ℕ) (r : Input) → r ≡ Whole k → InBuffer n r → InBuffer n (Whole k)
 whole-within n k r e h = rw e at h
 
 -- ---- the front of a short buffer
@@ -51,8 +51,8 @@ pub front-all : (n : ℕ) (s : List ℕ) → length s < n → s ≡ take n s
 front-all n s h = sym (take-all n s (omega arith))
 
 -- ---- a file that was read, where the buffer has the length that it had
-pub fits-room : (k room : ℕ) (i : Input) (n : ℕ) → Within k i → i ≡ Whole n → k ≡ room → n ≤ room
+pub fits-room : (k room : ℕ) (i : Input) (n : ℕ) → InBuffer k i → i ≡ Whole n → k ≡ room → n ≤ room
 fits-room k room i n w e r = rw (← r) (rw e at w)
 
-pub within-room : (k room : ℕ) (i : Input) → Within room i → k ≡ room → Within k i
+pub within-room : (k room : ℕ) (i : Input) → InBuffer room i → k ≡ room → InBuffer k i
 within-room k room i w r = rw r w

@@ -12,9 +12,9 @@ endingOf (pos k) done = Whole done
 endingOf (negsuc k) done = Failed
 
 -- an input lies in its buffer of n bytes
-abbrev pub Within : ℕ → Input → Type 0
-Within n (Whole k) = k ≤ n
-Within n Failed = Unit {0}
+abbrev pub InBuffer : ℕ → Input → Type 0
+InBuffer n (Whole k) = k ≤ n
+InBuffer n Failed = Unit {0}
 
 -- a number that an argument gives has nine digits at most
 abbrev pub NineDigits : Number → Type 0

@@ -2,14 +2,9 @@
 // is called. No contract can say what is read or written; what fails is told on standard error, with the system's reason.
 pub mod file;
 
-use rules::Found;
-use rules::Name;
-use rules::Refusal;
 ghost use mathlib.Core.Path.{_≡_};
 ghost use lib.ListN.{length, take};
-ghost use Rattle.rules.specs.Lists.{bytes};
-ghost use Rattle.printed.specs.Printed.{refusalText};
-ghost use Rattle.program.specs.Reading.{endingOf, Within, NineDigits};
+ghost use Rattle.program.specs.Reading.{endingOf, InBuffer, NineDigits};
 
 // ---- input
 // A whole input of so many bytes, at the start of the lent buffer; or none, and why is told already.
@@ -20,7 +15,7 @@ pub enum Input {
 
 // Reads the file that the last argument names, or standard input where there is none. Before it stand `others` arguments, the program's own name among them.
 pub fn read_input(program: &[u8], usage: &[u8], others: usize, buf: &mut [u8]) -> Input
-    ensures { λ r. ⌜ Within (length (now (buf .exit))) r ⌝ }
+    ensures { λ r. ⌜ InBuffer (length (now (buf .exit))) r ⌝ }
 {
     let given = os::arg_count();
     if given == others {
@@ -41,7 +36,7 @@ pub fn read_input(program: &[u8], usage: &[u8], others: usize, buf: &mut [u8]) -
 }
 
 fn read_standard(program: &[u8], buf: &mut [u8]) -> Input
-    ensures { λ r. ⌜ Within (length (now (buf .exit))) r ⌝ }
+    ensures { λ r. ⌜ InBuffer (length (now (buf .exit))) r ⌝ }
 {
     if libc::isatty(0) == 1 {
         io::write_all(2, program);
@@ -52,7 +47,7 @@ fn read_standard(program: &[u8], buf: &mut [u8]) -> Input
 
 // A word that begins with - names no file: ./-x does.
 fn read_file(program: &[u8], usage: &[u8], path: &[u8], buf: &mut [u8]) -> Input
-    ensures { λ r. ⌜ Within (length (now (buf .exit))) r ⌝ }
+    ensures { λ r. ⌜ InBuffer (length (now (buf .exit))) r ⌝ }
 {
     if is_option(path) {
         return explain(usage);
@@ -72,7 +67,7 @@ fn is_option(word: &[u8]) -> bool {
 }
 
 fn read_from(program: &[u8], file: &[u8], fd: i32, buf: &mut [u8]) -> Input
-    ensures { λ r. ⌜ Within (length (now (buf .exit))) r ⌝ }
+    ensures { λ r. ⌜ InBuffer (length (now (buf .exit))) r ⌝ }
 {
     match read_all(fd, buf) {
         Input::Whole(n) => Input::Whole(n),
@@ -82,7 +77,7 @@ fn read_from(program: &[u8], file: &[u8], fd: i32, buf: &mut [u8]) -> Input
 
 // Reads until the input ends or the buffer is full.
 fn read_all(fd: i32, buf: &mut [u8]) -> Input
-    ensures { λ r. ⌜ Within (length (now (buf .exit))) r ⌝ }
+    ensures { λ r. ⌜ InBuffer (length (now (buf .exit))) r ⌝ }
 {
     let mut done = 0;
     while done < buf.len() {
@@ -180,42 +175,5 @@ fn read_number(s: &[u8]) -> Number
 pub fn output(program: &[u8], bytes: &[u8], end: &[u8]) {
     if !(io::write_all(1, bytes) && io::write_all(1, end) && libc::close(1) == 0) {
         fail(program, b"standard output");
-    }
-}
-
-// ---- a refusal: three lines on standard output, how many bytes they have, and a line in words on standard error
-pub fn refuse_message(program: &[u8], m: &[u8], refusal: Refusal) -> usize
-    ensures { λ r. ⌜ r ≡ length (refusalText (bytes "segment=") refusal) ⌝ }
-{
-    let mut lines = [0u8; 96];
-    let n = printed::of_message(&mut lines, refusal);
-    output(program, &lines[..n], b"");
-    say_in_words(m, refusal, segment_name(m, refusal.segment));
-    n
-}
-
-pub fn refuse_sheet(program: &[u8], sheet: &[u8], refusal: Refusal) -> usize
-    ensures { λ r. ⌜ r ≡ length (refusalText (bytes "line=") refusal) ⌝ }
-{
-    let mut lines = [0u8; 96];
-    let n = printed::of_sheet(&mut lines, refusal);
-    output(program, &lines[..n], b"");
-    say_in_words(sheet, refusal, Name::Other);
-    n
-}
-
-fn say_in_words(text: &[u8], refusal: Refusal, name: Name) {
-    let kind = refusal.kind;
-    let spot = oul::spot_of(text, rules::paper_number(kind));
-    let mut line = [0u8; 192];
-    let n = words::in_words(&mut line, refusal, name, spot);
-    io::write_all(2, &line[..n]);
-}
-
-// The name of the known segment with this ordinal, `Other` where there is none.
-fn segment_name(m: &[u8], ordinal: usize) -> Name {
-    match oul::known_segment(m, ordinal) {
-        Found::At(segment) => segment.name,
-        Found::Nothing => Name::Other,
     }
 }

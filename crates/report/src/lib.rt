@@ -9,13 +9,13 @@ ghost use Rattle.rules.specs.declared.Name.the-variants.{Msh, Pv1, Spm, Obr};
 ghost use Rattle.rules.specs.Shift.{met};
 ghost use Rattle.rules.specs.Proper.{Proper};
 ghost use Rattle.fill.specs.Fill.{Lined, longest, Near};
-ghost use Rattle.sources.specs.Sources.{linesIn};
+ghost use Rattle.sources.specs.Sources.{linesOfBody};
 ghost use Rattle.report.specs.Report.{fromSent, fieldLines};
 
 // MSH.
 pub fn header(out: &mut [u8], s: &[u8], d: Delims) -> usize
     requires { ⌜ Proper d × (length (now s) ≤ 4096) ⌝ }
-    ensures { λ r. ⌜ Lined 0 (now (out .entry)) (linesIn d Msh (met (now (s .entry)))) r (now (out .exit)) ⌝ }
+    ensures { λ r. ⌜ Lined 0 (now (out .entry)) (linesOfBody d Msh (met (now (s .entry)))) r (now (out .exit)) ⌝ }
     ensures within { λ r. ⌜ r ≤ longest 4 ⌝ }
 {
     let at = fill::line_as_is(out, 0, b"version=", b"1");
@@ -50,7 +50,7 @@ fn from_sent(out: &mut [u8], at: usize, t: &[u8], d: Delims) -> usize
 // PV1.
 pub fn visit(out: &mut [u8], s: &[u8], d: Delims) -> usize
     requires { ⌜ Proper d × (length (now s) ≤ 4096) ⌝ }
-    ensures { λ r. ⌜ Lined 0 (now (out .entry)) (linesIn d Pv1 (met (now (s .entry)))) r (now (out .exit)) ⌝ }
+    ensures { λ r. ⌜ Lined 0 (now (out .entry)) (linesOfBody d Pv1 (met (now (s .entry)))) r (now (out .exit)) ⌝ }
     ensures within { λ r. ⌜ r ≤ longest 1 ⌝ }
 {
     let t = onward(s, d.field, 2);
@@ -61,7 +61,7 @@ pub fn visit(out: &mut [u8], s: &[u8], d: Delims) -> usize
 // SPM.
 pub fn specimen(out: &mut [u8], s: &[u8], d: Delims) -> usize
     requires { ⌜ Proper d × (length (now s) ≤ 4096) ⌝ }
-    ensures { λ r. ⌜ Lined 0 (now (out .entry)) (linesIn d Spm (met (now (s .entry)))) r (now (out .exit)) ⌝ }
+    ensures { λ r. ⌜ Lined 0 (now (out .entry)) (linesOfBody d Spm (met (now (s .entry)))) r (now (out .exit)) ⌝ }
     ensures within { λ r. ⌜ r ≤ longest 2 ⌝ }
 {
     let t = onward(s, d.field, 4);
@@ -71,7 +71,7 @@ pub fn specimen(out: &mut [u8], s: &[u8], d: Delims) -> usize
 // OBR.
 pub fn order(out: &mut [u8], s: &[u8], d: Delims) -> usize
     requires { ⌜ Proper d × (length (now s) ≤ 4096) ⌝ }
-    ensures { λ r. ⌜ Lined 0 (now (out .entry)) (linesIn d Obr (met (now (s .entry)))) r (now (out .exit)) ⌝ }
+    ensures { λ r. ⌜ Lined 0 (now (out .entry)) (linesOfBody d Obr (met (now (s .entry)))) r (now (out .exit)) ⌝ }
     ensures within { λ r. ⌜ r ≤ longest 2 ⌝ }
 {
     let t = onward(s, d.field, 2);

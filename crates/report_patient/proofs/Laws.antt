@@ -10,14 +10,14 @@ use Rattle.rules.specs.Shift.{met}
 use Rattle.rules.specs.Proper.{Proper}
 use Rattle.rules.specs.View.{componentOf}
 use Rattle.rules.specs.Judge.{firstMarked}
-use Rattle.bytes.specs.Bytes.{until, is}
+use Rattle.bytes.specs.Bytes.{until, isByte}
 use Rattle.scan.specs.Scan.{ends, onward, next}
 use Rattle.components.specs.Components.{forward}
 use Rattle.closed.specs.Closed.{MarkedOf}
 use Rattle.components.proofs.Pieces.{piece-at, until-free, component-at}
 use Rattle.fill.specs.Fill.{Lined, keyed}
 use Rattle.fill.proofs.Laws.{lined-then}
-use Rattle.sources.specs.Sources.{linesIn}
+use Rattle.sources.specs.Sources.{linesOfBody}
 use Rattle.sources.proofs.Table.{first-is, tables, on, field-on}
 use Rattle.report.specs.Report.{fieldLines}
 use Rattle.report_patient.specs.Patient.{nameLines, namesLines, fromNames}
@@ -30,7 +30,7 @@ unfolding nameLines componentOf forward
 name-is d at r mark x y f t u a b family given q m ea eu eb p =
     rw (← (m .told), component-at d q 0 (met t), component-at d q 1 (met t)) (rw (ea, eb, eu) at p)
 
-pub names-free : (d : Delims) (t f : List ℕ) → met f ≡ until (is (d .field)) (met t) → has (d .field) (met f) ≡ false
+pub names-free : (d : Delims) (t f : List ℕ) → met f ≡ until (isByte (d .field)) (met t) → has (d .field) (met f) ≡ false
 names-free d t f e = ap (has (d .field)) e ∙ until-free (d .field) (met t)
 
 pub names-are : (d : Delims) (at i r : ℕ) (x y z f j k l m : List ℕ)
@@ -42,14 +42,14 @@ unfolding namesLines nameLines bytes
 names-are d at i r x y z f j k l m ej ek el em p q = rw (ej, ek, el, em) at (lined-then p q)
 
 -- ---- PID
-pub from-names-is : (d : Delims) (at r i : ℕ) (x y z t f u j k : List ℕ) → met f ≡ until (is (d .field)) (met t) → met u ≡ onward (d .field) 2 (met t) → j ≡ bytes "birth=" → k ≡ bytes "sex="
+pub from-names-is : (d : Delims) (at r i : ℕ) (x y z t f u j k : List ℕ) → met f ≡ until (isByte (d .field)) (met t) → met u ≡ onward (d .field) 2 (met t) → j ≡ bytes "birth=" → k ≡ bytes "sex="
     → Lined at x (namesLines d (met f)) r y → Lined r y (fieldLines d j 1 k (met u)) i z → Lined at x (fromNames d (met t)) i z
 unfolding fromNames
 from-names-is d at r i x y z t f u j k e g ej ek p q = rw (e, g, ej, ek) at (lined-then p q)
 
 pub patient-is : (d : Delims) (s t u id k x y z : List ℕ) (r i : ℕ) → Proper d → met t ≡ onward (d .field) 3 (met s) → met id ≡ until (ends d) (met t)
     → met u ≡ onward (d .field) 2 (met t) → k ≡ bytes "patient="
-    → Lined 0 x (keyed d k (met id) ∷ []) r y → Lined r y (fromNames d (met u)) i z → Lined 0 x (linesIn d Pid (met s)) i z
+    → Lined 0 x (keyed d k (met id) ∷ []) r y → Lined r y (fromNames d (met u)) i z → Lined 0 x (linesOfBody d Pid (met s)) i z
 unfolding tables fromNames namesLines nameLines fieldLines
 patient-is d s t u id k x y z r i q et ei eu ek p1 p2 =
     let u5 : met u ≡ onward (d .field) 5 (met s) = on d s t u 3 2 et eu in

@@ -5,7 +5,7 @@ use Rattle.rules.specs.declared.Delims.{Delims}
 use Rattle.rules.specs.Lists.{bytes, orEmpty}
 use Rattle.rules.specs.View.{componentOf}
 use Rattle.rules.specs.Judge.{kanji, kana}
-use Rattle.bytes.specs.Bytes.{until, is}
+use Rattle.bytes.specs.Bytes.{until, isByte}
 use Rattle.scan.specs.Scan.{onward}
 use Rattle.fill.specs.Fill.{keyed}
 use Rattle.report.specs.Report.{fieldLines}
@@ -20,4 +20,4 @@ namesLines d f =
 
 -- from PID-5 on
 unfoldable pub fromNames : Delims → List ℕ → List (List ℕ)
-fromNames d m = namesLines d (until (is (d .field)) m) ++ fieldLines d (bytes "birth=") 1 (bytes "sex=") (onward (d .field) 2 m)
+fromNames d m = namesLines d (until (isByte (d .field)) m) ++ fieldLines d (bytes "birth=") 1 (bytes "sex=") (onward (d .field) 2 m)

@@ -16,13 +16,13 @@ ghost use Rattle.rules.specs.Shift.{met};
 ghost use Rattle.rules.specs.Proper.{Proper};
 ghost use Rattle.rules.specs.Judge.{firstMarked};
 ghost use Rattle.fill.specs.Fill.{Lined, longest, Near};
-ghost use Rattle.sources.specs.Sources.{linesIn};
+ghost use Rattle.sources.specs.Sources.{linesOfBody};
 ghost use Rattle.report_patient.specs.Patient.{nameLines, namesLines, fromNames};
 
 // PID.
 pub fn patient(out: &mut [u8], s: &[u8], d: Delims) -> usize
     requires { ⌜ Proper d × (length (now s) ≤ 4096) ⌝ }
-    ensures { λ r. ⌜ Lined 0 (now (out .entry)) (linesIn d Pid (met (now (s .entry)))) r (now (out .exit)) ⌝ }
+    ensures { λ r. ⌜ Lined 0 (now (out .entry)) (linesOfBody d Pid (met (now (s .entry)))) r (now (out .exit)) ⌝ }
     ensures within { λ r. ⌜ r ≤ longest 7 ⌝ }
 {
     let t = onward(s, d.field, 3);

@@ -9,13 +9,13 @@ use Rattle.rules.specs.Lists.{bytes}
 use Rattle.rules.specs.Shift.{met}
 use Rattle.rules.specs.Proper.{Proper}
 use Rattle.rules.specs.Judge.{plainOf, rawFour}
-use Rattle.bytes.specs.Bytes.{until, is}
+use Rattle.bytes.specs.Bytes.{until, isByte}
 use Rattle.scan.specs.Scan.{ends, onward, next}
 use Rattle.scan.proofs.Laws.{onward-add}
 use Rattle.components.proofs.Pieces.{piece-at}
 use Rattle.fill.specs.Fill.{Lined, keyed}
 use Rattle.fill.proofs.Laws.{lined-then}
-use Rattle.sources.specs.Sources.{linesIn}
+use Rattle.sources.specs.Sources.{linesOfBody}
 use Rattle.sources.proofs.Laws.{next-onward}
 use Rattle.sources.proofs.Table.{rawIn, first-at, name-at, first-is, tables, on, field-on, later}
 use Rattle.report_value.specs.Value.{fourLines}
@@ -39,7 +39,7 @@ module _ (d : Delims) (t : List ℕ) where
       let v2 : met v ≡ onward (d .field) 2 (met t) = n ∙ ap (onward (d .field) 2) e ∙ next-onward d h 2 (met t) (omega arith) in
       rw (ej, ek, el, f, g, e, v2) at (lined-then p q)
 
-  pub from-value-is : (at r i : ℕ) (x y z f u kind : List ℕ) → met f ≡ until (is (d .field)) (met t) → met u ≡ onward (d .field) 1 (met t)
+  pub from-value-is : (at r i : ℕ) (x y z f u kind : List ℕ) → met f ≡ until (isByte (d .field)) (met t) → met u ≡ onward (d .field) 1 (met t)
       → Lined at x (fourLines d (rawFour d (plainOf d (met kind)) (met f))) r y → Lined r y (fromUnit d (met u)) i z
       → Lined at x (fromValue d (met t) (met kind)) i z
   unfolding fromValue
@@ -47,7 +47,7 @@ module _ (d : Delims) (t : List ℕ) where
 
 -- ---- OBX
 pub result-is : (d : Delims) (s t u kind x y : List ℕ) (r : ℕ) → Proper d → met t ≡ onward (d .field) 2 (met s) → met kind ≡ until (ends d) (met t)
-    → met u ≡ onward (d .field) 1 (met t) → Lined 0 x (fromItem d (met u) (met kind)) r y → Lined 0 x (linesIn d Obx (met s)) r y
+    → met u ≡ onward (d .field) 1 (met t) → Lined 0 x (fromItem d (met u) (met kind)) r y → Lined 0 x (linesOfBody d Obx (met s)) r y
 unfolding tables fromItem fromValue fourLines fromUnit
 result-is d s t u kind x y r q et ek eu p =
     let u3 : met u ≡ onward (d .field) 3 (met s) = on d s t u 2 1 et eu in

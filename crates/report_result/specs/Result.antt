@@ -4,7 +4,7 @@ use Prim.Native.Nat.{ℕ}
 use Rattle.rules.specs.declared.Delims.{Delims}
 use Rattle.rules.specs.Lists.{bytes}
 use Rattle.rules.specs.Judge.{plainOf, rawFour}
-use Rattle.bytes.specs.Bytes.{until, is}
+use Rattle.bytes.specs.Bytes.{until, isByte}
 use Rattle.scan.specs.Scan.{ends, next, onward}
 use Rattle.fill.specs.Fill.{keyed}
 use Rattle.sources.specs.Sources.{fieldFrom}
@@ -16,7 +16,7 @@ fromUnit d m = keyed d (bytes "unit=") (fieldFrom d 0 m) ∷ keyed d (bytes "fla
 
 -- from OBX-5 on; from OBX-3 on, and the type
 unfoldable pub fromValue : Delims → List ℕ → List ℕ → List (List ℕ)
-fromValue d m type = fourLines d (rawFour d (plainOf d type) (until (is (d .field)) m)) ++ fromUnit d (onward (d .field) 1 m)
+fromValue d m type = fourLines d (rawFour d (plainOf d type) (until (isByte (d .field)) m)) ++ fromUnit d (onward (d .field) 1 m)
 
 unfoldable pub fromItem : Delims → List ℕ → List ℕ → List (List ℕ)
 fromItem d m type =

@@ -11,43 +11,43 @@ ghost use Rattle.rules.specs.declared.Name.the-variants.{Obx};
 ghost use Rattle.rules.specs.Shift.{met};
 ghost use Rattle.rules.specs.Proper.{Proper};
 ghost use Rattle.fill.specs.Fill.{Lined, longest, Near};
-ghost use Rattle.sources.specs.Sources.{linesIn};
+ghost use Rattle.sources.specs.Sources.{linesOfBody};
 ghost use Rattle.report_result.specs.Result.{fromItem, fromValue, fromUnit};
 
 // OBX.
 pub fn result(out: &mut [u8], s: &[u8], d: Delims) -> usize
     requires { ⌜ Proper d × (length (now s) ≤ 4096) ⌝ }
-    ensures { λ r. ⌜ Lined 0 (now (out .entry)) (linesIn d Obx (met (now (s .entry)))) r (now (out .exit)) ⌝ }
+    ensures { λ r. ⌜ Lined 0 (now (out .entry)) (linesOfBody d Obx (met (now (s .entry)))) r (now (out .exit)) ⌝ }
     ensures within { λ r. ⌜ r ≤ longest 10 ⌝ }
 {
     let t = onward(s, d.field, 2);
-    let kind = first_component(t, d);
-    let u = field_behind(t, kind.len(), d, 1);
-    from_item(out, u, kind, d)
+    let obx2 = first_component(t, d);
+    let u = field_behind(t, obx2.len(), d, 1);
+    from_item(out, u, obx2, d)
 }
 
 // From OBX-3 on, and the type.
-fn from_item<'a>(out: &mut [u8], t: &'a [u8], kind: &'a [u8], d: Delims) -> usize
-    requires { ⌜ Proper d × (length (now t) ≤ 4096) × (length (now kind) ≤ 4096) ⌝ }
-    ensures { λ r. ⌜ Lined 0 (now (out .entry)) (fromItem d (met (now (t .entry))) (met (now (kind .entry)))) r (now (out .exit)) ⌝ }
+fn from_item<'a>(out: &mut [u8], t: &'a [u8], obx2: &'a [u8], d: Delims) -> usize
+    requires { ⌜ Proper d × (length (now t) ≤ 4096) × (length (now obx2) ≤ 4096) ⌝ }
+    ensures { λ r. ⌜ Lined 0 (now (out .entry)) (fromItem d (met (now (t .entry))) (met (now (obx2 .entry)))) r (now (out .exit)) ⌝ }
     ensures within { λ r. ⌜ r ≤ longest 10 ⌝ }
 {
     let code = first_component(t, d);
     let u = next_component(t, code.len(), d);
     let name = first_component(u, d);
-    let at = fill::three_lines(out, 0, b"item=", code, b"name=", name, b"type=", kind, d);
+    let at = fill::three_lines(out, 0, b"item=", code, b"name=", name, b"type=", obx2, d);
     let v = field_behind(u, name.len(), d, 2);
-    from_value(out, at, v, kind, d)
+    from_value(out, at, v, obx2, d)
 }
 
 // From OBX-5 on, by the type.
-fn from_value<'a>(out: &mut [u8], at: usize, t: &'a [u8], kind: &'a [u8], d: Delims) -> usize
-    requires { ⌜ Proper d × (length (now t) ≤ 4096) × (length (now kind) ≤ 4096) × Near 7 at ⌝ }
-    ensures { λ r. ⌜ Lined at (now (out .entry)) (fromValue d (met (now (t .entry))) (met (now (kind .entry)))) r (now (out .exit)) ⌝ }
+fn from_value<'a>(out: &mut [u8], at: usize, t: &'a [u8], obx2: &'a [u8], d: Delims) -> usize
+    requires { ⌜ Proper d × (length (now t) ≤ 4096) × (length (now obx2) ≤ 4096) × Near 7 at ⌝ }
+    ensures { λ r. ⌜ Lined at (now (out .entry)) (fromValue d (met (now (t .entry))) (met (now (obx2 .entry)))) r (now (out .exit)) ⌝ }
     ensures within { λ r. ⌜ r ≤ at + longest 7 ⌝ }
 {
     let f = piece(t, d.field);
-    let at = report_value::parts(out, at, f, kind, d);
+    let at = report_value::parts(out, at, f, obx2, d);
     let u = field_behind(t, f.len(), d, 1);
     from_unit(out, at, u, d)
 }

@@ -13,7 +13,7 @@ use Rattle.rules.specs.Shift.{met}
 use Rattle.rules.specs.Escape.{unescape, unescapeAt}
 use Rattle.rules.specs.Judge.{plainOf, isSN, rawFour}
 use Rattle.rules.proofs.Logic.{cases, neither}
-use Rattle.bytes.specs.Bytes.{until, is}
+use Rattle.bytes.specs.Bytes.{until, isByte}
 use Rattle.scan.specs.Scan.{ends, onward, CutOf}
 use Rattle.scan.proofs.Laws.{onward-add, first-piece}
 use Rattle.unescape.specs.Unescaped.{fill}
@@ -39,16 +39,16 @@ until-less p q w [] = refl
 until-less p q w (x ∷ m) = cases (p x) (λ e. cc) (λ e. cc (w x e, until-less p q w m))
 
 module _ (d : Delims) (f : List ℕ) where
-  nth-is : (t a : List ℕ) (n : ℕ) → met t ≡ onward (d .component) n (met f) → met a ≡ until (is (d .component)) (met t) → met a ≡ nth (split (d .component) (met f)) n
-  nth-is t a n e g = g ∙ ap (until (is (d .component))) e ∙ sym (piece-at (d .component) n (met f))
+  nth-is : (t a : List ℕ) (n : ℕ) → met t ≡ onward (d .component) n (met f) → met a ≡ until (isByte (d .component)) (met t) → met a ≡ nth (split (d .component) (met f)) n
+  nth-is t a n e g = g ∙ ap (until (isByte (d .component))) e ∙ sym (piece-at (d .component) n (met f))
 
   skip-on : (t u : List ℕ) (n : ℕ) → met t ≡ onward (d .component) n (met f) → met u ≡ onward (d .component) 1 (met t) → met u ≡ onward (d .component) (n + 1) (met f)
   skip-on t u n e g = g ∙ ap (onward (d .component) 1) e ∙ onward-add (d .component) n 1 (met f)
 
-  pub numbers-is : (at r : ℕ) (x y t u w a b c e : List ℕ) → met a ≡ until (is (d .component)) (met f)
-      → met t ≡ onward (d .component) 1 (met f) → met b ≡ until (is (d .component)) (met t)
-      → met u ≡ onward (d .component) 1 (met t) → met c ≡ until (is (d .component)) (met u)
-      → met w ≡ onward (d .component) 1 (met u) → met e ≡ until (is (d .component)) (met w)
+  pub numbers-is : (at r : ℕ) (x y t u w a b c e : List ℕ) → met a ≡ until (isByte (d .component)) (met f)
+      → met t ≡ onward (d .component) 1 (met f) → met b ≡ until (isByte (d .component)) (met t)
+      → met u ≡ onward (d .component) 1 (met t) → met c ≡ until (isByte (d .component)) (met u)
+      → met w ≡ onward (d .component) 1 (met u) → met e ≡ until (isByte (d .component)) (met w)
       → Lined at x (fourLines d (record { compare = met a; value = met b; join = met c; second = met e })) r y
       → Lined at x (fourLines d (fourIn d (met f))) r y
   unfolding fourIn
@@ -67,7 +67,7 @@ module _ (d : Delims) (f : List ℕ) where
     parts-one h p = rw (← g, h) p
 
   module _ (at r : ℕ) (x y key : List ℕ) (k : key ≡ bytes "value=") where
-    pub value-part : (a : List ℕ) → met a ≡ until (is (d .component)) (met f) → Lined at x (keyed d key (met a) ∷ []) r y → Lined at x (valueLine d (met f) ∷ []) r y
+    pub value-part : (a : List ℕ) → met a ≡ until (isByte (d .component)) (met f) → Lined at x (keyed d key (met a) ∷ []) r y → Lined at x (valueLine d (met f) ∷ []) r y
     unfolding valueLine
     value-part a e p = rw (first-piece (d .component) (met f), ← e) (rw k at p)
 
@@ -75,7 +75,7 @@ module _ (d : Delims) (f : List ℕ) where
     unfolding valueLine
     value-whole n q c h p =
         let e : until (ends d) (met f) ≡ met f = clean-whole d f n q c h in
-        let u : until (is (d .component)) (met f) ≡ met f = ap (until (is (d .component))) (sym e) ∙ until-less (ends d) (is (d .component)) (ends-component d) (met f) ∙ e in
+        let u : until (isByte (d .component)) (met f) ≡ met f = ap (until (isByte (d .component))) (sym e) ∙ until-less (ends d) (isByte (d .component)) (ends-component d) (met f) ∙ e in
         rw (first-piece (d .component) (met f), u, clean-plain d f n q c h) (rw k at p)
 
 pub single-is : (d : Delims) (at r i j k : ℕ) (x y z u w f a b c : List ℕ) → a ≡ bytes "compare=" → b ≡ bytes "join=" → c ≡ bytes "second="

@@ -13,24 +13,24 @@ ghost use Rattle.fill.specs.Fill.{Lined, longest, Near};
 ghost use Rattle.report_value.specs.Value.{fourLines, fourIn, onlyIn, valueLine};
 
 // OBX-5, by the type.
-pub fn parts(out: &mut [u8], at: usize, f: &[u8], kind: &[u8], d: Delims) -> usize
-    requires { ⌜ Proper d × (length (now f) ≤ 4096) × (length (now kind) ≤ 4096) × Near 4 at ⌝ }
-    ensures { λ r. ⌜ Lined at (now (out .entry)) (fourLines d (rawFour d (plainOf d (met (now (kind .entry)))) (met (now (f .entry))))) r (now (out .exit)) ⌝ }
+pub fn parts(out: &mut [u8], at: usize, f: &[u8], obx2: &[u8], d: Delims) -> usize
+    requires { ⌜ Proper d × (length (now f) ≤ 4096) × (length (now obx2) ≤ 4096) × Near 4 at ⌝ }
+    ensures { λ r. ⌜ Lined at (now (out .entry)) (fourLines d (rawFour d (plainOf d (met (now (obx2 .entry)))) (met (now (f .entry))))) r (now (out .exit)) ⌝ }
     ensures within { λ r. ⌜ r ≤ at + longest 4 ⌝ }
 {
-    if is_sn(kind, d) {
+    if is_sn(obx2, d) {
         return numbers(out, at, f, d);
     }
     single(out, at, f, d)
 }
 
 // Whether a type is SN.
-fn is_sn(kind: &[u8], d: Delims) -> bool
-    requires { ⌜ Proper d × (length (now kind) ≤ 4096) ⌝ }
-    ensures { λ r. ⌜ r ≡ isSN (plainOf d (met (now (kind .entry)))) ⌝ }
+fn is_sn(obx2: &[u8], d: Delims) -> bool
+    requires { ⌜ Proper d × (length (now obx2) ≤ 4096) ⌝ }
+    ensures { λ r. ⌜ r ≡ isSN (plainOf d (met (now (obx2 .entry)))) ⌝ }
 {
     let mut word = [0u8; 2];
-    let n = fill::plain(&mut word, kind, d);
+    let n = fill::text(&mut word, obx2, d);
     (n == 2) & bytes::equal(&word, b"SN")
 }
 

@@ -20,8 +20,8 @@ use Rattle.rules.proofs.Logic.{both, not-true, not-false, never, and-true, and-
 use Rattle.rules.proofs.Lists.{here, over, rest-is, has-cons, has-nil}
 use Rattle.rules.proofs.Modes.{one-is, met-as, byte-met, still-one, marks-here, marks-over, length-marks, met-rest}
 use Rattle.rules.proofs.Header.{printable, delim-small, delim-apart}
-use Rattle.bytes.specs.Bytes.{is, until}
-use Rattle.scan.specs.Scan.{meetsOf, after, onward, between, hidden, Hides, Units, Reaches, ends, escapes, plainText, nextFrom, next, alnum, CutOf, TailOf}
+use Rattle.bytes.specs.Bytes.{isByte, until}
+use Rattle.scan.specs.Scan.{meetsOf, afterSep, onward, between, hidden, Hides, Units, Reaches, ends, escapes, plainText, nextFrom, next, alnum, CutOf, TailOf}
 use Rattle.scan.proofs.Laws.{map-append, between-none, between-one, between-first, between-then, between-take, between-length, until-yes, until-no, until-nil, until-stops, after-drop, Far, far-is, far-escapes, ends-far, hidden-append, hidden-nil, hidden-length, hidden-bytes, hidden-until, hidden-has, hidden-plain, plain-cons, plain-nil, from-met, alnum-plain}
 
 -- ---- meets
@@ -204,31 +204,31 @@ module _ (end : ℕ) (s : List ℕ) (i : ℕ) (p : ℕ → Bool) (inv : Before e
   before-done e = let q : length (until p (marks end One s)) ≡ i + 0 = inv ∙ ap (λ l. i + length l) e in omega arith
 
 -- ---- find
-module _ (end sep : ℕ) (s : List ℕ) (i : ℕ) (inv : Before end s (is sep) i) where
-  pub find-on : (j : ℕ) (k : Bool) → Reaches end s i j k → sep < 256 → (getD s i 0 ≡ sep → ⊥) → Before end s (is sep) j
-  find-on j k r l n = before-on end s i (is sep) inv j k r (far-is sep l) (ne-eqb (getD s i 0) sep n)
+module _ (end sep : ℕ) (s : List ℕ) (i : ℕ) (inv : Before end s (isByte sep) i) where
+  pub find-on : (j : ℕ) (k : Bool) → Reaches end s i j k → sep < 256 → (getD s i 0 ≡ sep → ⊥) → Before end s (isByte sep) j
+  find-on j k r l n = before-on end s i (isByte sep) inv j k r (far-is sep l) (ne-eqb (getD s i 0) sep n)
 
-  pub find-plain : (t : Bool) → i < length s → sep < 256 → (getD s i 0 ≡ sep → ⊥) → t ≡ within 0x20 0x7E (getD s i 0) → t ≡ true → Before end s (is sep) (i + 1)
+  pub find-plain : (t : Bool) → i < length s → sep < 256 → (getD s i 0 ≡ sep → ⊥) → t ≡ within 0x20 0x7E (getD s i 0) → t ≡ true → Before end s (isByte sep) (i + 1)
   find-plain t h l n e y = find-on (i + 1) true (plain-on end s i h (sym e ∙ y)) l n
 
-  pub find-here : i < length s → getD s i 0 ≡ sep → i ≡ length (until (is sep) (marks end One s))
-  find-here h e = before-done end s i (is sep) inv (until-here end s i (is sep) h (eq-eqb (getD s i 0) sep e))
+  pub find-here : i < length s → getD s i 0 ≡ sep → i ≡ length (until (isByte sep) (marks end One s))
+  find-here h e = before-done end s i (isByte sep) inv (until-here end s i (isByte sep) h (eq-eqb (getD s i 0) sep e))
 
-  pub find-over : length s ≤ i → i ≡ length (until (is sep) (marks end One s))
-  find-over h = before-done end s i (is sep) inv (until-over end s i (is sep) h)
+  pub find-over : length s ≤ i → i ≡ length (until (isByte sep) (marks end One s))
+  find-over h = before-done end s i (isByte sep) inv (until-over end s i (isByte sep) h)
 
 -- ---- past
-past-at : (s : List ℕ) (sep r : ℕ) → sep < 256 → r ≡ length (until (is sep) (met s)) → after sep (met s) ≡ drop 1 (met (drop r s))
-past-at s sep r l e = after-drop sep (met s) ∙ ap (drop 1) (from-met (is sep) (far-is sep l) s ∙ ap (λ k. met (drop k s)) (sym e))
+past-at : (s : List ℕ) (sep r : ℕ) → sep < 256 → r ≡ length (until (isByte sep) (met s)) → afterSep sep (met s) ≡ drop 1 (met (drop r s))
+past-at s sep r l e = after-drop sep (met s) ∙ ap (drop 1) (from-met (isByte sep) (far-is sep l) s ∙ ap (λ k. met (drop k s)) (sym e))
 
-pub past-over : (s : List ℕ) (sep r : ℕ) → sep < 256 → r ≡ length (until (is sep) (marks 0x0D One s)) → r ≡ length s → met (drop r s) ≡ after sep (met s)
+pub past-over : (s : List ℕ) (sep r : ℕ) → sep < 256 → r ≡ length (until (isByte sep) (marks 0x0D One s)) → r ≡ length s → met (drop r s) ≡ afterSep sep (met s)
 unfolding met
 past-over s sep r l e h =
     let n : met (drop r s) ≡ [] = marks-over 0x0D s r One (omega arith) in
     n ∙ sym (past-at s sep r l e ∙ ap (drop 1) n)
 
-pub past-next : (s : List ℕ) (sep r : ℕ) → Delim sep → r ≡ length (until (is sep) (marks 0x0D One s)) → r ≤ length s → (r ≡ length s → ⊥)
-    → met (drop (r + 1) s) ≡ after sep (met s)
+pub past-next : (s : List ℕ) (sep r : ℕ) → Delim sep → r ≡ length (until (isByte sep) (marks 0x0D One s)) → r ≤ length s → (r ≡ length s → ⊥)
+    → met (drop (r + 1) s) ≡ afterSep sep (met s)
 unfolding met mark isOne
 past-next s sep r p e l n =
     let b : ℕ = getD s r 0 in
@@ -237,20 +237,20 @@ past-next s sep r p e l n =
     let m : r < length (met s) = omega (arith, length-marks 0x0D One s) in
     let at-r : met (drop r s) ≡ b ∷ marks 0x0D (step 0x0D One b) (drop (r + 1) s) = marks-here 0x0D s r One h in
     let same : getD (met s) r 0 ∷ drop (r + 1) (met s) ≡ b ∷ marks 0x0D (step 0x0D One b) (drop (r + 1) s)
-    = sym (here 0 (met s) r m) ∙ ap (λ k. drop k (met s)) e ∙ from-met (is sep) (far-is sep far) s ∙ ap (λ k. met (drop k s)) (sym e) ∙ at-r in
-    let stop : eqb (getD (met s) r 0) sep ≡ true = rw e (until-stops (is sep) (met s) (rw e at m)) in
+    = sym (here 0 (met s) r m) ∙ ap (λ k. drop k (met s)) e ∙ from-met (isByte sep) (far-is sep far) s ∙ ap (λ k. met (drop k s)) (sym e) ∙ at-r in
+    let stop : eqb (getD (met s) r 0) sep ≡ true = rw e (until-stops (isByte sep) (met s) (rw e at m)) in
     let y : eqb b sep ≡ true = ap (λ x. eqb x sep) (let q : b ≡ getD (met s) r 0 = cc in q) ∙ stop in
     sym (past-at s sep r far e ∙ ap (drop 1) at-r ∙ met-rest 0x0D One b sep (drop (r + 1) s) (printable sep p .0) (printable sep p .1) y)
 
 -- ---- skip
 pub skip-on : (s : List ℕ) (sep n left at r : ℕ) → onward sep n (met s) ≡ onward sep left (met (drop at s)) → 0 < left
-    → met (drop r (take (length s - at) (drop at s))) ≡ after sep (met (take (length s - at) (drop at s)))
+    → met (drop r (take (length s - at) (drop at s))) ≡ afterSep sep (met (take (length s - at) (drop at s)))
     → onward sep n (met s) ≡ onward sep (left - 1) (met (drop (at + r) s))
 unfolding onward
 skip-on s sep n zero at r inv h e = absurd (omega arith)
 skip-on s sep n (suc k) at r inv h e =
     let j : suc k - 1 ≡ k = omega arith in
-    let q : met (drop (at + r) s) ≡ after sep (met (drop at s)) = rw (rest-is s at, drop-drop) at e in
+    let q : met (drop (at + r) s) ≡ afterSep sep (met (drop at s)) = rw (rest-is s at, drop-drop) at e in
     rw (inv, j, q)
 
 pub skip-end : (s : List ℕ) (sep n left at : ℕ) → onward sep n (met s) ≡ onward sep left (met (drop at s)) → left ≤ 0
@@ -324,38 +324,38 @@ first-simple d t clean i y inv h e g p =
 -- ---- finish
 abbrev pub Finishing : Delims → List ℕ → Bool → ℕ → Type 0
 Finishing d t more i =
-    Before 0x0D t (is (d .field)) i
-    × (has (d .repetition) (until (is (d .field)) (marks 0x0D One t)) ≡ (more || has (d .repetition) (until (is (d .field)) (marks 0x0D One (drop i t)))))
+    Before 0x0D t (isByte (d .field)) i
+    × (has (d .repetition) (until (isByte (d .field)) (marks 0x0D One t)) ≡ (more || has (d .repetition) (until (isByte (d .field)) (marks 0x0D One (drop i t)))))
 
 pub finish-starts : (d : Delims) (t : List ℕ) → Finishing d t false 0
 finish-starts d t = (omega arith, refl)
 
 module _ (d : Delims) (t : List ℕ) (more : Bool) (i : ℕ) (inv : Finishing d t more i) where
-  finish-done : until (is (d .field)) (marks 0x0D One (drop i t)) ≡ [] → TailOf d (met t) i more
+  finish-done : until (isByte (d .field)) (marks 0x0D One (drop i t)) ≡ [] → TailOf d (met t) i more
   unfolding met
   finish-done u =
       record {
-        long = before-done 0x0D t i (is (d .field)) (inv .0) u;
+        long = before-done 0x0D t i (isByte (d .field)) (inv .0) u;
         more = sym (inv .1 ∙ ap (λ l. more || has (d .repetition) l) u ∙ ap (λ b. more || b) (has-nil (d .repetition)) ∙ or-false more);
       }
 
   pub finish-here : i < length t → getD t i 0 ≡ d .field → TailOf d (met t) i more
-  finish-here h e = finish-done (until-here 0x0D t i (is (d .field)) h (eq-eqb (getD t i 0) (d .field) e))
+  finish-here h e = finish-done (until-here 0x0D t i (isByte (d .field)) h (eq-eqb (getD t i 0) (d .field) e))
 
   pub finish-over : length t ≤ i → TailOf d (met t) i more
-  finish-over h = finish-done (until-over 0x0D t i (is (d .field)) h)
+  finish-over h = finish-done (until-over 0x0D t i (isByte (d .field)) h)
 
   pub finish-on : (k : Bool) (j : ℕ) → d .field < 256 → d .repetition < 256 → (getD t i 0 ≡ d .field → ⊥) → Reaches 0x0D t i j k
       → Finishing d t (more || eqb (getD t i 0) (d .repetition)) j
   finish-on k j f l n r =
       let b : ℕ = getD t i 0 in
       let w : List ℕ = between (i + 1) j t in
-      let U : List ℕ = until (is (d .field)) (marks 0x0D One (drop j t)) in
+      let U : List ℕ = until (isByte (d .field)) (marks 0x0D One (drop j t)) in
       let no : eqb b (d .field) ≡ false = ne-eqb b (d .field) n in
-      let has-u : has (d .repetition) (until (is (d .field)) (marks 0x0D One (drop i t))) ≡ (eqb b (d .repetition) || has (d .repetition) U)
-      = ap (has (d .repetition)) (until-on 0x0D t i (is (d .field)) j k r (far-is (d .field) f) no)
+      let has-u : has (d .repetition) (until (isByte (d .field)) (marks 0x0D One (drop i t))) ≡ (eqb b (d .repetition) || has (d .repetition) U)
+      = ap (has (d .repetition)) (until-on 0x0D t i (isByte (d .field)) j k r (far-is (d .field) f) no)
       ∙ has-cons (d .repetition) b (hidden w ++ U) ∙ ap (λ x. eqb b (d .repetition) || x) (hidden-has (d .repetition) l w U) in (
-        before-on 0x0D t i (is (d .field)) (inv .0) j k r (far-is (d .field) f) no,
+        before-on 0x0D t i (isByte (d .field)) (inv .0) j k r (far-is (d .field) f) no,
         inv .1 ∙ ap (λ x. more || x) has-u ∙ or-assoc more (eqb b (d .repetition)) (has (d .repetition) U),
       )
 

@@ -13,37 +13,37 @@ use Rattle.rules.specs.Frame.{nameOf}
 use Rattle.rules.specs.Row.{lines}
 use Rattle.rules.specs.Sheet.{linesText}
 use Rattle.unescape.specs.Unescaped.{fill}
-use Rattle.fill.specs.Fill.{least, Filled, fillAt, Lined}
-use Rattle.sources.specs.Sources.{linesIn}
+use Rattle.fill.specs.Fill.{lesser, Filled, fillAt, Lined}
+use Rattle.sources.specs.Sources.{linesOfBody}
 use Rattle.fill.proofs.Laws.{back, length-fill}
 
 -- ---- the lines of a segment, by its name
 module _ (d : Delims) (n : Name) (body x : List ℕ) where
-  pub put-named : (k : Name) (y : List ℕ) (r : ℕ) → n ≡ k → Lined 0 x (linesIn d k body) r y → Lined 0 x (linesIn d n body) r y
+  pub put-named : (k : Name) (y : List ℕ) (r : ℕ) → n ≡ k → Lined 0 x (linesOfBody d k body) r y → Lined 0 x (linesOfBody d n body) r y
   put-named k y r e h = rw e h
 
-  none : linesIn d n body ≡ [] → Lined 0 x (linesIn d n body) 0 x
-  unfolding ended fillAt least fill
+  none : linesOfBody d n body ≡ [] → Lined 0 x (linesOfBody d n body) 0 x
+  unfolding ended fillAt lesser fill
   none e = rw e (record { filled = record { ends = refl; is = refl } })
 
-  pub put-orc : n ≡ Orc → Lined 0 x (linesIn d n body) 0 x
-  unfolding linesIn lines linesText
+  pub put-orc : n ≡ Orc → Lined 0 x (linesOfBody d n body) 0 x
+  unfolding linesOfBody lines linesText
   put-orc e = none (rw e)
 
-  pub put-other : n ≡ Other → Lined 0 x (linesIn d n body) 0 x
-  unfolding linesIn lines linesText
+  pub put-other : n ≡ Other → Lined 0 x (linesOfBody d n body) 0 x
+  unfolding linesOfBody lines linesText
   put-other e = none (rw e)
 
 -- ---- from the start of a buffer, and back from what was lent of it
 pub fills : (x y : List ℕ) (ls : List (List ℕ)) (r : ℕ) → Lined 0 x ls r y → Filled r y (ended 0x0A ls) x
-unfolding fillAt least
+unfolding fillAt lesser
 fills x y ls r h = record { ends = omega (arith, h .filled .ends); is = h .filled .is }
 
 pub same-length : (x y : List ℕ) (ls : List (List ℕ)) (r : ℕ) → Lined 0 x ls r y → length y ≡ length x
 same-length x y ls r h = ap length (fills x y ls r h .is) ∙ length-fill (ended 0x0A ls) x
 
-pub put-back : (x y : List ℕ) (d : Delims) (s : List ℕ) (n : Name) (at f r : ℕ) → n ≡ nameOf s → f ≡ least at (length x)
-    → Lined 0 (take (length x - f) (drop f x)) (linesIn d n (met s)) r y
-    → Lined at x (linesIn d (nameOf s) (met s)) (at + r) (take f x ++ (y ++ drop (length x - f) (drop f x)))
+pub put-back : (x y : List ℕ) (d : Delims) (s : List ℕ) (n : Name) (at f r : ℕ) → n ≡ nameOf s → f ≡ lesser at (length x)
+    → Lined 0 (take (length x - f) (drop f x)) (linesOfBody d n (met s)) r y
+    → Lined at x (linesOfBody d (nameOf s) (met s)) (at + r) (take f x ++ (y ++ drop (length x - f) (drop f x)))
 put-back x y d s n at f r en e h =
-    record { filled = back x y (ended 0x0A (linesIn d (nameOf s) (met s))) at f r e (rw en at (fills (take (length x - f) (drop f x)) y (linesIn d n (met s)) r h)) }
+    record { filled = back x y (ended 0x0A (linesOfBody d (nameOf s) (met s))) at f r e (rw en at (fills (take (length x - f) (drop f x)) y (linesOfBody d n (met s)) r h)) }

@@ -7,12 +7,12 @@ ghost use Rattle.rules.specs.Shift.{met};
 ghost use Rattle.rules.specs.Frame.{nameOf};
 ghost use Rattle.rules.specs.Proper.{Proper};
 ghost use Rattle.fill.specs.Fill.{Lined, longest, Near};
-ghost use Rattle.sources.specs.Sources.{linesIn};
+ghost use Rattle.sources.specs.Sources.{linesOfBody};
 
 // A segment's lines behind those that stand already, in what remains of the buffer.
 pub fn put(out: &mut [u8], at: usize, s: &[u8], d: Delims) -> usize
     requires { ⌜ Proper d × (length (now s) ≤ 4096) × Near 10 at ⌝ }
-    ensures { λ r. ⌜ Lined at (now (out .entry)) (linesIn d (nameOf (now (s .entry))) (met (now (s .entry)))) r (now (out .exit)) ⌝ }
+    ensures { λ r. ⌜ Lined at (now (out .entry)) (linesOfBody d (nameOf (now (s .entry))) (met (now (s .entry)))) r (now (out .exit)) ⌝ }
     ensures within { λ r. ⌜ r ≤ at + longest 10 ⌝ }
 {
     let name = names::name_of(s);
@@ -23,7 +23,7 @@ pub fn put(out: &mut [u8], at: usize, s: &[u8], d: Delims) -> usize
 // The lines of a segment of this name, at most ten; an ORC and a segment of another name have none.
 fn lines_of(out: &mut [u8], name: Name, s: &[u8], d: Delims) -> usize
     requires { ⌜ Proper d × (length (now s) ≤ 4096) ⌝ }
-    ensures { λ r. ⌜ Lined 0 (now (out .entry)) (linesIn d name (met (now (s .entry)))) r (now (out .exit)) ⌝ }
+    ensures { λ r. ⌜ Lined 0 (now (out .entry)) (linesOfBody d name (met (now (s .entry)))) r (now (out .exit)) ⌝ }
     ensures within { λ r. ⌜ r ≤ longest 10 ⌝ }
 {
     match name {

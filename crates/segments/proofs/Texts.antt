@@ -17,11 +17,11 @@ use Rattle.rules.proofs.Lists.{empty-zero, filled-some}
 use Rattle.writer.specs.Over.{Fit}
 use Rattle.writer.specs.Woven.{delimiterOf, taken, slotText, firstText, woven}
 use Rattle.groups.specs.Groups.{valuesFrom}
-use Rattle.segments.specs.Segments.{rowPieces, groupPieces, segmentOf, hasKana}
+use Rattle.segments.specs.Segments.{rowPieces, groupPieces, groupSegment, hasKana}
 
 -- to unfold this name is to unfold the patterns, the lines and the segments
 unfoldable pub shapes : Unit {0}
-unfolding delimiterOf taken slotText firstText woven line lines keyOf bytes valuesFrom rowOf rowPieces groupPieces segmentOf piecesOf segmentText spelling join led ended composed blanks encoding nameText hasKana
+unfolding delimiterOf taken slotText firstText woven line lines keyOf bytes valuesFrom rowOf rowPieces groupPieces groupSegment piecesOf segmentText spelling join led ended composed blanks encoding nameText hasKana
 shapes = tt
 
 -- a write whose text is known by another name
@@ -53,12 +53,12 @@ module _ (d : Delims) (ts : List (List ℕ)) (r : ℕ) (x old : List ℕ) where
   at k n = drop n (nth ts k)
 
   pub header-is : (n a b c : RefT (List ℕ)) → n .now ≡ spelling Msh → a .now ≡ at 2 5 → b .now ≡ at 3 8 → c .now ≡ at 1 5
-      → Fit r x (woven d header-pattern (n ∷ a ∷ b ∷ c ∷ [])) old → Fit r x (segmentOf d zeros Msh 0 ts) old
+      → Fit r x (woven d header-pattern (n ∷ a ∷ b ∷ c ∷ [])) old → Fit r x (groupSegment d zeros Msh 0 ts) old
   unfolding shapes
   header-is n a b c en ea eb ec p = fit-as (simp (en, ea, eb, ec, append-assoc, append-nil)) p
 
   pub kanji-is : (n a b c e f : RefT (List ℕ)) → n .now ≡ spelling Pid → a .now ≡ at 0 8 → b .now ≡ at 1 7 → c .now ≡ at 2 6 → e .now ≡ at 5 6 → f .now ≡ at 6 4
-      → hasKana ts ≡ false → Fit r x (woven d kanji-pattern (n ∷ a ∷ b ∷ c ∷ e ∷ f ∷ [])) old → Fit r x (segmentOf d zeros Pid 0 ts) old
+      → hasKana ts ≡ false → Fit r x (woven d kanji-pattern (n ∷ a ∷ b ∷ c ∷ e ∷ f ∷ [])) old → Fit r x (groupSegment d zeros Pid 0 ts) old
   unfolding shapes namesText
   kanji-is n a b c e f en ea eb ec ee ef h p =
       let z : empty (at 3 11) ≡ true = not-false (empty (at 3 11)) h in
@@ -66,24 +66,24 @@ module _ (d : Delims) (ts : List (List ℕ)) (r : ℕ) (x old : List ℕ) where
 
   pub kana-is : (n a b c k l e f : RefT (List ℕ)) → n .now ≡ spelling Pid → a .now ≡ at 0 8 → b .now ≡ at 1 7 → c .now ≡ at 2 6 → k .now ≡ at 3 11 → l .now ≡ at 4 10
       → e .now ≡ at 5 6 → f .now ≡ at 6 4 → hasKana ts ≡ true
-      → Fit r x (woven d kana-pattern (n ∷ a ∷ b ∷ c ∷ k ∷ l ∷ e ∷ f ∷ [])) old → Fit r x (segmentOf d zeros Pid 0 ts) old
+      → Fit r x (woven d kana-pattern (n ∷ a ∷ b ∷ c ∷ k ∷ l ∷ e ∷ f ∷ [])) old → Fit r x (groupSegment d zeros Pid 0 ts) old
   unfolding shapes namesText
   kana-is n a b c k l e f en ea eb ec ek el ee ef h p =
       let z : empty (at 3 11) ≡ false = not-true (empty (at 3 11)) h in
       fit-as (simp (en, ea, eb, ec, ek, el, ee, ef, z, append-assoc, append-nil)) p
 
   pub visit-is : (n a : RefT (List ℕ)) → n .now ≡ spelling Pv1 → a .now ≡ at 0 6
-      → Fit r x (woven d visit-pattern (n ∷ a ∷ [])) old → Fit r x (segmentOf d zeros Pv1 0 ts) old
+      → Fit r x (woven d visit-pattern (n ∷ a ∷ [])) old → Fit r x (groupSegment d zeros Pv1 0 ts) old
   unfolding shapes
   visit-is n a en ea p = fit-as (simp (en, ea, append-nil)) p
 
   pub order-is : (n a b : RefT (List ℕ)) → n .now ≡ spelling Obr → a .now ≡ at 0 6 → b .now ≡ at 1 6
-      → Fit r x (woven d order-pattern (n ∷ a ∷ b ∷ [])) old → Fit r x (segmentOf d zeros Obr 0 ts) old
+      → Fit r x (woven d order-pattern (n ∷ a ∷ b ∷ [])) old → Fit r x (groupSegment d zeros Obr 0 ts) old
   unfolding shapes
   order-is n a b en ea eb p = fit-as (simp (en, ea, eb, append-assoc, append-nil)) p
 
   pub common-is : (n a : RefT (List ℕ)) → n .now ≡ spelling Orc → a .now ≡ at 0 6
-      → Fit r x (woven d common-pattern (n ∷ a ∷ [])) old → Fit r x (segmentOf d zeros Obr 1 ts) old
+      → Fit r x (woven d common-pattern (n ∷ a ∷ [])) old → Fit r x (groupSegment d zeros Obr 1 ts) old
   unfolding shapes
   common-is n a en ea p = fit-as (simp (en, ea, append-nil)) p
 

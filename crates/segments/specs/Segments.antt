@@ -24,8 +24,8 @@ unfoldable pub groupPieces : Delims → Numbers → Name → List (List ℕ) →
 groupPieces d n g ts = rowPieces d n (rowOf g (groupValues g ts))
 
 -- the text of the k-th segment, from 0, of the group g that the lines ts begin with: an order's OBR and ORC, or the only one
-unfoldable pub segmentOf : Delims → Numbers → Name → ℕ → List (List ℕ) → List ℕ
-segmentOf d n g k ts = ended 0x0D (take 1 (drop k (map (segmentText d) (groupPieces d n g ts))))
+unfoldable pub groupSegment : Delims → Numbers → Name → ℕ → List (List ℕ) → List ℕ
+groupSegment d n g k ts = ended 0x0D (take 1 (drop k (map (segmentText d) (groupPieces d n g ts))))
 
 -- the patient that the lines ts begin with has a kana name
 unfoldable pub hasKana : List (List ℕ) → Bool

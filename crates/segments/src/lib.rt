@@ -8,7 +8,7 @@ ghost use Prim.Native.Nat.{_≤_};
 ghost use Rattle.rules.specs.Sheet.{linesOf};
 ghost use Rattle.rules.specs.Message.{zeros};
 ghost use Rattle.writer.specs.Over.{Fit};
-ghost use Rattle.segments.specs.Segments.{segmentOf, hasKana, Source, longestSegment};
+ghost use Rattle.segments.specs.Segments.{groupSegment, hasKana, Source, longestSegment};
 
 // ---- the header, the patient, the visit
 
@@ -20,7 +20,7 @@ pub fn header<'a>(
     d: Delims,
 ) -> usize
     requires { ⌜ Source Name.Msh (now msh) (now s) (now places) d ⌝ }
-    ensures { λ r. ⌜ Fit r (now (out .exit)) (segmentOf d zeros Name.Msh 0 (linesOf (now (s .entry)))) (now (out .entry)) ⌝ }
+    ensures { λ r. ⌜ Fit r (now (out .exit)) (groupSegment d zeros Name.Msh 0 (linesOf (now (s .entry)))) (now (out .entry)) ⌝ }
     ensures within { λ r. ⌜ r ≤ longestSegment ⌝ }
 {
     let mode = lines::value_at(s, places, 1, keys::MODE.len());
@@ -43,7 +43,7 @@ fn kanji_alone<'a>(
     d: Delims,
 ) -> usize
     requires { ⌜ Source Name.Pid (now pid) (now s) (now places) d × (hasKana (linesOf (now s)) ≡ false) ⌝ }
-    ensures { λ r. ⌜ Fit r (now (out .exit)) (segmentOf d zeros Name.Pid 0 (linesOf (now (s .entry)))) (now (out .entry)) ⌝ }
+    ensures { λ r. ⌜ Fit r (now (out .exit)) (groupSegment d zeros Name.Pid 0 (linesOf (now (s .entry)))) (now (out .entry)) ⌝ }
     ensures within { λ r. ⌜ r ≤ longestSegment ⌝ }
 {
     let id = lines::value_at(s, places, 0, keys::PATIENT.len());
@@ -68,7 +68,7 @@ fn with_kana<'a>(
     d: Delims,
 ) -> usize
     requires { ⌜ Source Name.Pid (now pid) (now s) (now places) d × (hasKana (linesOf (now s)) ≡ true) ⌝ }
-    ensures { λ r. ⌜ Fit r (now (out .exit)) (segmentOf d zeros Name.Pid 0 (linesOf (now (s .entry)))) (now (out .entry)) ⌝ }
+    ensures { λ r. ⌜ Fit r (now (out .exit)) (groupSegment d zeros Name.Pid 0 (linesOf (now (s .entry)))) (now (out .entry)) ⌝ }
     ensures within { λ r. ⌜ r ≤ longestSegment ⌝ }
 {
     let id = lines::value_at(s, places, 0, keys::PATIENT.len());
@@ -94,7 +94,7 @@ pub fn patient<'a>(
     d: Delims,
 ) -> usize
     requires { ⌜ Source Name.Pid (now pid) (now s) (now places) d ⌝ }
-    ensures { λ r. ⌜ Fit r (now (out .exit)) (segmentOf d zeros Name.Pid 0 (linesOf (now (s .entry)))) (now (out .entry)) ⌝ }
+    ensures { λ r. ⌜ Fit r (now (out .exit)) (groupSegment d zeros Name.Pid 0 (linesOf (now (s .entry)))) (now (out .entry)) ⌝ }
     ensures within { λ r. ⌜ r ≤ longestSegment ⌝ }
 {
     let kana_family = lines::value_at(s, places, 3, keys::KANA_FAMILY.len());
@@ -112,7 +112,7 @@ pub fn visit<'a>(
     d: Delims,
 ) -> usize
     requires { ⌜ Source Name.Pv1 (now pv1) (now s) (now places) d ⌝ }
-    ensures { λ r. ⌜ Fit r (now (out .exit)) (segmentOf d zeros Name.Pv1 0 (linesOf (now (s .entry)))) (now (out .entry)) ⌝ }
+    ensures { λ r. ⌜ Fit r (now (out .exit)) (groupSegment d zeros Name.Pv1 0 (linesOf (now (s .entry)))) (now (out .entry)) ⌝ }
     ensures within { λ r. ⌜ r ≤ longestSegment ⌝ }
 {
     let class = lines::value_at(s, places, 0, keys::CLASS.len());
@@ -129,7 +129,7 @@ pub fn order<'a>(
     d: Delims,
 ) -> usize
     requires { ⌜ Source Name.Obr (now obr) (now s) (now places) d ⌝ }
-    ensures { λ r. ⌜ Fit r (now (out .exit)) (segmentOf d zeros Name.Obr 0 (linesOf (now (s .entry)))) (now (out .entry)) ⌝ }
+    ensures { λ r. ⌜ Fit r (now (out .exit)) (groupSegment d zeros Name.Obr 0 (linesOf (now (s .entry)))) (now (out .entry)) ⌝ }
     ensures within { λ r. ⌜ r ≤ longestSegment ⌝ }
 {
     let id = lines::value_at(s, places, 0, keys::ORDER.len());
@@ -145,7 +145,7 @@ pub fn common_order<'a>(
     d: Delims,
 ) -> usize
     requires { ⌜ Source Name.Orc (now orc) (now s) (now places) d ⌝ }
-    ensures { λ r. ⌜ Fit r (now (out .exit)) (segmentOf d zeros Name.Obr 1 (linesOf (now (s .entry)))) (now (out .entry)) ⌝ }
+    ensures { λ r. ⌜ Fit r (now (out .exit)) (groupSegment d zeros Name.Obr 1 (linesOf (now (s .entry)))) (now (out .entry)) ⌝ }
     ensures within { λ r. ⌜ r ≤ longestSegment ⌝ }
 {
     let id = lines::value_at(s, places, 0, keys::ORDER.len());

@@ -25,7 +25,7 @@ fn convert(sheet: &[u8], message: &mut [u8]) {
     match oul::to_message(sheet, message) {
         Written::Wrote(n) => program::output(&NAME, program::front(message, n), b""),
         Written::NotWritten(refusal) => {
-            program::refuse_sheet(&NAME, sheet, refusal);
+            refusals::tell_sheet(&NAME, sheet, refusal);
         }
     }
 }

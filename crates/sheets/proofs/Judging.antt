@@ -27,7 +27,7 @@ use Rattle.openings.specs.Openings.{Between, Next}
 use Rattle.groups.proofs.Reading.{on-fine}
 use Rattle.openings.proofs.Opening.{between-past, rows-on}
 use Rattle.groups.proofs.Laws.{lines-few}
-use Rattle.sheets.specs.declared.Judged.the-variants.{Right, Wrong}
+use Rattle.sheets.specs.declared.SheetVerdict.the-variants.{Right, Wrong}
 use Rattle.sheets.specs.Sheet.{kindOf, refusalAt, toldJudged, rowsIn, groupsTold}
 
 -- behind the groups that gave these rows and have led to a: at the place at, from where the next lines have these places and the first has the number line, what is still to be told

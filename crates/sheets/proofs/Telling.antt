@@ -15,8 +15,8 @@ use Rattle.rules.specs.Shift.{keeps}
 use Rattle.rules.specs.Sheet.{readSheet}
 use Rattle.rules.proofs.Logic.{cases, not-true, not-false, guard}
 use Rattle.rules.proofs.Split.{split-here, split-there, split-cons, last-split}
-use Rattle.sheets.specs.declared.Judged.{Judged}
-use Rattle.sheets.specs.declared.Judged.the-variants.{Right, Wrong}
+use Rattle.sheets.specs.declared.SheetVerdict.{SheetVerdict}
+use Rattle.sheets.specs.declared.SheetVerdict.the-variants.{Right, Wrong}
 use Rattle.sheets.specs.Sheet.{refusalAt, toldJudged, readableTold, rowsIn, groupsTold, judgedTold}
 
 -- ---- 40 and 41
@@ -48,7 +48,7 @@ module _ (s : List ℕ) where
       (λ a. cases (not (keeps 0x0A s && empty (last (split 0x0A s)))) (λ b. rw (a, b)) (λ b. rw (a, b)))
 
   -- j is what reading it tells
-  module _ (j : Judged) (t : toldJudged j ≡ readableTold s) where
+  module _ (j : SheetVerdict) (t : toldJudged j ≡ readableTold s) where
     pub readable-short : j ≡ Right → length s ≤ 65536
     unfolding readableTold
     readable-short f = ltb-false 65536 (length s) (guard 40 0 0 (ltb 65536 (length s)) _ tt (sym t ∙ ap toldJudged f) .0)
@@ -64,7 +64,7 @@ module _ (s : List ℕ) where
     unfolding judgedTold
     judged-wrong k f = rw (unreadable k f)
 
-    pub judged-right : j ≡ Right → (r : Judged) → toldJudged r ≡ groupsTold s → toldJudged r ≡ judgedTold s
+    pub judged-right : j ≡ Right → (r : SheetVerdict) → toldJudged r ≡ groupsTold s → toldJudged r ≡ judgedTold s
     unfolding judgedTold groupsTold
     judged-right f r g = rw (readable-rows f) g
 

@@ -16,8 +16,8 @@ use Rattle.rules.specs.Sheet.{rowsTold, linesOf, readSheet}
 use Rattle.lines.specs.Lines.{longestSheet}
 use Rattle.lines.specs.declared.Verdict.{Verdict}
 use Rattle.lines.specs.declared.Verdict.the-variants.{Fine, Key as WrongKey, Value}
-use Rattle.sheets.specs.declared.Judged.{Judged}
-use Rattle.sheets.specs.declared.Judged.the-variants.{Right, Wrong}
+use Rattle.sheets.specs.declared.SheetVerdict.{SheetVerdict}
+use Rattle.sheets.specs.declared.SheetVerdict.the-variants.{Right, Wrong}
 
 -- what is wrong with the line that a verdict names
 unfoldable pub kindOf : Verdict → Kind
@@ -28,7 +28,7 @@ kindOf (Value k) = LineValue
 abbrev pub refusalAt : Kind → ℕ → Refusal
 refusalAt kind line = record { kind = kind; segment = line; field = 0 }
 
-abbrev pub toldJudged : Judged → Told (Unit {0})
+abbrev pub toldJudged : SheetVerdict → Told (Unit {0})
 toldJudged Right = gives tt
 toldJudged (Wrong r) = refusal r
 

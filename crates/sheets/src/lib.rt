@@ -10,7 +10,7 @@ ghost use Rattle.lines.specs.Lines.{longestSheet};
 ghost use Rattle.groups.specs.Groups.{indexOf};
 ghost use Rattle.sheets.specs.Sheet.{kindOf, refusalAt, toldJudged, readableTold, groupsTold, judgedTold, farthestLine};
 
-pub enum Judged {
+pub enum SheetVerdict {
     Right,
     Wrong(Refusal),
 }
@@ -39,19 +39,19 @@ fn ends(s: &[u8]) -> bool
 }
 
 // Whether the lines of a sheet may be read: 40 and 41.
-pub fn readable(sheet: &[u8]) -> Judged
+pub fn readable(sheet: &[u8]) -> SheetVerdict
     ensures { λ r. ⌜ toldJudged r ≡ readableTold (now (sheet .entry)) ⌝ }
 {
     if 65536 < sheet.len() {
-        return Judged::Wrong(refused(Kind::SheetTooLong, 0));
+        return SheetVerdict::Wrong(refused(Kind::SheetTooLong, 0));
     }
     if !scan::keeps(sheet, 0x0A) {
-        return Judged::Wrong(refused(Kind::SheetBytes, 0));
+        return SheetVerdict::Wrong(refused(Kind::SheetBytes, 0));
     }
     if !ends(sheet) {
-        return Judged::Wrong(refused(Kind::SheetBytes, 0));
+        return SheetVerdict::Wrong(refused(Kind::SheetBytes, 0));
     }
-    Judged::Right
+    SheetVerdict::Right
 }
 
 // ---- 42 and 43
@@ -85,7 +85,7 @@ pub fn unread(v: Verdict, line: usize) -> Refusal
     refused(kind(v), line + index(v))
 }
 
-fn read_groups(sheet: &[u8]) -> Judged
+fn read_groups(sheet: &[u8]) -> SheetVerdict
     requires { ⌜ length (now sheet) ≤ longestSheet ⌝ }
     ensures { λ r. ⌜ toldJudged r ≡ groupsTold (now (sheet .entry)) ⌝ }
 {
@@ -98,7 +98,7 @@ fn read_groups(sheet: &[u8]) -> Judged
         let next = openings::next_group(reached, rest, &places);
         let v = groups::group(next, rest, &places);
         if !lines::fine(v) {
-            return Judged::Wrong(unread(v, line));
+            return SheetVerdict::Wrong(unread(v, line));
         }
         let n = groups::lines_in(next);
         line += n;
@@ -107,17 +107,17 @@ fn read_groups(sheet: &[u8]) -> Judged
         places = lines::cut(&sheet[at..]);
     }
     if !order::may_end(reached) {
-        return Judged::Wrong(refused(Kind::Key, line));
+        return SheetVerdict::Wrong(refused(Kind::Key, line));
     }
-    Judged::Right
+    SheetVerdict::Right
 }
 
 // 40 to 43 of a sheet; its message is not measured.
-pub fn judge(sheet: &[u8]) -> Judged
+pub fn judge(sheet: &[u8]) -> SheetVerdict
     ensures { λ r. ⌜ toldJudged r ≡ judgedTold (now (sheet .entry)) ⌝ }
 {
     match readable(sheet) {
-        Judged::Wrong(r) => Judged::Wrong(r),
-        Judged::Right => read_groups(sheet),
+        SheetVerdict::Wrong(r) => SheetVerdict::Wrong(r),
+        SheetVerdict::Right => read_groups(sheet),
     }
 }

@@ -12,7 +12,7 @@ use Rattle.rules.specs.Lists.{all}
 use Rattle.rules.specs.Shift.{within}
 use Rattle.rules.proofs.Logic.{cases, both, never, and-true, and-false}
 use Rattle.rules.proofs.Lists.{here, over}
-use Rattle.csv_rules.specs.Kanji.{lead, trail, first, second, isPair, one, pair, charactersAt, characters, good, convertible}
+use Rattle.csv_rules.specs.Kanji.{lead, trail, first, second, isPair, one, pair, charactersAt, characters, goodCharacter, convertible}
 use Rattle.csv_rules.specs.Written.{halved}
 use Rattle.sjis.specs.Texts.{pairAt}
 use Rattle.sjis.specs.Items.{isClear, NextAt, PastAt, charAt}
@@ -170,12 +170,12 @@ module _ (s : List ℕ) (i : ℕ) (q : Bool) (h : i < length s) (f : q ≡ pairA
             (λ z. rw p (char-one (getD s i 0) (halved false (drop r s)) z));
       }
 
-  pub good-pair : (j : ℕ) (t : Bool) → q ≡ true → j ≡ i + 1 → t ≡ trail (getD s j 0) → t ≡ good (charAt s i)
-  unfolding charAt good isPair
+  pub good-pair : (j : ℕ) (t : Bool) → q ≡ true → j ≡ i + 1 → t ≡ trail (getD s j 0) → t ≡ goodCharacter (charAt s i)
+  unfolding charAt goodCharacter isPair
   good-pair j t g e o = let p : pairAt s i ≡ true = sym f ∙ g in rw (p, pair-in s i p .0, ← e) o
 
-  pub good-one : (t : Bool) → q ≡ false → t ≡ within 0x20 0x7E (getD s i 0) → t ≡ good (charAt s i)
-  unfolding charAt good
+  pub good-one : (t : Bool) → q ≡ false → t ≡ within 0x20 0x7E (getD s i 0) → t ≡ goodCharacter (charAt s i)
+  unfolding charAt goodCharacter
   good-one t g o = let p : pairAt s i ≡ false = sym f ∙ g in rw p o
 
   pub pair-inside : (j : ℕ) → q ≡ true → j ≡ i + 1 → j < length s
@@ -194,12 +194,12 @@ module _ (s : List ℕ) (i : ℕ) (h : isClear (getD s i 0) ≡ true) where
   pub clear-past : i < length s → PastAt s i (i + 1)
   clear-past l = past-one s i false l (sym clear-no-pair) (i + 1) refl (next-single s i (i + 1) l refl (not-true (eqb (getD s i 0) 0x22) (clear-parts .1)))
 
-  clear-good : i < length s → true ≡ good (charAt s i)
+  clear-good : i < length s → true ≡ goodCharacter (charAt s i)
   clear-good l = good-one s i false l (sym clear-no-pair) true refl (sym (clear-parts .0))
 
 -- ---- 52
 abbrev pub goodAll : List ℕ → ℕ → Bool
-goodAll s i = all good (charactersAt none (halved false (drop i s)))
+goodAll s i = all goodCharacter (charactersAt none (halved false (drop i s)))
 
 pub good-starts : (s : List ℕ) → convertible (halved false s) ≡ goodAll s 0
 unfolding convertible characters
@@ -210,14 +210,14 @@ module _ (s : List ℕ) (i : ℕ) (inv : convertible (halved false s) ≡ goodAl
   unfolding charactersAt all halved
   good-ends h = sym (inv ∙ rw (over s i h))
 
-  module _ (r : ℕ) (t : Bool) (e : t ≡ good (charAt s i)) where
+  module _ (r : ℕ) (t : Bool) (e : t ≡ goodCharacter (charAt s i)) where
     pub good-on : PastAt s i r → not t ≡ false → convertible (halved false s) ≡ goodAll s r
     unfolding all
-    good-on p g = inv ∙ ap (all good) (p .is) ∙ rw (← e, not-false t g, all)
+    good-on p g = inv ∙ ap (all goodCharacter) (p .is) ∙ rw (← e, not-false t g, all)
 
     pub good-bad : PastAt s i r → not t ≡ true → false ≡ convertible (halved false s)
     unfolding all
-    good-bad p g = sym (inv ∙ ap (all good) (p .is) ∙ rw (← e, not-true t g, all))
+    good-bad p g = sym (inv ∙ ap (all goodCharacter) (p .is) ∙ rw (← e, not-true t g, all))
 
   pub clear-on : (q : Bool) → i < length s → q ≡ isClear (getD s i 0) → q ≡ true → convertible (halved false s) ≡ goodAll s (i + 1)
   clear-on q h e g = let c : isClear (getD s i 0) ≡ true = sym e ∙ g in good-on (i + 1) true (clear-good s i c h) (clear-past s i c h) refl

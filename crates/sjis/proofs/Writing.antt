@@ -11,7 +11,7 @@ use Rattle.csv_rules.specs.Kanji.{first, second, Character, one, pair, characte
 use Rattle.csv_rules.specs.Written.{halved}
 use Rattle.reach.specs.Reach.{Adds}
 use Rattle.reach.proofs.Laws.{adds-none, adds-then, Writing, starts, goes, done-when}
-use Rattle.sjis.specs.Texts.{pairText, oneText, endText, pairAt, textAt}
+use Rattle.sjis.specs.Texts.{pairText, oneText, endText, pairAt, characterText}
 use Rattle.sjis.specs.Items.{isClear, PastAt, charAt}
 use Rattle.sjis.proofs.Laws.{clear-no-pair, clear-past}
 
@@ -40,12 +40,12 @@ module _ (at r : ℕ) (x y : List ℕ) (two : Bool) where
 
   -- the character at a place
   module _ (s : List ℕ) (i : ℕ) (q : Bool) (e : q ≡ pairAt s i) where
-    pub next-pair : (j : ℕ) → q ≡ true → j ≡ i + 1 → Adds at x (pairText two (getD s i 0) (getD s j 0)) r y → Adds at x (textAt two s i) r y
-    unfolding textAt
+    pub next-pair : (j : ℕ) → q ≡ true → j ≡ i + 1 → Adds at x (pairText two (getD s i 0) (getD s j 0)) r y → Adds at x (characterText two s i) r y
+    unfolding characterText
     next-pair j h f a = rw (← e, h, ← f) a
 
-    pub next-one : q ≡ false → Adds at x (oneText two (getD s i 0)) r y → Adds at x (textAt two s i) r y
-    unfolding textAt
+    pub next-one : q ≡ false → Adds at x (oneText two (getD s i 0)) r y → Adds at x (characterText two s i) r y
+    unfolding characterText
     next-one h a = rw (← e, h) a
 
 pub end-none : (at : ℕ) (two : Bool) (x : List ℕ) → at ≤ length x → two ≡ false → Adds at x (endText two) at x
@@ -63,8 +63,8 @@ unfolding shifted oneText
 text-one true b cs = refl
 text-one false b cs = refl
 
-char-text : (two : Bool) (s : List ℕ) (i : ℕ) (cs : List Character) → shifted two (charAt s i ∷ cs) ≡ textAt two s i ++ shifted (pairAt s i) cs
-unfolding charAt textAt
+char-text : (two : Bool) (s : List ℕ) (i : ℕ) (cs : List Character) → shifted two (charAt s i ∷ cs) ≡ characterText two s i ++ shifted (pairAt s i) cs
+unfolding charAt characterText
 char-text two s i cs =
     cases (pairAt s i) (λ e. rw e (text-pair two (getD s i 0) (getD s (i + 1) 0) cs)) (λ e. rw e (text-one two (getD s i 0) cs))
 
@@ -84,9 +84,9 @@ module _ (s whole old x : List ℕ) (at k i : ℕ) (two : Bool) (p : Writing who
   pub text-ends : (r : ℕ) (y : List ℕ) → length s ≤ i → Adds k x (endText two) r y → Adds at old whole r y
   text-ends r y h q = done-when (goes p (endText two) [] y r (left-end h) q) refl
 
-  pub text-on : (n r : ℕ) (t : Bool) (y : List ℕ) → PastAt s i n → Adds k x (textAt two s i) r y → t ≡ pairAt s i → Writing whole (leftAt t s n) old y at r
+  pub text-on : (n r : ℕ) (t : Bool) (y : List ℕ) → PastAt s i n → Adds k x (characterText two s i) r y → t ≡ pairAt s i → Writing whole (leftAt t s n) old y at r
   text-on n r t y q a e =
-      rw e (goes p (textAt two s i) (leftAt (pairAt s i) s n) y r (ap (shifted two) (q .is) ∙ char-text two s i (charactersAt none (halved false (drop n s)))) a)
+      rw e (goes p (characterText two s i) (leftAt (pairAt s i) s n) y r (ap (shifted two) (q .is) ∙ char-text two s i (charactersAt none (halved false (drop n s)))) a)
 
   -- a byte that stands alone and isn't doubled, in one-byte mode
   pub clear-on : (r : ℕ) (q : Bool) (y : List ℕ) → i < length s → q ≡ isClear (getD s i 0) → (not two && q) ≡ true → Adds k x (getD s i 0 ∷ []) r y

@@ -20,5 +20,5 @@ unfoldable pub pairAt : List ℕ → ℕ → Bool
 pairAt s i = lead (getD s i 0) && ltb (i + 1) (length s)
 
 -- what is written for the character at i
-unfoldable pub textAt : Bool → List ℕ → ℕ → List ℕ
-textAt two s i = cond (pairAt s i) (pairText two (getD s i 0) (getD s (i + 1) 0)) (oneText two (getD s i 0))
+unfoldable pub characterText : Bool → List ℕ → ℕ → List ℕ
+characterText two s i = cond (pairAt s i) (pairText two (getD s i 0) (getD s (i + 1) 0)) (oneText two (getD s i 0))

@@ -5,46 +5,32 @@ ghost use mathlib.Core.Bool.{false, cond};
 ghost use lib.Dec.{ltb};
 ghost use Prim.Native.Nat.{_-_, _≤_, _<_};
 ghost use lib.ListN.{length};
-ghost use Rattle.rules.specs.Shift.{within};
 ghost use Rattle.csv_rules.specs.Kanji as Kanji;
-ghost use Rattle.csv_rules.specs.Kanji.{lead, trail, converted, good};
+ghost use Rattle.csv_rules.specs.Kanji.{lead, trail, converted, goodCharacter};
 ghost use Rattle.csv_rules.specs.Written.{halved};
 ghost use Rattle.reach.specs.Reach.{Adds};
-ghost use Rattle.sjis.specs.Texts.{pairText, oneText, endText, pairAt, textAt};
+ghost use Rattle.sjis.specs.Texts.{pairText, oneText, endText, pairAt, characterText};
 ghost use Rattle.sjis.specs.Items.{NextAt, PastAt, charAt, isClear};
 
 // ---- one character
 
-fn range(lo: u8, hi: u8, b: u8) -> bool
-    ensures { λ r. ⌜ r ≡ within lo hi b ⌝ }
-{
-    (lo <= b) & (b <= hi)
-}
-
-// A byte that stands alone.
-fn plain(b: u8) -> bool
-    ensures { λ r. ⌜ r ≡ within 0x20 0x7E b ⌝ }
-{
-    range(0x20, 0x7E, b)
-}
-
-// One that isn't doubled in the file.
+// A byte that stands alone and isn't doubled in the file.
 pub fn clear(b: u8) -> bool
     ensures { λ r. ⌜ r ≡ isClear b ⌝ }
 {
-    plain(b) & (b != 0x22)
+    bytes::is_plain(b) & (b != 0x22)
 }
 
 fn is_lead(b: u8) -> bool
     ensures { λ r. ⌜ r ≡ lead b ⌝ }
 {
-    range(0x81, 0x9F, b) | range(0xE0, 0xEF, b)
+    bytes::in_range(0x81, 0x9F, b) | bytes::in_range(0xE0, 0xEF, b)
 }
 
 fn is_trail(b: u8) -> bool
     ensures { λ r. ⌜ r ≡ trail b ⌝ }
 {
-    range(0x40, 0x7E, b) | range(0x80, 0xFC, b)
+    bytes::in_range(0x40, 0x7E, b) | bytes::in_range(0x80, 0xFC, b)
 }
 
 // a less b, nothing where b is more.
@@ -133,13 +119,13 @@ fn past_raw(raw: &[u8], i: usize) -> usize
 // Whether the character at a place can be converted.
 fn good_at(raw: &[u8], i: usize) -> bool
     requires { ⌜ i < length (now raw) ⌝ }
-    ensures { λ r. ⌜ r ≡ good (charAt (now (raw .entry)) i) ⌝ }
+    ensures { λ r. ⌜ r ≡ goodCharacter (charAt (now (raw .entry)) i) ⌝ }
 {
     if pair_at(raw, i) {
         let j = i + 1;
         return is_trail(raw[j]);
     }
-    plain(raw[i])
+    bytes::is_plain(raw[i])
 }
 
 // 52 of an item.
@@ -202,7 +188,7 @@ fn put_end(out: &mut [u8], at: usize, two: bool) -> usize
 // The character at a place.
 fn put_next(out: &mut [u8], at: usize, two: bool, raw: &[u8], i: usize) -> usize
     requires { ⌜ (i < length (now raw)) × (at ≤ length (now out)) ⌝ }
-    ensures { λ r. ⌜ Adds at (now (out .entry)) (textAt two (now (raw .entry)) i) r (now (out .exit)) ⌝ }
+    ensures { λ r. ⌜ Adds at (now (out .entry)) (characterText two (now (raw .entry)) i) r (now (out .exit)) ⌝ }
 {
     let b = raw[i];
     if pair_at(raw, i) {

@@ -11,12 +11,12 @@ use Rattle.rules.specs.Places.{places}
 use Rattle.rules.specs.View.{pieceOf, fieldOf, componentOf, firstRepetition, seenIn, partOf, segmentOf, seenAt, partAt}
 use Rattle.rules.specs.Row.{line, lines}
 use Rattle.rules.specs.Sheet.{keyOf, linesText}
-use Rattle.bytes.specs.Bytes.{until, is}
+use Rattle.bytes.specs.Bytes.{until, isByte}
 use Rattle.scan.specs.Scan.{ends, onward, next}
 use Rattle.scan.proofs.Laws.{onward-add, first-piece}
 use Rattle.components.specs.Components.{forward}
 use Rattle.components.proofs.Pieces.{piece-at, repetition-is, component-at}
-use Rattle.sources.specs.Sources.{linesIn, fieldFrom}
+use Rattle.sources.specs.Sources.{linesOfBody, fieldFrom}
 
 -- component n + 1 of the first repetition of a piece of a segment
 abbrev pub rawIn : Delims → List ℕ → ℕ → ℕ → List ℕ
@@ -26,7 +26,7 @@ raw-is : (d : Delims) → Proper d → (body : List ℕ) (p n : ℕ) → rawIn d
 unfolding componentOf firstRepetition
 raw-is d q body p n =
     let z : suc n - 1 ≡ n = omega arith in
-    rw (z, piece-at (d .field) p body, first-piece (d .repetition) (until (is (d .field)) (onward (d .field) p body)), repetition-is d (onward (d .field) p body))
+    rw (z, piece-at (d .field) p body, first-piece (d .repetition) (until (isByte (d .field)) (onward (d .field) p body)), repetition-is d (onward (d .field) p body))
     (component-at d q n (onward (d .field) p body))
 
 raw-first : (d : Delims) → Proper d → (body : List ℕ) (p : ℕ) → until (ends d) (onward (d .field) p body) ≡ rawIn d body p 1
@@ -45,7 +45,7 @@ first-is d q s t a p e f = f ∙ first-at d q s t p e
 
 -- to name it is to compute the lines of a segment from the tables
 unfoldable pub tables : Unit {0}
-unfolding linesIn bytes linesText lines line keyOf segmentOf places partOf seenIn partAt seenAt fieldOf pieceOf
+unfolding linesOfBody bytes linesText lines line keyOf segmentOf places partOf seenIn partAt seenAt fieldOf pieceOf
 tables = tt
 
 -- a component of a later field, from another on

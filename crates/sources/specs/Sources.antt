@@ -11,18 +11,18 @@ use Rattle.rules.specs.View.{segmentOf}
 use Rattle.rules.specs.Row.{Line, lines}
 use Rattle.rules.specs.Sheet.{linesText}
 use Rattle.bytes.specs.Bytes.{until}
-use Rattle.scan.specs.Scan.{ends, after, onward}
+use Rattle.scan.specs.Scan.{ends, afterSep, onward}
 
 -- the lines of a segment of a name, by its bytes as they are met
-unfoldable pub linesIn : Delims → Name → List ℕ → List (List ℕ)
-linesIn d n body =
+unfoldable pub linesOfBody : Delims → Name → List ℕ → List (List ℕ)
+linesOfBody d n body =
     let k : Known = record { name = n; start = 0; body = body } in
     linesText (lines n) (map (λ (l : Line). l .source d (segmentOf d k)) (lines n))
 
 -- the n bytes that begin t hold no field separator: from behind them on, the next field is the same
 pub record Leads (d : Delims) (n : ℕ) (t : List ℕ) : Type 0 where
   pub inside : n ≤ length t
-  pub on : after (d .field) (met (drop n t)) ≡ after (d .field) (met t)
+  pub on : afterSep (d .field) (met (drop n t)) ≡ afterSep (d .field) (met t)
 
 -- the component after n field separators
 abbrev pub fieldFrom : Delims → ℕ → List ℕ → List ℕ

@@ -6,7 +6,7 @@ ghost use Prim.Native.Nat.{_≤_};
 ghost use lib.ListN.{length};
 ghost use Rattle.rules.specs.Shift.{met};
 ghost use Rattle.rules.specs.Proper.{Delim, Proper};
-ghost use Rattle.bytes.specs.Bytes.{until, is};
+ghost use Rattle.bytes.specs.Bytes.{until, isByte};
 ghost use Rattle.scan.specs.Scan as Scan;
 ghost use Rattle.scan.specs.Scan.{ends, next};
 ghost use Rattle.sources.specs.Sources.{Leads};
@@ -52,7 +52,7 @@ pub fn next_component(t: &[u8], n: usize, d: Delims) -> &[u8]
 
 // The piece before the next separator.
 pub fn piece(t: &[u8], sep: u8) -> &[u8]
-    ensures { λ r. ⌜ met (now r) ≡ until (is sep) (met (now (t .entry))) ⌝ }
+    ensures { λ r. ⌜ met (now r) ≡ until (isByte sep) (met (now (t .entry))) ⌝ }
     ensures within { λ r. ⌜ length (now r) ≤ length (now (t .entry)) ⌝ }
 {
     let n = scan::find(t, 0x0D, sep);

@@ -16,7 +16,7 @@ use Rattle.rules.specs.Shift.{step}
 use Rattle.rules.specs.Frame.{delimsOf, segments}
 use Rattle.rules.proofs.Logic.{not-true, not-false}
 use Rattle.rules.proofs.Lists.{here, over, rest-is, rest-inside, part-length}
-use Rattle.bytes.specs.Bytes.{is, until}
+use Rattle.bytes.specs.Bytes.{isByte, until}
 use Rattle.bytes.proofs.Laws.{split-last}
 use Rattle.frame.specs.Frame.{goodOf}
 use Rattle.frame.proofs.Laws.{there, segment-there}
@@ -24,14 +24,14 @@ use Rattle.spot.specs.declared.Spot.{Spot}
 use Rattle.spot.specs.Spot.{isBad, keptBytes, goodBytes, placeAt, noPlace, longestText, spotOf}
 
 -- ---- line ends
-module _ (end : ℕ) (s : List ℕ) (i n : ℕ) (inv : count (is end) s ≡ n + count (is end) (drop i s)) where
-  pub ends-on : (k : ℕ) → i < length s → k ≡ cond (eqb (getD s i 0) end) 1 0 → count (is end) s ≡ n + k + count (is end) (drop (i + 1) s)
+module _ (end : ℕ) (s : List ℕ) (i n : ℕ) (inv : count (isByte end) s ≡ n + count (isByte end) (drop i s)) where
+  pub ends-on : (k : ℕ) → i < length s → k ≡ cond (eqb (getD s i 0) end) 1 0 → count (isByte end) s ≡ n + k + count (isByte end) (drop (i + 1) s)
   unfolding count
-  ends-on k h e = let q : count (is end) (drop i s) ≡ k + count (is end) (drop (i + 1) s) = rw (here 0 s i h, e) in omega arith
+  ends-on k h e = let q : count (isByte end) (drop i s) ≡ k + count (isByte end) (drop (i + 1) s) = rw (here 0 s i h, e) in omega arith
 
-  pub ends-over : length s ≤ i → n ≡ count (is end) s
+  pub ends-over : length s ≤ i → n ≡ count (isByte end) s
   unfolding count
-  ends-over h = let q : count (is end) (drop i s) ≡ 0 = rw (over s i h) in omega arith
+  ends-over h = let q : count (isByte end) (drop i s) ≡ 0 = rw (over s i h) in omega arith
 
 pub ends-few : (at n : ℕ) (s : List ℕ) → at ≤ length s → length s ≤ longestText → n ≤ length (take at s) → Fits w64 (n + 1)
 ends-few at n s h l k = omega (arith, part-length at s h)
@@ -76,7 +76,7 @@ unfolding goodBytes
 good-next bar s ss e = rw (e, goodBytes)
 
 -- without a 0D there is no segment
-pub no-segment : (r : List ℕ) → length (until (is 0x0D) r) ≡ length r → segments r ≡ []
+pub no-segment : (r : List ℕ) → length (until (isByte 0x0D) r) ≡ length r → segments r ≡ []
 unfolding segments allButLast
 no-segment r h = ap allButLast (split-last 0x0D r h)
 
@@ -89,7 +89,7 @@ module _ (m : List ℕ) (bar at : ℕ) (inv : goodBytes bar (segments m) ≡ at 
   unfolding segments split allButLast
   good-ends h = omega (arith, good-none bar (drop at m) (ap segments (over m at h)))
 
-  module _ (n : ℕ) (en : n ≡ length (until (is 0x0D) (take (length m - at) (drop at m)))) where
+  module _ (n : ℕ) (en : n ≡ length (until (isByte 0x0D) (take (length m - at) (drop at m)))) where
     pub good-open : n ≡ length (take (length m - at) (drop at m)) → at ≡ goodBytes bar (segments m)
     good-open e = omega (arith, good-none bar (drop at m) (no-segment (drop at m) (sym (there m at n en) ∙ e ∙ ap length (rest-is m at))))
 
@@ -115,7 +115,7 @@ module _ (m : List ℕ) (bar at : ℕ) (inv : goodBytes bar (segments m) ≡ at 
           omega (arith, part-length n (drop at m) (omega arith))
 
 -- ---- the place
-pub place-is : (end at n : ℕ) (s : List ℕ) → n ≡ count (is end) (take at s) → _≡_ {A = Spot} (record { line = n + 1; byte = at + 1 }) (placeAt end at s)
+pub place-is : (end at n : ℕ) (s : List ℕ) → n ≡ count (isByte end) (take at s) → _≡_ {A = Spot} (record { line = n + 1; byte = at + 1 }) (placeAt end at s)
 unfolding placeAt
 place-is end at n s e = rw e
 

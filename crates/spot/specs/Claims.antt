@@ -12,12 +12,12 @@ use Rattle.spot.specs.Spot.{keptBytes, goodBytes}
 
 -- ---- 12, 41
 -- What stands before the place breaks nothing: something put after it keeps the rule.
-pub record GoesOn (end : ℕ) (s : List ℕ) : Type 0 where
+pub record Continues (end : ℕ) (s : List ℕ) : Type 0 where
   pub rest : List ℕ
   pub kept : keeps end (s ++ rest) ≡ true
 
 abbrev pub BytesBefore : Type 0
-BytesBefore = (end : ℕ) (s : List ℕ) → GoesOn end (take (keptBytes end One s) s)
+BytesBefore = (end : ℕ) (s : List ℕ) → Continues end (take (keptBytes end One s) s)
 
 -- The byte at the place breaks the rule: nothing put after it keeps the rule. A place behind the last byte has none.
 abbrev pub ByteThere : Type 0

@@ -10,7 +10,7 @@ use Rattle.rules.specs.declared.Mode.the-variants.{One, Esc1, Esc2, Two, Second
 use Rattle.rules.specs.Lists.{count}
 use Rattle.rules.specs.Shift.{step}
 use Rattle.rules.specs.Frame.{delimsOf, segments}
-use Rattle.bytes.specs.Bytes.{is}
+use Rattle.bytes.specs.Bytes.{isByte}
 use Rattle.frame.specs.Frame.{goodOf}
 use Rattle.spot.specs.declared.Spot.{Spot}
 
@@ -41,7 +41,7 @@ goodBytes bar (s ∷ ss) = elim (goodOf bar s) [ true ↦ suc (length s) + goodB
 -- ---- the place
 -- behind the first `at` bytes of s, whose lines each end in `end`
 unfoldable pub placeAt : ℕ → ℕ → List ℕ → Spot
-placeAt end at s = record { line = count (is end) (take at s) + 1; byte = at + 1 }
+placeAt end at s = record { line = count (isByte end) (take at s) + 1; byte = at + 1 }
 
 abbrev pub noPlace : Spot
 noPlace = record { line = 0; byte = 0 }

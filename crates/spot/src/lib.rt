@@ -1,5 +1,5 @@
 // Where a text breaks the rule of its refusal, for those that name no place: 12, 13 and 41.
-use frame::segments;
+use frame::all_segments;
 use rules::Mode;
 ghost use mathlib.Core.Path.{_≡_};
 ghost use mathlib.Core.Bool.{cond};
@@ -8,7 +8,7 @@ ghost use lib.ListN.{length};
 ghost use Rattle.rules.specs.declared.Mode.the-variants.{One};
 ghost use Rattle.rules.specs.Lists.{count};
 ghost use Rattle.rules.specs.Frame.{delimsOf, segments};
-ghost use Rattle.bytes.specs.Bytes.{is};
+ghost use Rattle.bytes.specs.Bytes.{isByte};
 ghost use Rattle.spot.specs.Spot.{isBad, keptBytes, goodBytes, placeAt, longestText, SpotTold};
 
 // A place in a text: its line and its byte, each counted from 1; 0 where none is named.
@@ -49,7 +49,7 @@ fn place(text: &[u8], end: u8, at: usize) -> Spot
 
 // How many line ends stand in s.
 fn line_ends(s: &[u8], end: u8) -> usize
-    ensures { λ r. ⌜ r ≡ count (is end) (now (s .entry)) ⌝ }
+    ensures { λ r. ⌜ r ≡ count (isByte end) (now (s .entry)) ⌝ }
     ensures within { λ r. ⌜ r ≤ length (now (s .entry)) ⌝ }
 {
     let mut n = 0;
@@ -124,7 +124,7 @@ fn good_bytes(m: &[u8], field: u8) -> usize
         if n == rest.len() {
             return at;
         }
-        if !segments::good(&rest[..n], field) {
+        if !all_segments::good(&rest[..n], field) {
             return at;
         }
         at += n + 1;

@@ -16,7 +16,7 @@ use Rattle.rules.specs.Shift.{met}
 use Rattle.rules.specs.Escape.{unescape}
 use Rattle.rules.specs.Fetch.{unescapedTold}
 use Rattle.rules.proofs.Logic.{call-refused, call-wrote}
-use Rattle.unescape.specs.Unescaped.{fill, Whole, Longer, Fits, Kept}
+use Rattle.unescape.specs.Unescaped.{fill, Whole, Longer, Fits, BufferHolds}
 use Rattle.unescape.specs.declared.Unescaped.{Unescaped}
 use Rattle.unescape.specs.declared.Unescaped.the-variants.{Got, Faulty, Over}
 
@@ -68,7 +68,7 @@ module _ (d : Delims) (raw : List ℕ) (s f : ℕ) (old : List ℕ) (u : Unescap
         call-refused (unescapedTold d raw s f (length old)) old (record { kind = Room; segment = 0; field = 0 }) r
         (asked-short d raw s f (length old) (far .text) (far .is) (omega (arith, far .long))) g
 
-    pub text-written : (y : List ℕ) → n ≤ length old → Kept (unescape d (met raw)) old y → Call (unescapedTold d raw s f (length old)) old (Wrote n) y
+    pub text-written : (y : List ℕ) → n ≤ length old → BufferHolds (unescape d (met raw)) old y → Call (unescapedTold d raw s f (length old)) old (Wrote n) y
     text-written y h k =
         let l : length (far .text) ≤ length old = omega (arith, far .long) in
         call-wrote (unescapedTold d raw s f (length old)) old (far .text) y n (asked-fits d raw s f (length old) (far .text) (far .is) l) (far .long) l

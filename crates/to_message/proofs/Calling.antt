@@ -22,15 +22,15 @@ use Rattle.rules.specs.Promises.{MessageWritten}
 use Rattle.rules.proofs.Logic.{not-given, toldCases, then-gives, called-as}
 use Rattle.rules.proofs.Header.{proper}
 use Rattle.writer.specs.Over as Over
-use Rattle.sheets.specs.declared.Judged.{Judged}
-use Rattle.sheets.specs.declared.Judged.the-variants.{Wrong}
-use Rattle.sheets.specs.declared.Judged.the-variants as Judged
+use Rattle.sheets.specs.declared.SheetVerdict.{SheetVerdict}
+use Rattle.sheets.specs.declared.SheetVerdict.the-variants.{Wrong}
+use Rattle.sheets.specs.declared.SheetVerdict.the-variants as SheetVerdict
 use Rattle.sheets.specs.Sheet.{refusalAt, toldJudged, readableTold, rowsIn}
 use Rattle.sheets.proofs.Telling.{read-sheet, readable-short, readable-rows, unreadable}
 use Rattle.compose.specs.declared.Size.{Size}
 use Rattle.compose.specs.declared.Passed.{Passed}
 use Rattle.compose.specs.declared.Passed.the-variants.{All, Not}
-use Rattle.compose.specs.Compose.{toldSize, sizeOf, sizeTold, Right, Pass}
+use Rattle.compose.specs.Compose.{toldSize, sizeOf, sizeTold, FaultFree, Pass}
 use Rattle.to_message.specs.Call.{measuredTold}
 
 -- the writer's delimiters keep the header rule
@@ -47,7 +47,7 @@ module _ (s : List ℕ) (rows : List Row) (e : readSheet s ≡ gives rows) where
   read-whole = then-gives (readableTold s) (rowsIn s) rows (sym (read-sheet s) ∙ e)
 
   read-short : length s ≤ 65536
-  read-short = readable-short s Judged.Right (sym (read-whole .0)) refl
+  read-short = readable-short s SheetVerdict.Right (sym (read-whole .0)) refl
 
 -- ---- 44, 45, and the message, where the sheet s gives one of this size
 module _ (s : List ℕ) (size : Size) (g : gives size ≡ measuredTold s) where
@@ -59,7 +59,7 @@ module _ (s : List ℕ) (size : Size) (g : gives size ≡ measuredTold s) where
   pub measured-short : length s ≤ 65536
   measured-short = measured (λ rows e z. read-short s rows e)
 
-  pub measured-right : Right s
+  pub measured-right : FaultFree s
   measured-right = measured (λ rows e z. record { rows = rows; told = read-whole s rows e .1 })
 
   module _ (x : List ℕ) where
@@ -74,7 +74,7 @@ module _ (s : List ℕ) (size : Size) (g : gives size ≡ measuredTold s) where
       write-45 k l f = measured (λ rows e z. called-as {u = refusal k} (rw (e, rw z at h, lt-ltb (length x) _ (rw z at l)) (ap refusal (sym f))) (kept x k))
 
       pub write-all : size .bytes ≤ length x → (d : Delims) → d ≡ base → (p : Passed) (y : List ℕ) → Pass d s x p y → MessageWritten s x (Wrote (size .bytes)) y
-      unfolding toMessage messageTold Over.over
+      unfolding toMessage messageTold Over.overFront
       write-all l d b p y t =
           let t : Pass base s x p y = rw b at t in
           measured (λ rows e z. called-as {u = gives (messageOf base rows)} (rw (e, rw z at h, le-ltb (length x) _ (rw z at l)))
@@ -94,11 +94,11 @@ pub call-measured : (s : List ℕ) (p : Passed) → toldSize p ≡ measuredTold 
 call-measured s p t size f = sym (ap toldSize f) ∙ t
 
 -- ---- 40, 41, and the first pass over the sheet's groups: j is what reading the sheet tells
-module _ (s : List ℕ) (j : Judged) (t : toldJudged j ≡ readableTold s) where
+module _ (s : List ℕ) (j : SheetVerdict) (t : toldJudged j ≡ readableTold s) where
   pub measure-not : (k : Refusal) → j ≡ Wrong k → toldSize (Not k) ≡ measuredTold s
   unfolding measuredTold
   measure-not k f = rw (unreadable s j t k f)
 
-  pub measure-all : j ≡ Judged.Right → (d : Delims) → d ≡ base → (z : List ℕ) (p : Passed) (y : List ℕ) → Pass d s z p y → toldSize p ≡ measuredTold s
+  pub measure-all : j ≡ SheetVerdict.Right → (d : Delims) → d ≡ base → (z : List ℕ) (p : Passed) (y : List ℕ) → Pass d s z p y → toldSize p ≡ measuredTold s
   unfolding measuredTold
   measure-all f d b z p y w = w .told ∙ ap (λ (v : Delims). sizeTold v s) b ∙ sym (rw (readable-rows s j t f))

@@ -5,7 +5,7 @@ use compose::Size;
 use rules::Delims;
 use rules::Kind;
 use rules::Written;
-use sheets::Judged;
+use sheets::SheetVerdict;
 ghost use mathlib.Core.Path.{_≡_};
 ghost use Rattle.rules.specs.Told.{gives};
 ghost use Rattle.rules.specs.Message.{base};
@@ -31,8 +31,8 @@ fn measure(sheet: &[u8]) -> Passed
     ensures { λ r. ⌜ toldSize r ≡ measuredTold (now (sheet .entry)) ⌝ }
 {
     match sheets::readable(sheet) {
-        Judged::Wrong(r) => Passed::Not(r),
-        Judged::Right => {
+        SheetVerdict::Wrong(r) => Passed::Not(r),
+        SheetVerdict::Right => {
             let d = delimiters();
             let mut nothing = [0u8; 0];
             compose::pass(&mut nothing, sheet, d, false)

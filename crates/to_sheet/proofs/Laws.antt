@@ -35,8 +35,8 @@ use Rattle.unescape.specs.Unescaped.{fill}
 use Rattle.frame.specs.Frame.{goodOf, frameOf, Sound}
 use Rattle.frame.proofs.Rules.{check-refused, sound}
 use Rattle.frame.proofs.Laws.{segment-there, ends-inside, good-there}
-use Rattle.fill.specs.Fill.{least, Filled, fillAt, Lined, longest}
-use Rattle.sources.specs.Sources.{linesIn}
+use Rattle.fill.specs.Fill.{lesser, Filled, fillAt, Lined, longest}
+use Rattle.sources.specs.Sources.{linesOfBody}
 use Rattle.to_sheet.specs.Sections.{sections}
 use Rattle.fill.proofs.Laws.{fill-nil, lined-then}
 use Rattle.to_sheet.proofs.Sheet.{sheet-is}
@@ -53,7 +53,7 @@ pub record Passing (d : Delims) (m out₀ : List ℕ) (at written : ℕ) (out : 
   pub lined : Lined 0 out₀ done written out
 
 pub begins : (d : Delims) (m out : List ℕ) → Sound m d → Passing d m out 0 0 out
-unfolding ended fillAt least fill
+unfolding ended fillAt lesser fill
 begins d m out s = record {
   done = [];
   inside = omega arith;
@@ -64,13 +64,13 @@ begins d m out s = record {
   lined = record { filled = record { ends = refl; is = refl } };
 }
 
-section-cons : (d : Delims) (s : List ℕ) (ss : List (List ℕ)) → sections d (s ∷ ss) ≡ ended 0x0A (linesIn d (nameOf s) (met s)) ++ sections d ss
+section-cons : (d : Delims) (s : List ℕ) (ss : List (List ℕ)) → sections d (s ∷ ss) ≡ ended 0x0A (linesOfBody d (nameOf s) (met s)) ++ sections d ss
 unfolding sections
 section-cons d s ss = refl
 
 -- a turn, at a segment of n bytes
 module _ (d : Delims) (m out₀ : List ℕ) (at written : ℕ) (out : List ℕ) (p : Passing d m out₀ at written out) (n : ℕ) (k : at < length m)
-    (en : n ≡ length (until (Bytes.is 0x0D) (take (length m - at) (drop at m)))) (l : n ≤ length (take (length m - at) (drop at m))) where
+    (en : n ≡ length (until (Bytes.isByte 0x0D) (take (length m - at) (drop at m)))) (l : n ≤ length (take (length m - at) (drop at m))) where
   short : n < length (drop at m)
   short = ends-inside m at n en (d .field) (p .whole) k l
 
@@ -88,11 +88,11 @@ module _ (d : Delims) (m out₀ : List ℕ) (at written : ℕ) (out : List ℕ) 
       omega (arith, leb-true (length s) 4096 (both (leb (length s) 4096) _ (good .0) .0))
 
   pub goes : (r : ℕ) (y : List ℕ)
-      → Lined written out (linesIn d (nameOf (take n (take (length m - at) (drop at m)))) (met (take n (take (length m - at) (drop at m))))) r y
+      → Lined written out (linesOfBody d (nameOf (take n (take (length m - at) (drop at m)))) (met (take n (take (length m - at) (drop at m))))) r y
       → r ≤ written + longest 10 → Passing d m out₀ (at + (n + 1)) r y
   goes r y h b =
       let s : List ℕ = take n (take (length m - at) (drop at m)) in
-      let ls : List (List ℕ) = linesIn d (nameOf s) (met s) in
+      let ls : List (List ℕ) = linesOfBody d (nameOf s) (met s) in
       record {
         done = p .done ++ ls;
         inside = further;
@@ -104,10 +104,10 @@ module _ (d : Delims) (m out₀ : List ℕ) (at written : ℕ) (out : List ℕ) 
       }
     where
       next : ended 0x0A (p .done) ++ sections d (segments (drop at m))
-          ≡ ended 0x0A (p .done ++ linesIn d (nameOf (take n (take (length m - at) (drop at m)))) (met (take n (take (length m - at) (drop at m))))) ++ sections d (segments (drop (at + (n + 1)) m))
+          ≡ ended 0x0A (p .done ++ linesOfBody d (nameOf (take n (take (length m - at) (drop at m)))) (met (take n (take (length m - at) (drop at m))))) ++ sections d (segments (drop (at + (n + 1)) m))
       next =
           let s : List ℕ = take n (take (length m - at) (drop at m)) in
-          let ls : List (List ℕ) = linesIn d (nameOf s) (met s) in
+          let ls : List (List ℕ) = linesOfBody d (nameOf s) (met s) in
           let e : segments (drop at m) ≡ s ∷ segments (drop (at + (n + 1)) m)
           = segment-there m at n en short ∙ rw (rest-is m at) in
           let f : sections d (segments (drop at m)) ≡ ended 0x0A ls ++ sections d (segments (drop (at + (n + 1)) m))

@@ -19,7 +19,7 @@ use Rattle.rules.specs.declared.Mode.{Mode}
 use Rattle.rules.specs.declared.Mode.the-variants.{One}
 use Rattle.rules.specs.Shift.{mark, marks, met, byteOf, step}
 use Rattle.rules.specs.Escape.{letters, meaning, push, unescapeAt, unescape}
-use Rattle.unescape.specs.Unescaped.{Kept, turnOf, namedOf, emitted, byteAt, keptLen, keptBuf, answerOf, fill, Whole, Fits}
+use Rattle.unescape.specs.Unescaped.{BufferHolds, turnOf, namedOf, emitted, byteAt, keptLen, keptBuf, answerOf, fill, Whole, Fits}
 use Rattle.unescape.specs.declared.At.{At}
 use Rattle.unescape.specs.declared.At.the-variants.{Plain, Opened, Named, Broken}
 use Rattle.unescape.specs.declared.Unescaped.{Unescaped}
@@ -89,7 +89,7 @@ fill-kept : (t : At) (v : ℕ) (w old : List ℕ) → keptBuf t (length w) v (fi
 unfolding emits
 fill-kept t v w old = cases (emitted t) (λ e. rw e (fill-more w old v)) (λ e. rw (e, append-nil))
 
-fill-take : (w old : List ℕ) → length w ≤ length old → take (length w) (fill w old) ≡ w
+pub fill-take : (w old : List ℕ) → length w ≤ length old → take (length w) (fill w old) ≡ w
 unfolding fill
 fill-take [] old h = refl
 fill-take (v ∷ w) [] h = absurd (omega arith)
@@ -110,7 +110,7 @@ fits-end Opened d o done old x k a e f g = a ∙ pushes-none done
 fits-end (Named v) d o done old x k a e f g = a ∙ pushes-none done
 fits-end Broken d o done old x k a e f g = a ∙ pushes-none done
 
-kept-end : (t : At) (d : Delims) (o : Option (List ℕ)) (done old x : List ℕ) → o ≡ pushes done (resOf d t []) → x ≡ fill done old → Kept o old x
+kept-end : (t : At) (d : Delims) (o : Option (List ℕ)) (done old x : List ℕ) → o ≡ pushes done (resOf d t []) → x ≡ fill done old → BufferHolds o old x
 unfolding resOf unescapeAt
 kept-end Plain d o done old x a f = record { text = λ v e. let z : some v ≡ some done = sym e ∙ a ∙ pushes-end done in let q : v ≡ done = cc in rw q f }
 kept-end Opened d o done old x a f = record { text = λ v e. nothing-some (sym (pushes-none done) ∙ sym a ∙ e) }
@@ -164,7 +164,7 @@ module _ {d : Delims} {raw old x : List ℕ} {at : At} {mode : Mode} {k i : ℕ}
   unfolding marks
   all-read h = p .rest ∙ ap (λ l. pushes (p .done) (resOf d at (marks 0x0D mode l))) (over raw i h)
 
-  pub reads-kept : length raw ≤ i → Kept (unescape d (met raw)) old x
+  pub reads-kept : length raw ≤ i → BufferHolds (unescape d (met raw)) old x
   reads-kept h = kept-end at d (unescape d (met raw)) (p .done) old x (all-read h) (p .holds)
 
   pub reads-end : {r : Unescaped} → length raw ≤ i → r ≡ answerOf at k (length x) → Fits r (unescape d (met raw)) x

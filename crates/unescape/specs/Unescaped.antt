@@ -69,5 +69,5 @@ Fits Faulty o x = o ≡ none
 Fits (Over n) o x = Longer n o x
 
 -- and what the buffer holds, x, where it held old before: the text over its front as far as it reaches, and the rest stays
-pub record Kept (o : Option (List ℕ)) (old x : List ℕ) : Type 0 where
+pub record BufferHolds (o : Option (List ℕ)) (old x : List ℕ) : Type 0 where
   pub text : (v : List ℕ) → o ≡ some v → x ≡ fill v old

@@ -5,7 +5,7 @@ ghost use mathlib.Core.Path.{_≡_};
 ghost use Prim.Native.Nat.{_+_, _<_};
 ghost use Rattle.rules.specs.Shift.{mark, met};
 ghost use Rattle.rules.specs.Escape.{unescape};
-ghost use Rattle.unescape.specs.Unescaped.{turnOf, namedOf, byteAt, keptLen, keptBuf, answerOf, Fits, Kept};
+ghost use Rattle.unescape.specs.Unescaped.{turnOf, namedOf, byteAt, keptLen, keptBuf, answerOf, Fits, BufferHolds};
 
 // Where a reader of a component stands: in the text, after an escape byte, after its letter, or past a fault.
 pub enum At {
@@ -119,7 +119,7 @@ fn answer(at: At, k: usize, room: usize) -> Unescaped
 // A component without its escapes, as far as the buffer reaches.
 pub fn unescape_into(raw: &[u8], d: Delims, buf: &mut [u8]) -> Unescaped
     ensures { λ r. ⌜ Fits r (unescape d (met (now (raw .entry)))) (now (buf .exit)) ⌝ }
-    ensures whole { λ _. ⌜ Kept (unescape d (met (now (raw .entry)))) (now (buf .entry)) (now (buf .exit)) ⌝ }
+    ensures whole { λ _. ⌜ BufferHolds (unescape d (met (now (raw .entry)))) (now (buf .entry)) (now (buf .exit)) ⌝ }
 {
     let mut at = At::Plain;
     let mut mode = Mode::One;

@@ -19,7 +19,7 @@ use Rattle.rules.proofs.Split.{front-here, front-there}
 use Rattle.rules.proofs.Header.{Header, header}
 use Rattle.rules.proofs.Clean.{here-keeps}
 use Rattle.unread.specs.Differs.{Differs}
-use Rattle.unread.specs.Edits.{spotIn, spot, stands, inSegment, inField, inOpenField, unreadAt, stretch, begins, other, others, fieldBytes, unreadFrom, newFields, componentBytes, newComponents, segmentEdit, fieldEdit, fieldsEdit, componentEdit, componentsEdit, unread, Edit, edit, Edits, none, next, Change, changed, changedAll, unreadAll}
+use Rattle.unread.specs.Edits.{spotIn, spot, stands, inSegment, inField, inOpenField, unreadAt, mayStand, begins, otherSegment, others, fieldBytes, unreadFrom, newFields, componentBytes, newComponents, segmentEdit, fieldEdit, fieldsEdit, componentEdit, componentsEdit, unread, Edit, edit, Edits, none, next, Change, changed, changedAll, unreadAll}
 use Rattle.unread.proofs.Differs.{differs-same, differs-trans}
 use Rattle.unread.proofs.Segments.{altered, others-altered}
 use Rattle.unread.proofs.Fields.{field-altered, NewFields, fields-put}
@@ -53,8 +53,8 @@ record Stretch (seps v : List ℕ) : Type 0 where
   endless : has 0x0D v ≡ false
   free : Frees seps v
 
-stretched : (seps v : List ℕ) → stretch seps v ≡ true → Stretch seps v
-unfolding stretch
+stretched : (seps v : List ℕ) → mayStand seps v ≡ true → Stretch seps v
+unfolding mayStand
 stretched seps v h =
     let a = both (keeps 0x0D v && not (has 0x0D v)) (all (λ (x : ℕ). not (has x (met v))) seps) h in
     let b = both (keeps 0x0D v) (not (has 0x0D v)) (a .0) in
@@ -106,8 +106,8 @@ unfolding segmentEdit others
 segment-differs p v w q g h =
     let a = both (empty (here p) && others v) (others w) h in
     let b = both (empty (here p)) (others v) (a .0) in
-    let x = both (empty (last (split 0x0D v))) (all other (segments v)) (b .1) in
-    let y = both (empty (last (split 0x0D w))) (all other (segments w)) (a .1) in
+    let x = both (empty (last (split 0x0D v))) (all otherSegment (segments v)) (b .1) in
+    let y = both (empty (last (split 0x0D w))) (all otherSegment (segments w)) (a .1) in
     let ev : here v ≡ [] = unfold since in empty-is (last (split 0x0D v)) (x .0) in
     let ew : here w ≡ [] = unfold since in empty-is (last (split 0x0D w)) (y .0) in
     others-altered p v w q (g .long) (empty-is (here p) (b .0)) ev ew (x .1) (y .1)
@@ -132,8 +132,8 @@ unfolding newFields spotIn
 fields-new p v h =
     let d = delimsOf p in
     let x = spot p in
-    let a = both (stretch [] v && empty (front (d .field) (met v))) (unreadFrom (unreadField (x .name)) (suc (x .field)) (later (d .field) (met v))) h in
-    let b = both (stretch [] v) (empty (front (d .field) (met v))) (a .0) in
+    let a = both (mayStand [] v && empty (front (d .field) (met v))) (unreadFrom (unreadField (x .name)) (suc (x .field)) (later (d .field) (met v))) h in
+    let b = both (mayStand [] v) (empty (front (d .field) (met v))) (a .0) in
     (stretched [] v (b .0) .endless, record { leads = empty-is (front (d .field) (met v)) (b .1); unreads = a .1 })
 
 fields-differ : (p v w q : List ℕ) → Stood p → fieldsEdit (delimsOf p) (spot p) v w q ≡ true → Differs (p ++ (v ++ q)) (p ++ (w ++ q))
@@ -185,8 +185,8 @@ components-new p v k =
     let d = delimsOf p in
     let x = spot p in
     let seps : List ℕ = d .field ∷ (d .repetition ∷ []) in
-    let a = both (stretch seps v && empty (front (d .component) (met v))) (unreadFrom (unreadAt x) (suc (x .component)) (later (d .component) (met v))) k in
-    let b = both (stretch seps v) (empty (front (d .component) (met v))) (a .0) in
+    let a = both (mayStand seps v && empty (front (d .component) (met v))) (unreadFrom (unreadAt x) (suc (x .component)) (later (d .component) (met v))) k in
+    let b = both (mayStand seps v) (empty (front (d .component) (met v))) (a .0) in
     record { put = stretched seps v (b .0); leads = empty-is (front (d .component) (met v)) (b .1); unreads = a .1 }
 
 first-unread : (p : List ℕ) (c : ℕ) → ltb 1 (spot p .repetition) ≡ false → unreadAt (spot p) c ≡ unreadComponent (spot p .name) (spot p .field) c

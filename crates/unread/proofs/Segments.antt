@@ -16,7 +16,7 @@ use Rattle.rules.proofs.Lists.{all-first}
 use Rattle.rules.proofs.Split.{split-cons, front-free, later-free, split-glue, butLast-glue}
 use Rattle.rules.proofs.Header.{delims-stay}
 use Rattle.unread.specs.Differs.{SegmentDiffers, Paired, none, pair, Differs}
-use Rattle.unread.specs.Edits.{other}
+use Rattle.unread.specs.Edits.{otherSegment}
 use Rattle.unread.proofs.Differs.{segment-refl}
 
 -- ---- segments by their bytes: where one stands doesn't matter
@@ -55,19 +55,19 @@ alike-after d [] xs ys a = a
 alike-after d (s ∷ ss) xs ys a = one d s s (ss ++ xs) (ss ++ ys) (segment-refl d (asKnown s)) (alike-after d ss xs ys a)
 
 -- segments of other names before those of the one list, and of the other
-others-left : (d : Delims) (vs xs ys : List (List ℕ)) → all other vs ≡ true → AllAlike d xs ys → AllAlike d (vs ++ xs) ys
+others-left : (d : Delims) (vs xs ys : List (List ℕ)) → all otherSegment vs ≡ true → AllAlike d xs ys → AllAlike d (vs ++ xs) ys
 unfolding knownFrom
 others-left d [] xs ys h a i j = a i j
 others-left d (v ∷ vs) xs ys h a i j =
-    let o = all-first other v vs h in
+    let o = all-first otherSegment v vs h in
     let n : is (nameOf v) Other ≡ true = o .0 in
     rw n (others-left d vs xs ys (o .1) a (i + suc (length v)) j)
 
-others-right : (d : Delims) (ws xs ys : List (List ℕ)) → all other ws ≡ true → AllAlike d xs ys → AllAlike d xs (ws ++ ys)
+others-right : (d : Delims) (ws xs ys : List (List ℕ)) → all otherSegment ws ≡ true → AllAlike d xs ys → AllAlike d xs (ws ++ ys)
 unfolding knownFrom
 others-right d [] xs ys h a i j = a i j
 others-right d (w ∷ ws) xs ys h a i j =
-    let o = all-first other w ws h in
+    let o = all-first otherSegment w ws h in
     let n : is (nameOf w) Other ≡ true = o .0 in
     rw n (others-right d ws xs ys (o .1) a i (j + suc (length w)))
 
@@ -109,7 +109,7 @@ altered p v w q l hv hw s =
 
 -- segments of other names, where a segment starts
 pub others-altered : (p v w q : List ℕ) → 8 ≤ length p → here p ≡ [] → here v ≡ [] → here w ≡ []
-    → all other (segments v) ≡ true → all other (segments w) ≡ true → Differs (p ++ (v ++ q)) (p ++ (w ++ q))
+    → all otherSegment (segments v) ≡ true → all otherSegment (segments w) ≡ true → Differs (p ++ (v ++ q)) (p ++ (w ++ q))
 others-altered p v w q l e ev ew hv hw =
     let d = delimsOf p in
     differs-by p (v ++ q) (w ++ q) l

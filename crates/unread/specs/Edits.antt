@@ -64,8 +64,8 @@ unreadAt x c = ltb 1 (x .repetition) || unreadComponent (x .name) (x .field) c
 -- ---- what may stand there
 -- "holds no 0D, .. and keeps the byte and shift rule by itself, from one-byte mode back to one-byte mode"; and none of some separators
 -- "in one-byte mode"
-unfoldable pub stretch : List ℕ → List ℕ → Bool
-stretch seps v = keeps 0x0D v && not (has 0x0D v) && all (λ (x : ℕ). not (has x (met v))) seps
+unfoldable pub mayStand : List ℕ → List ℕ → Bool
+mayStand seps v = keeps 0x0D v && not (has 0x0D v) && all (λ (x : ℕ). not (has x (met v))) seps
 
 -- q begins with one of some bytes
 unfoldable pub begins : List ℕ → List ℕ → Bool
@@ -73,15 +73,15 @@ begins seps [] = false
 begins seps (e ∷ q) = has e seps
 
 -- any number of segments of other names, each with its 0D
-abbrev pub other : List ℕ → Bool
-other s = is (nameOf s) Other
+abbrev pub otherSegment : List ℕ → Bool
+otherSegment s = is (nameOf s) Other
 
 unfoldable pub others : List ℕ → Bool
-others v = empty (last (split 0x0D v)) && all other (segments v)
+others v = empty (last (split 0x0D v)) && all otherSegment (segments v)
 
 -- "an unread field no field separator"
 unfoldable pub fieldBytes : Delims → List ℕ → Bool
-fieldBytes d v = stretch (d .field ∷ []) v
+fieldBytes d v = mayStand (d .field ∷ []) v
 
 -- any number of pieces, the first with the number i: each unread, or empty as it was when it was missing
 unfoldable pub unreadFrom : (ℕ → Bool) → ℕ → List (List ℕ) → Bool
@@ -90,16 +90,16 @@ unreadFrom un i (x ∷ xs) = (un i || empty x) && unreadFrom un (suc i) xs
 
 -- any number of fields, each after its separator, after the field with the number f
 unfoldable pub newFields : Delims → Name → ℕ → List ℕ → Bool
-newFields d n f v = stretch [] v && empty (front (d .field) (met v)) && unreadFrom (unreadField n) (suc f) (later (d .field) (met v))
+newFields d n f v = mayStand [] v && empty (front (d .field) (met v)) && unreadFrom (unreadField n) (suc f) (later (d .field) (met v))
 
 -- "an altered unread component holds no field, component or repetition separator"
 unfoldable pub componentBytes : Delims → List ℕ → Bool
-componentBytes d v = stretch (d .field ∷ (d .component ∷ (d .repetition ∷ []))) v
+componentBytes d v = mayStand (d .field ∷ (d .component ∷ (d .repetition ∷ []))) v
 
 -- any number of components, each after its separator
 unfoldable pub newComponents : Delims → Spot → List ℕ → Bool
 newComponents d x v =
-    stretch (d .field ∷ (d .repetition ∷ [])) v && empty (front (d .component) (met v))
+    mayStand (d .field ∷ (d .repetition ∷ [])) v && empty (front (d .component) (met v))
     && unreadFrom (unreadAt x) (suc (x .component)) (later (d .component) (met v))
 
 -- ---- the edits

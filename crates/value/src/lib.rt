@@ -262,13 +262,13 @@ pub fn fault_of(required: bool, rule: Rule, v: &[u8]) -> Fault
 // ---- OBX-5: comparator, number or text, joiner, second number
 
 // The rules of its parts, by the word of OBX-2.
-pub fn part_rules(kind: &[u8]) -> Parts
-    ensures { λ r. ⌜ rulesOf r ≡ valueRules (now (kind .entry)) ⌝ }
+pub fn part_rules(obx2: &[u8]) -> Parts
+    ensures { λ r. ⌜ rulesOf r ≡ valueRules (now (obx2 .entry)) ⌝ }
 {
-    if bytes::equal(kind, b"SN") {
+    if bytes::equal(obx2, b"SN") {
         return table::SN;
     }
-    if bytes::equal(kind, b"NM") {
+    if bytes::equal(obx2, b"NM") {
         return table::NM;
     }
     table::ST

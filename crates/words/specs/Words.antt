@@ -1,22 +1,18 @@
--- A refusal in words: one line, the place as people say it and then the words. THE TABLE of the words.
+-- The words of a refusal, and the place that is told before them. THE TABLE of the words.
 use mathlib.Core.Bool.{Bool, true, false, cond}
-use mathlib.Core.List.{List, [], _∷_, _++_}
+use mathlib.Core.List.{List, [], _∷_}
 use Prim.Native.Nat.{ℕ}
 use Prim.Native.String.{String}
 use lib.Dec.{eqb}
 use Rattle.rules.specs.declared.Kind.{Kind}
 use Rattle.rules.specs.declared.Kind.the-variants.{TooLong, Header, Bytes, Segment, TooMany, Order, Missing, Null, Repeated, Escape, Long, Value, Status, Differs, NoOrdinal, Zero, SheetTooLong, SheetBytes, Key, LineValue, Overflow, Room}
 use Rattle.rules.specs.declared.Name.{Name}
-use Rattle.rules.specs.declared.Name.the-variants.{Msh, Pid, Pv1}
-use Rattle.rules.specs.declared.Refusal.{Refusal}
 use Rattle.rules.specs.Told as Told
-use Rattle.rules.specs.Lists.{bytes, all, any, decimal}
-use Rattle.rules.specs.Frame.{spelling, is}
+use Rattle.rules.specs.Lists.{all}
 use Rattle.rules.specs.Value.{Rule, time, date, numeric, text, digits, capitals, words}
 use Rattle.rules.specs.Places.{Place, Form, charset, names, value, Field, reads, closed, places}
-use Rattle.csv_rules.specs.declared.Fault.{Fault}
-use Rattle.csv_rules.specs.declared.Fault.the-variants.{Quoting, Columns, Unconverted, HeaderDiffers, Returns}
-use Rattle.spot.specs.declared.Spot.{Spot}
+use Rattle.csv_rules.specs.declared.FileFault.{FileFault}
+use Rattle.csv_rules.specs.declared.FileFault.the-variants.{Quoting, Columns, Unconverted, HeaderDiffers, Returns}
 use Rattle.words.specs.declared.Where.{Where}
 use Rattle.words.specs.declared.Where.the-variants.{Nowhere, AtSpot, AtSegment, AtLine, AtField}
 use Rattle.words.specs.declared.Breach.{Breach}
@@ -109,38 +105,10 @@ breachOf n f = breachIn (places n) f
 unfoldable pub wordsOf : Kind → Breach → String
 wordsOf k b = cond (eqb (Told.number k) 25) (breachWords b) (saying k .words)
 
--- ---- the place
--- "MSH PID PV1, then one or more specimens": these a message has once
-unfoldable pub once : Name → Bool
-once n = any (is n) (Msh ∷ Pid ∷ Pv1 ∷ [])
-
-unfoldable pub ofSegment : Name → ℕ → List ℕ
-ofSegment n i = cond (once n) [] (bytes " of segment " ++ decimal i)
-
-unfoldable pub fieldText : Name → ℕ → ℕ → List ℕ
-fieldText n f i = spelling n ++ bytes "-" ++ decimal f ++ ofSegment n i ++ bytes ": "
-
-unfoldable pub spotText : Spot → List ℕ
-spotText p = bytes "line " ++ decimal (p .line) ++ bytes ", byte " ++ decimal (p .byte) ++ bytes ": "
-
-unfoldable pub placeText : Where → Refusal → Name → Spot → List ℕ
-placeText Nowhere r n p = []
-placeText AtSpot r n p = spotText p
-placeText AtSegment r n p = bytes "segment " ++ decimal (r .segment) ++ bytes ": "
-placeText AtLine r n p = bytes "line " ++ decimal (r .segment) ++ bytes ": "
-placeText AtField r n p = fieldText n (r .field) (r .segment)
-
--- ---- the line, ended by 0A, for a refusal, the name of the segment that it names, and the spot
-unfoldable pub wordsText : Refusal → Name → Spot → List ℕ
-wordsText r n p = placeText (saying (r .kind) .tells) r n p ++ bytes (wordsOf (r .kind) (breachOf n (r .field))) ++ (0x0A ∷ [])
-
--- ---- 50 to 54, with the line of the file
-unfoldable pub faultWords : Fault → String
+-- ---- 50 to 54
+unfoldable pub faultWords : FileFault → String
 faultWords Quoting = "an item is not quoted as it must be, or a line does not end in CR LF"
 faultWords Columns = "no version or heading line, a bad column count, or a row with another count"
 faultWords Unconverted = "a byte that cannot be converted, as half-width kana or a byte below 20"
 faultWords HeaderDiffers = "a patient key or the class differs from a row before with this result number"
 faultWords Returns = "a result number that comes back after another"
-
-unfoldable pub faultText : Fault → ℕ → List ℕ
-faultText f line = bytes "line " ++ decimal line ++ bytes ": " ++ bytes (faultWords f) ++ (0x0A ∷ [])

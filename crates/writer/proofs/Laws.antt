@@ -8,7 +8,7 @@ use native.Mathlib.Omega.{arith}
 use lib.ListN.{length, take, drop, getD, set, length-append, length-drop, drop-of-length-le}
 use lib.Seq.{take-at, drop-at, drop-drop, take-length, length-take-le, set-split}
 use Rattle.rules.proofs.Lists.{rest-is}
-use Rattle.writer.specs.Over.{over, overAt, Wrote, Put}
+use Rattle.writer.specs.Over.{overFront, overAt, Wrote, Put}
 
 -- a turn's store takes the copy of i bytes to the copy of one more
 copied : (s d : List ℕ) (i : ℕ) → i < length s → i < length d → set (take i s ++ drop i d) i (getD s i 0) ≡ take (suc i) s ++ drop (suc i) d
@@ -20,13 +20,13 @@ copied (x ∷ xs) (y ∷ ys) (suc i) h k = ap (λ (l : List ℕ). x ∷ l) (copi
 pub copy-step : (s d o : List ℕ) (i : ℕ) → o ≡ take i s ++ drop i d → i < length s → i < length d → set o i (getD s i 0) ≡ take (i + 1) s ++ drop (i + 1) d
 copy-step s d o i e h k = rw (e, add-one) (copied s d i h k)
 
-pub copy-end : (s d o : List ℕ) (i : ℕ) → o ≡ take i s ++ drop i d → i ≡ length s → o ≡ over s d
-unfolding over
+pub copy-end : (s d o : List ℕ) (i : ℕ) → o ≡ take i s ++ drop i d → i ≡ length s → o ≡ overFront s d
+unfolding overFront
 copy-end s d o i e h = e ∙ rw (h, take-length)
 
 -- one write after another is one write of both
-fuse : (a : ℕ) (b c old : List ℕ) → a ≡ length b → overAt a c (over b old) ≡ over (b ++ c) old
-unfolding over overAt
+fuse : (a : ℕ) (b c old : List ℕ) → a ≡ length b → overAt a c (overFront b old) ≡ overFront (b ++ c) old
+unfolding overFront overAt
 fuse a b c old h =
     rw (h, take-at b (drop (length b) old) (length b) refl, drop-at b (drop (length b) old) (length b) refl)
     (rw (drop-drop, length-append, append-assoc))
@@ -37,7 +37,7 @@ tail-none a xs = drop-of-length-le (drop a xs) {i = length xs - a} (simp length-
 
 -- before the first write
 pub start : (old : List ℕ) → Wrote 0 old [] old
-unfolding over
+unfolding overFront
 start old = record { ends = refl; is = refl }
 
 -- one more write, by what `put_at` ensures
@@ -52,7 +52,7 @@ back at x p = record { ends = omega arith; is = rw (p .is, rest-is, tail-none, a
 
 -- a store is a write of one byte
 pub stored : (at : ℕ) (x : List ℕ) (b : ℕ) → at < length x → Put at x (b ∷ []) (at + 1) (set x at b)
-unfolding over overAt
+unfolding overFront overAt
 stored at x b h = record { ends = refl; is = set-split x at b h ∙ rw (drop-drop, add-one) }
 
 -- what is left of a text begins with b. (A record, so that a law's caller need not write b and l.)
@@ -61,7 +61,7 @@ pub record Splits (left b l : List ℕ) : Type 0 where
 
 -- a write with room keeps the length
 pub length-put : {at r : ℕ} {x b y : List ℕ} → Put at x b r y → at + length b ≤ length x → length y ≡ length x
-unfolding over overAt
+unfolding overFront overAt
 length-put {at} {r} {x} {b} p h = ap length (p .is) ∙ simp (length-append, length-take-le at x (omega arith), length-drop) (omega arith)
 
 -- what a loop that writes keeps: what it has written, that `left` completes the whole, and that the whole has room
@@ -93,12 +93,12 @@ module _ {whole left out₀ out : List ℕ} {at : ℕ} (p : Running whole left o
 
 -- what was written lies at the front
 pub front : {r : ℕ} {x w old : List ℕ} → Wrote r x w old → take r x ≡ w
-unfolding over
+unfolding overFront
 front {r} {x} {w} {old} p = rw (p .is) (take-at w (drop (length w) old) r (sym (p .ends)))
 
 pub front-is : (r : ℕ) (x w old : List ℕ) → Wrote r x w old → r ≡ length (take r x)
 front-is r x w old p = p .ends ∙ ap length (sym (front p))
 
 pub front-within : (r : ℕ) (x w old : List ℕ) → Wrote r x w old → r ≤ length x
-unfolding over
+unfolding overFront
 front-within r x w old p = omega (arith, p .ends, ap length (p .is) ∙ length-append w (drop (length w) old))

@@ -3,13 +3,13 @@ use borrow.Author.Needs.{needs}
 use Prim.Native.Nat.{_+_, _-_, _≤_}
 use mathlib.Core.Path.{_≡_}
 use lib.ListN.{length, drop}
-use Rattle.bytes.specs.Bytes.{until, is}
+use Rattle.bytes.specs.Bytes.{until, isByte}
 use Rattle.bytes.proofs.Laws.{before·laws}
 use Rattle.bytes.proofs.before.Statement.{statement}
 use Rattle.bytes.proofs.before.Tie as tie
 
 abbrev Inv-loop : tie.InvT-loop
-Inv-loop s sep i₀ i = (i ≤ length s) × (length (until (is sep) s) ≡ i + length (until (is sep) (drop i s)))
+Inv-loop s sep i₀ i = (i ≤ length s) × (length (until (isByte sep) s) ≡ i + length (until (isByte sep) (drop i s)))
 
 abbrev μ-loop : tie.MeasureT-loop
 μ-loop s sep i₀ i = length s - i

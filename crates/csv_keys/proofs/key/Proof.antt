@@ -4,27 +4,6 @@ use Rattle.csv_keys.proofs.Rows.{inside-at, text-at, family-at, given-a
 use Rattle.csv_keys.proofs.key.Statement.{statement}
 use Rattle.csv_keys.proofs.key.Tie as tie
 
-family-requires : tie.Need-family-requires
-family-requires c κs = search (inside-at, needs)
-
-given-requires : tie.Need-given-requires
-given-requires c κs = search (inside-at, needs)
-
-fifteen-requires : tie.Need-fifteen-requires
-fifteen-requires c κs = search (inside-at, needs)
-
-sex-requires : tie.Need-sex-requires
-sex-requires c κs = search (inside-at, needs)
-
-class-requires : tie.Need-class-requires
-class-requires c κs = search (inside-at, needs)
-
-form-requires : tie.Need-form-requires
-form-requires c κs = search (inside-at, needs)
-
-kind-requires : tie.Need-kind-requires
-kind-requires c κs = search (inside-at, needs)
-
 returns : tie.Need-returns
 returns c = search (text-at, needs)
 
@@ -55,19 +34,19 @@ key-spec =
     (tie.spec
     (λ c. search needs) (λ c. search needs) (λ c. search needs) (λ c. search needs) (λ c. search needs) (λ c. search needs) (λ c. search needs)
     (λ c. search needs) (λ c. search needs) (λ c κs. search needs) (λ c. search needs)
-    family-requires
+    (λ c κs. search (inside-at, needs))
     (λ c. search needs)
-    given-requires
+    (λ c κs. search (inside-at, needs))
     (λ c. search needs)
-    fifteen-requires
+    (λ c κs. search (inside-at, needs))
     (λ c. search needs)
-    sex-requires
+    (λ c κs. search (inside-at, needs))
     (λ c. search needs)
-    class-requires
+    (λ c κs. search (inside-at, needs))
     (λ c. search needs)
-    form-requires
+    (λ c κs. search (inside-at, needs))
     (λ c. search needs)
-    kind-requires
+    (λ c κs. search (inside-at, needs))
     returns
     returns-2
     returns-3

@@ -1,11 +1,11 @@
 -- `csv_places::put` meets its contract. Assumes nothing.
 use borrow.Author.Needs.{needs}
-use Rattle.csv_places.specs.Places.{filled}
+use Rattle.csv_places.specs.Places.{slotFilled}
 use Rattle.csv_places.proofs.put.Statement.{statement}
 use Rattle.csv_places.proofs.put.Tie as tie
 
 returns : tie.Need-returns
-unfolding filled
+unfolding slotFilled
 returns c = search needs
 
 pub put-spec : {M : Type 1} → statement M

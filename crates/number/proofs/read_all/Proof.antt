@@ -4,13 +4,13 @@ use Prim.Native.Nat.{_-_, _≤_}
 use mathlib.Core.Path.{_≡_}
 use lib.ListN.{length, drop}
 use mathlib.Core.List.{foldl}
-use Rattle.number.specs.Number.{readByte, unread}
+use Rattle.number.specs.Number.{readByte, noneRead}
 use Rattle.number.proofs.Laws.{fold·laws}
 use Rattle.number.proofs.read_all.Statement.{statement}
 use Rattle.number.proofs.read_all.Tie as tie
 
 abbrev Inv-loop : tie.InvT-loop
-Inv-loop v t₀ i₀ t i = (i ≤ length v) × (foldl readByte unread v ≡ foldl readByte t (drop i v))
+Inv-loop v t₀ i₀ t i = (i ≤ length v) × (foldl readByte noneRead v ≡ foldl readByte t (drop i v))
 
 abbrev μ-loop : tie.MeasureT-loop
 μ-loop v t₀ i₀ t i = length v - i

@@ -6,24 +6,8 @@ use Rattle.rules.specs.Lists.{bytes}
 use Rattle.numbered.proofs.put_first.Statement.{statement}
 use Rattle.numbered.proofs.put_first.Tie as tie
 
-header-requires : tie.Need-header-requires
-unfolding spelling bytes
-header-requires c κs = search needs
-
-patient-requires : tie.Need-patient-requires
-unfolding spelling bytes
-patient-requires c κs = search needs
-
-visit-requires : tie.Need-visit-requires
-unfolding spelling bytes
-visit-requires c κs = search needs
-
 put-numbered-requires : tie.Need-put-numbered-requires
 put-numbered-requires c κs = (search needs, search needs, search (numbered-spm, needs), search needs, search needs)
-
-order-requires : tie.Need-order-requires
-unfolding spelling bytes
-order-requires c κs = search needs
 
 put-numbered-requires-2 : tie.Need-put-numbered-requires-2
 put-numbered-requires-2 c κs = (search needs, search needs, search (numbered-obx, needs), search needs, search needs)
@@ -53,19 +37,20 @@ returns-8 : tie.Need-returns-8
 returns-8 c = (search (put-other, needs), search needs)
 
 pub put-first-spec : {M : Type 1} → statement M
+unfolding spelling bytes
 put-first-spec =
     tie.close
     (tie.spec
     (λ c. search needs) (λ c. search needs)
-    header-requires
+    (λ c κs. search needs)
     (λ c. search needs) (λ c. search needs)
-    patient-requires
+    (λ c κs. search needs)
     (λ c. search needs) (λ c. search needs)
-    visit-requires
+    (λ c κs. search needs)
     (λ c. search needs)
     put-numbered-requires
     (λ c. search needs) (λ c. search needs)
-    order-requires
+    (λ c κs. search needs)
     (λ c. search needs) (λ c. search needs)
     put-numbered-requires-2
     (λ c. search needs) (λ c. search needs)

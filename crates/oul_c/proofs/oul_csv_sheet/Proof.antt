@@ -1,11 +1,8 @@
 -- `oul_c::oul_csv_sheet` meets its contract. Assumes nothing.
-use Rattle.oul_c.proofs.Laws.{made-number, made-told, made-buffer}
+use Rattle.oul_c.proofs.Laws.{made-tells}
 use borrow.Author.Needs.{needs}
 use Rattle.oul_c.proofs.oul_csv_sheet.Statement.{statement}
 use Rattle.oul_c.proofs.oul_csv_sheet.Tie as tie
 
-returns : tie.Need-returns
-returns c = (search (made-number, needs), (search (made-told, needs), search (made-buffer, needs)))
-
 pub oul-csv-sheet-spec : {M : Type 1} → statement M
-oul-csv-sheet-spec = tie.close (tie.spec (λ c κs. search needs) (λ c κs. search needs) (λ c. search needs) returns)
+oul-csv-sheet-spec = tie.close (tie.spec (λ c κs. search needs) (λ c κs. search needs) (λ c. search needs) (λ c. search (made-tells, needs)))

@@ -4,26 +4,11 @@ use Rattle.places.proofs.Laws.{named-found, named-any, other-found, nam
 use Rattle.places.proofs.segment.Statement.{statement}
 use Rattle.places.proofs.segment.Tie as tie
 
-returns : tie.Need-returns
-returns c = (search (named-any, needs), search (no-order, needs))
-
-returns-2 : tie.Need-returns-2
-returns-2 c = (search (named-any, needs), search (no-order, needs))
-
-returns-3 : tie.Need-returns-3
-returns-3 c = (search (named-any, needs), search (no-order, needs))
-
-returns-4 : tie.Need-returns-4
-returns-4 c = (search (named-any, needs), search (no-order, needs))
-
 returns-5 : tie.Need-returns-5
 returns-5 c = (search (named-any, needs), search (named-order, needs))
 
 returns-6 : tie.Need-returns-6
 returns-6 c = (search (named-found, needs), search (no-order, needs))
-
-returns-7 : tie.Need-returns-7
-returns-7 c = (search (named-any, needs), search (no-order, needs))
 
 returns-8 : tie.Need-returns-8
 returns-8 c = (search (other-found, needs), search (no-order, needs))
@@ -35,11 +20,11 @@ segment-spec =
     (λ c. search needs) (λ c κs. search needs) (λ c. search needs) (λ c κs. search needs) (λ c. search needs) (λ c κs. search needs) (λ c. search needs)
     (λ c κs. search needs) (λ c. search needs) (λ c κs. search needs) (λ c. search needs) (λ c κs. search needs) (λ c. search needs) (λ c κs. search needs)
     (λ c. search needs)
-    returns
-    returns-2
-    returns-3
-    returns-4
+    (λ c. (search (named-any, needs), search (no-order, needs)))
+    (λ c. (search (named-any, needs), search (no-order, needs)))
+    (λ c. (search (named-any, needs), search (no-order, needs)))
+    (λ c. (search (named-any, needs), search (no-order, needs)))
     returns-5
     returns-6
-    returns-7
+    (λ c. (search (named-any, needs), search (no-order, needs)))
     returns-8)

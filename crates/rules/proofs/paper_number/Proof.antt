@@ -4,72 +4,6 @@ use Rattle.rules.proofs.Unique.{number-is}
 use Rattle.rules.proofs.paper_number.Statement.{statement}
 use Rattle.rules.proofs.paper_number.Tie as tie
 
-returns : tie.Need-returns
-returns c = search (number-is, needs)
-
-returns-2 : tie.Need-returns-2
-returns-2 c = search (number-is, needs)
-
-returns-3 : tie.Need-returns-3
-returns-3 c = search (number-is, needs)
-
-returns-4 : tie.Need-returns-4
-returns-4 c = search (number-is, needs)
-
-returns-5 : tie.Need-returns-5
-returns-5 c = search (number-is, needs)
-
-returns-6 : tie.Need-returns-6
-returns-6 c = search (number-is, needs)
-
-returns-7 : tie.Need-returns-7
-returns-7 c = search (number-is, needs)
-
-returns-8 : tie.Need-returns-8
-returns-8 c = search (number-is, needs)
-
-returns-9 : tie.Need-returns-9
-returns-9 c = search (number-is, needs)
-
-returns-10 : tie.Need-returns-10
-returns-10 c = search (number-is, needs)
-
-returns-11 : tie.Need-returns-11
-returns-11 c = search (number-is, needs)
-
-returns-12 : tie.Need-returns-12
-returns-12 c = search (number-is, needs)
-
-returns-13 : tie.Need-returns-13
-returns-13 c = search (number-is, needs)
-
-returns-14 : tie.Need-returns-14
-returns-14 c = search (number-is, needs)
-
-returns-15 : tie.Need-returns-15
-returns-15 c = search (number-is, needs)
-
-returns-16 : tie.Need-returns-16
-returns-16 c = search (number-is, needs)
-
-returns-17 : tie.Need-returns-17
-returns-17 c = search (number-is, needs)
-
-returns-18 : tie.Need-returns-18
-returns-18 c = search (number-is, needs)
-
-returns-19 : tie.Need-returns-19
-returns-19 c = search (number-is, needs)
-
-returns-20 : tie.Need-returns-20
-returns-20 c = search (number-is, needs)
-
-returns-21 : tie.Need-returns-21
-returns-21 c = search (number-is, needs)
-
-returns-22 : tie.Need-returns-22
-returns-22 c = search (number-is, needs)
-
 pub paper-number-spec : {M : Type 1} → statement M
 paper-number-spec =
     tie.close
@@ -78,25 +12,25 @@ paper-number-spec =
     (λ c. search needs) (λ c. search needs) (λ c. search needs) (λ c. search needs) (λ c. search needs) (λ c. search needs) (λ c. search needs)
     (λ c. search needs) (λ c. search needs) (λ c. search needs) (λ c. search needs) (λ c. search needs) (λ c. search needs) (λ c. search needs)
     (λ c. search needs)
-    returns
-    returns-2
-    returns-3
-    returns-4
-    returns-5
-    returns-6
-    returns-7
-    returns-8
-    returns-9
-    returns-10
-    returns-11
-    returns-12
-    returns-13
-    returns-14
-    returns-15
-    returns-16
-    returns-17
-    returns-18
-    returns-19
-    returns-20
-    returns-21
-    returns-22)
+    (λ c. search (number-is, needs))
+    (λ c. search (number-is, needs))
+    (λ c. search (number-is, needs))
+    (λ c. search (number-is, needs))
+    (λ c. search (number-is, needs))
+    (λ c. search (number-is, needs))
+    (λ c. search (number-is, needs))
+    (λ c. search (number-is, needs))
+    (λ c. search (number-is, needs))
+    (λ c. search (number-is, needs))
+    (λ c. search (number-is, needs))
+    (λ c. search (number-is, needs))
+    (λ c. search (number-is, needs))
+    (λ c. search (number-is, needs))
+    (λ c. search (number-is, needs))
+    (λ c. search (number-is, needs))
+    (λ c. search (number-is, needs))
+    (λ c. search (number-is, needs))
+    (λ c. search (number-is, needs))
+    (λ c. search (number-is, needs))
+    (λ c. search (number-is, needs))
+    (λ c. search (number-is, needs)))

@@ -2,13 +2,13 @@
 use borrow.Author.Needs.{needs}
 use Prim.Native.Nat.{_-_, _≤_}
 use lib.ListN.{length}
-use Rattle.bytes.specs.Bytes.{is}
+use Rattle.bytes.specs.Bytes.{isByte}
 use Rattle.scan.proofs.Walk.{Before, find-on, find-plain, find-here, find-over}
 use Rattle.scan.proofs.find.Statement.{statement}
 use Rattle.scan.proofs.find.Tie as tie
 
 abbrev Inv-loop : tie.InvT-loop
-Inv-loop s end sep i₀ i = (i ≤ length s) × Before end s (is sep) i
+Inv-loop s end sep i₀ i = (i ≤ length s) × Before end s (isByte sep) i
 
 abbrev μ-loop : tie.MeasureT-loop
 μ-loop s end sep i₀ i = length s - i

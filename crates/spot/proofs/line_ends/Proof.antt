@@ -4,13 +4,13 @@ use Prim.Native.Nat.{_+_, _-_, _≤_}
 use mathlib.Core.Path.{_≡_}
 use lib.ListN.{length, drop}
 use Rattle.rules.specs.Lists.{count}
-use Rattle.bytes.specs.Bytes.{is}
+use Rattle.bytes.specs.Bytes.{isByte}
 use Rattle.spot.proofs.Laws.{ends-on, ends-over}
 use Rattle.spot.proofs.line_ends.Statement.{statement}
 use Rattle.spot.proofs.line_ends.Tie as tie
 
 abbrev Inv-loop : tie.InvT-loop
-Inv-loop s end n₀ i₀ n i = (i ≤ length s) × (n ≤ i) × (count (is end) s ≡ n + count (is end) (drop i s))
+Inv-loop s end n₀ i₀ n i = (i ≤ length s) × (n ≤ i) × (count (isByte end) s ≡ n + count (isByte end) (drop i s))
 
 abbrev μ-loop : tie.MeasureT-loop
 μ-loop s end n₀ i₀ n i = length s - i

@@ -11,23 +11,14 @@ shared-slice-copy-out-put-escaped-at c = search (there-text, there-plain, needs)
 put-escaped-at-requires : tie.Need-put-escaped-at-requires
 put-escaped-at-requires c κs = search (room-text, needs)
 
-returns : tie.Need-returns
-returns c = search (put-text, put-plain, put-itself, needs)
-
 shared-slice-copy-out-put-at : tie.Need-shared-slice-copy-out-put-at
 shared-slice-copy-out-put-at c = search (there-text, there-plain, needs)
 
 put-at-requires : tie.Need-put-at-requires
 put-at-requires c κs = search (room-plain, needs)
 
-returns-2 : tie.Need-returns-2
-returns-2 c = search (put-text, put-plain, put-itself, needs)
-
 put-at-requires-2 : tie.Need-put-at-requires-2
 put-at-requires-2 c κs = search (room-itself, needs)
-
-returns-3 : tie.Need-returns-3
-returns-3 c = search (put-text, put-plain, put-itself, needs)
 
 pub put-slot-spec : {M : Type 1} → statement M
 put-slot-spec =
@@ -37,13 +28,13 @@ put-slot-spec =
     shared-slice-copy-out-put-escaped-at
     put-escaped-at-requires
     (λ c. search needs)
-    returns
+    (λ c. search (put-text, put-plain, put-itself, needs))
     (λ c. search needs)
     shared-slice-copy-out-put-at
     put-at-requires
     (λ c. search needs)
-    returns-2
+    (λ c. search (put-text, put-plain, put-itself, needs))
     (λ c κs. search needs) (λ c. search needs)
     put-at-requires-2
     (λ c. search needs)
-    returns-3)
+    (λ c. search (put-text, put-plain, put-itself, needs)))
