@@ -98,10 +98,10 @@ split-more sep (x ∷ s) h =
     cc (split-more sep s (omega arith)))
 
 -- ---- n digits
-pub digits-other : (v : List ℕ) (n : ℕ) → (length v ≡ n → ⊥) → false ≡ Val.digitsOk n v
+pub digits-other : (v : List ℕ) (n : ℕ) → (length v ≡ n → ⊥) → false ≡ Val.digits_ok n v
 digits-other v n h = cc (ne_eqb (length v) n h)
 
-pub digits-all : (v : List ℕ) (n : ℕ) (r : Bool) → length v ≡ n → r ≡ all digit v → r ≡ Val.digitsOk n v
+pub digits-all : (v : List ℕ) (n : ℕ) (r : Bool) → length v ≡ n → r ≡ all digit v → r ≡ Val.digits_ok n v
 digits-all v n r h e = cc (eq-eqb (length v) n h)
 
 pub ruleset digits-laws = (digits-other, digits-all)

@@ -2,8 +2,8 @@
 ghost use Rattle.std.specs.Prelude.{◌≡◌, ◌≤◌, length};
 ghost use Rattle.rules.specs.Shift.{within};
 ghost use Rattle.rules.specs.Lists.{all, same};
-ghost use Rattle.rules.specs.Frame.{capital, digit, capitalOrDigit};
-ghost use Rattle.rules.specs.Value.{digitsOk};
+ghost use Rattle.rules.specs.Frame.{capital, digit, capital_or_digit};
+ghost use Rattle.rules.specs.Value.{digits_ok};
 ghost use Rattle.bytes.specs.Bytes.{until, is_byte};
 
 pub fn in_range(lo: u8, hi: u8, b: u8) -> bool
@@ -32,7 +32,7 @@ pub fn is_capital(b: u8) -> bool
 }
 
 pub fn is_capital_or_digit(b: u8) -> bool
-    ensures { result ≡ capitalOrDigit b }
+    ensures { result ≡ capital_or_digit b }
 {
     is_capital(b) | is_digit(b)
 }
@@ -51,7 +51,7 @@ pub fn all_digits(v: &[u8]) -> bool
 }
 
 pub fn all_capitals_or_digits(v: &[u8]) -> bool
-    ensures { result ≡ all capitalOrDigit v.now }
+    ensures { result ≡ all capital_or_digit v.now }
 {
     let mut i = 0;
     while i < v.len() {
@@ -65,7 +65,7 @@ pub fn all_capitals_or_digits(v: &[u8]) -> bool
 
 // Exactly n digits.
 pub fn digits(v: &[u8], n: usize) -> bool
-    ensures { result ≡ digitsOk n v.now }
+    ensures { result ≡ digits_ok n v.now }
 {
     if v.len() != n {
         return false;

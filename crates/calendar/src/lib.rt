@@ -17,7 +17,7 @@ fn is_leap(year: u32) -> bool
 
 // How long a month is, in a leap year or another.
 fn days_in(leap: bool, month: u32) -> u32
-    ensures { result ≡ Val.daysIn leap month }
+    ensures { result ≡ Val.days_in leap month }
 {
     if month == 2 {
         if leap {
@@ -52,7 +52,7 @@ fn two_digits(v: &[u8], k: usize) -> u32
 // The day that YYYYMMDD names is in the calendar.
 fn is_day(v: &[u8]) -> bool
     requires { 8 ≤ length v.now }
-    ensures { result ≡ Val.dayOk v.now }
+    ensures { result ≡ Val.day_ok v.now }
 {
     let year = 100 * two_digits(v, 0) + two_digits(v, 2);
     let month = two_digits(v, 4);
@@ -63,7 +63,7 @@ fn is_day(v: &[u8]) -> bool
 // The HHMMSS that follow name a time of day.
 fn is_clock(v: &[u8]) -> bool
     requires { 14 ≤ length v.now }
-    ensures { result ≡ Val.clockOk v.now }
+    ensures { result ≡ Val.clock_ok v.now }
 {
     (two_digits(v, 8) <= 23) & (two_digits(v, 10) <= 59) & (two_digits(v, 12) <= 59)
 }

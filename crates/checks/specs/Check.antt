@@ -4,8 +4,8 @@ use Rattle.rules.specs.declared.Delims.{Delims}
 use Rattle.rules.specs.declared.Counts.{Counts}
 use Rattle.rules.specs.Told.{Told, gives, ◌>>◌}
 use Rattle.rules.specs.View.{view}
-use Rattle.rules.specs.Check.{unsaid, placesTold}
+use Rattle.rules.specs.Check.{unsaid, places_told}
 
 -- 20 to 27, then the counts
-unfoldable pub readTold : Delims → Counts → List ℕ → Told Counts
-readTold d c m = placesTold d unsaid 1 (view m).segs >> gives c
+unfoldable pub read_told : Delims → Counts → List ℕ → Told Counts
+read_told d c m = places_told d unsaid 1 (view m).segs >> gives c

@@ -2,9 +2,9 @@
 ghost use Rattle.std.specs.Prelude.{◌≡◌, false};
 ghost use Rattle.rules.specs.Told.{told, number};
 ghost use Rattle.rules.specs.Promises.{Checked};
-ghost use Rattle.value.specs.Rules.{faultNo, fineOf};
+ghost use Rattle.value.specs.Rules.{fault_no, fine_of};
 ghost use Rattle.frame.specs.Frame.{Sound};
-ghost use Rattle.checks.specs.Check.{readTold};
+ghost use Rattle.checks.specs.Check.{read_told};
 
 use frame::Framed;
 use rules::{Answer, Counts, Delims, Kind, Name, Refusal};
@@ -26,7 +26,7 @@ pub fn check(m: &[u8]) -> Answer
 // 20 to 27, segment by segment; the order number of the last OBR is passed on.
 fn check_places(m: &[u8], d: Delims, counts: Counts) -> Answer
     requires { Sound m.now d }
-    ensures { told result ≡ readTold d counts m.now }
+    ensures { told result ≡ read_told d counts m.now }
 {
     let mut order = &m[..0];
     let mut ordinal = 1;
@@ -62,8 +62,8 @@ fn check_places(m: &[u8], d: Delims, counts: Counts) -> Answer
 
 // The kind of a refusal for a fault.
 fn kind_of(f: Fault) -> Kind
-    requires { fineOf f ≡ false }
-    ensures { number result ≡ faultNo f }
+    requires { fine_of f ≡ false }
+    ensures { number result ≡ fault_no f }
 {
     match f {
         Fault::Nothing => Kind::Value,

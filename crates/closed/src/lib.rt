@@ -3,11 +3,11 @@ ghost use Rattle.std.specs.Prelude.{◌≡◌, false, [], ◌∷◌, ◌≤◌, 
 ghost use Rattle.rules.specs.Lists.{same, has};
 ghost use Rattle.rules.specs.Shift.{met};
 ghost use Rattle.rules.specs.Proper.{Proper};
-ghost use Rattle.rules.specs.View.{componentOf};
+ghost use Rattle.rules.specs.View.{component_of};
 ghost use Rattle.rules.specs.Judge as J;
-ghost use Rattle.value.specs.Rules.{faultNo};
-ghost use Rattle.components.specs.Components.{field_at, repetitionAt, forward};
-ghost use Rattle.closed.specs.Closed.{ClosedOf, charsetFault, MarkedOf};
+ghost use Rattle.value.specs.Rules.{fault_no};
+ghost use Rattle.components.specs.Components.{field_at, repetition_at, forward};
+ghost use Rattle.closed.specs.Closed.{ClosedOf, charset_fault, MarkedOf};
 
 use components::component;
 use rules::Delims;
@@ -55,7 +55,7 @@ fn led(s: &[u8], b: u8, word: &[u8]) -> bool
 // Exactly the repetition separator and `ISO IR87`.
 pub fn charset(t: &[u8], d: Delims) -> ClosedRead
     requires { Proper d }
-    ensures closed_of { ClosedOf (charsetFault d) (field_at d t.now) (faultNo result.fault) result.len }
+    ensures closed_of { ClosedOf (charset_fault d) (field_at d t.now) (fault_no result.fault) result.len }
     ensures within { result.len ≤ length t.now }
 {
     let e = scan::finish(t, d);
@@ -77,7 +77,7 @@ pub fn charset(t: &[u8], d: Delims) -> ClosedRead
 // Whether the repetition at the start of t bears the mark in component 8.
 fn marked(t: &[u8], d: Delims, mark: u8) -> bool
     requires { Proper d }
-    ensures { result ≡ same (componentOf d (repetitionAt d t.now) 8) (mark ∷ []) }
+    ensures { result ≡ same (component_of d (repetition_at d t.now) 8) (mark ∷ []) }
 {
     let eighth = forward(t, d, 7);
     let c = scan::first(eighth, d);
@@ -105,7 +105,7 @@ pub fn repetition(f: &[u8], d: Delims, mark: u8) -> &[u8]
 // The name at the start of t: components 1 and 2.
 fn name(t: &[u8], d: Delims) -> Fault
     requires { Proper d }
-    ensures { faultNo result ≡ J.nameFault d (repetitionAt d t.now) }
+    ensures { fault_no result ≡ J.name_fault d (repetition_at d t.now) }
 {
     let family = component(t, d, Must(table::NAME));
     let f = family.fault;
@@ -118,7 +118,7 @@ fn name(t: &[u8], d: Delims) -> Fault
 // The kanji name of the field f, then its kana name.
 fn both(f: &[u8], d: Delims) -> Fault
     requires { Proper d × (has d.field (met f.now) ≡ false) }
-    ensures { faultNo result ≡ J.namesFault d (met f.now) }
+    ensures { fault_no result ≡ J.names_fault d (met f.now) }
 {
     let kanji = name(repetition(f, d, b'I'), d);
     let kana = repetition(f, d, b'P');
@@ -130,7 +130,7 @@ fn both(f: &[u8], d: Delims) -> Fault
 
 pub fn names(t: &[u8], d: Delims) -> ClosedRead
     requires { Proper d }
-    ensures closed_of { ClosedOf (J.namesFault d) (field_at d t.now) (faultNo result.fault) result.len }
+    ensures closed_of { ClosedOf (J.names_fault d) (field_at d t.now) (fault_no result.fault) result.len }
     ensures within { result.len ≤ length t.now }
 {
     let e = scan::finish(t, d);

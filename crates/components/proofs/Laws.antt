@@ -15,25 +15,25 @@ use Rattle.rules.proofs.Logic.{then-zero}
 use Rattle.rules.proofs.Lists.{rest-is}
 use Rattle.rules.proofs.Modes.{length-met}
 use Rattle.bytes.specs.Bytes.{until, is_byte}
-use Rattle.scan.specs.Scan.{ends, next, plainText, CutOf, TailOf}
+use Rattle.scan.specs.Scan.{ends, next, plain_text, CutOf, TailOf}
 use Rattle.scan.proofs.Laws.{from-met, piece-met, ends-far}
-use Rattle.value.specs.Rules.{ruleOf, faultNo}
+use Rattle.value.specs.Rules.{rule_of, fault_no}
 use Rattle.value.specs.declared.Fault.{Fault}
 use Rattle.value.specs.declared.Fault.TheVariants.{Nothing}
 use Rattle.value.specs.declared.Rule.{Rule}
 use Rattle.value.specs.declared.Place.{Place}
 use Rattle.value.specs.declared.Place.TheVariants.{Unread, Must, May}
 use Rattle.judge.specs.Judge.{Clean, Small}
-use Rattle.components.specs.Components.{componentAt, forward, placeFault, Smalls, JudgedOf, componentsFault, ComponentsOf}
+use Rattle.components.specs.Components.{component_at, forward, place_fault, Smalls, JudgedOf, components_fault, ComponentsOf}
 use Rattle.components.proofs.Pieces.{forward-repeats, forward-long, forward-short, rest-long, rest_more}
 
 -- ---- the component at the start of t, by itself
 module _ (d : Delims) (t : List ℕ) (n : ℕ) (clean : Bool) (c : CutOf d t n clean) where
-  pub head-met : met (take n t) ≡ componentAt d t
+  pub head-met : met (take n t) ≡ component_at d t
   head-met = ap (λ k. met (take k t)) c.long ∙ piece-met (ends d) t
 
   head-clean : clean ≡ true → Clean d (take n t)
-  head-clean h = record { plain = ap (plainText d) head-met ∙ sym c.plain ∙ h; bytes = ap (map byte_of) head-met ∙ c.raw }
+  head-clean h = record { plain = ap (plain_text d) head-met ∙ sym c.plain ∙ h; bytes = ap (map byte_of) head-met ∙ c.raw }
 
 -- what is left from the next component on is no longer
 pub next-within : (t u : List ℕ) (d : Delims) → Proper d → met u ≡ next d (met t) → length u ≤ length t
@@ -42,29 +42,29 @@ next-within t u d p e = omega (arith, length-met t, length-met u, ap length e, f
 
 -- ---- one component
 module _ (d : Delims) (place : Place) where
-  pub unread-is : (raw : List ℕ) → place ≡ Unread → faultNo Nothing ≡ placeFault d place raw
-  unfolding faultNo placeFault
+  pub unread-is : (raw : List ℕ) → place ≡ Unread → fault_no Nothing ≡ place_fault d place raw
+  unfolding fault_no place_fault
   unread-is raw e = rw e
 
   module _ (f : Fault) (r : Rule) (raw : List ℕ) where
-    pub must-is : place ≡ Must r → faultNo f ≡ judge d true (ruleOf r) raw → faultNo f ≡ placeFault d place raw
-    unfolding placeFault
+    pub must-is : place ≡ Must r → fault_no f ≡ judge d true (rule_of r) raw → fault_no f ≡ place_fault d place raw
+    unfolding place_fault
     must-is e h = rw e h
 
-    pub may-is : place ≡ May r → faultNo f ≡ judge d false (ruleOf r) raw → faultNo f ≡ placeFault d place raw
-    unfolding placeFault
+    pub may-is : place ≡ May r → fault_no f ≡ judge d false (rule_of r) raw → fault_no f ≡ place_fault d place raw
+    unfolding place_fault
     may-is e h = rw e h
 
 -- the same of a clean one, whatever delimiters it is clean by
 module _ (place : Place) where
-  pub unread-clean : (raw : List ℕ) → place ≡ Unread → (d : Delims) → Clean d raw → faultNo Nothing ≡ placeFault d place (met raw)
+  pub unread-clean : (raw : List ℕ) → place ≡ Unread → (d : Delims) → Clean d raw → fault_no Nothing ≡ place_fault d place (met raw)
   unread-clean raw e d p = unread-is d place (met raw) e
 
   module _ (f : Fault) (r : Rule) (raw : List ℕ) where
-    pub must-clean : place ≡ Must r → ((d : Delims) → Clean d raw → faultNo f ≡ judge d true (ruleOf r) (met raw)) → (d : Delims) → Clean d raw → faultNo f ≡ placeFault d place (met raw)
+    pub must-clean : place ≡ Must r → ((d : Delims) → Clean d raw → fault_no f ≡ judge d true (rule_of r) (met raw)) → (d : Delims) → Clean d raw → fault_no f ≡ place_fault d place (met raw)
     must-clean e h d p = must-is d place f r (met raw) e (h d p)
 
-    pub may-clean : place ≡ May r → ((d : Delims) → Clean d raw → faultNo f ≡ judge d false (ruleOf r) (met raw)) → (d : Delims) → Clean d raw → faultNo f ≡ placeFault d place (met raw)
+    pub may-clean : place ≡ May r → ((d : Delims) → Clean d raw → fault_no f ≡ judge d false (rule_of r) (met raw)) → (d : Delims) → Clean d raw → fault_no f ≡ place_fault d place (met raw)
     may-clean e h d p = may-is d place f r (met raw) e (h d p)
 
 pub must-small : (place : Place) (r : Rule) → place ≡ Must r → Smalls place → Small r
@@ -76,16 +76,16 @@ unfolding Smalls
 may-small place r e h = rw e at h
 
 module _ (d : Delims) (t : List ℕ) (n : ℕ) (clean : Bool) (c : CutOf d t n clean) where
-  pub component-judged : (place : Place) (f : ℕ) → f ≡ placeFault d place (met (take n t)) → JudgedOf d place t f n
-  component-judged place f e = record { told = e ∙ ap (placeFault d place) (head-met d t n clean c); long = c.long; raw = c.raw }
+  pub component-judged : (place : Place) (f : ℕ) → f ≡ place_fault d place (met (take n t)) → JudgedOf d place t f n
+  component-judged place f e = record { told = e ∙ ap (place_fault d place) (head-met d t n clean c); long = c.long; raw = c.raw }
 
-  pub component-clean : (place : Place) (f : ℕ) → clean ≡ true → ((e : Delims) → Clean e (take n t) → f ≡ placeFault e place (met (take n t))) → JudgedOf d place t f n
+  pub component-clean : (place : Place) (f : ℕ) → clean ≡ true → ((e : Delims) → Clean e (take n t) → f ≡ place_fault e place (met (take n t))) → JudgedOf d place t f n
   component-clean place f h g = component-judged place f (g d (head-clean d t n clean c h))
 
 -- ---- one field
 pub one-read : (d : Delims) → Proper d → (place : Place) (t : List ℕ) (f n k : ℕ) (more : Bool) → JudgedOf d place t f n
     → TailOf d (met (take (length t - n) (drop n t))) k more → ComponentsOf d (place ∷ []) t more f n (n + k)
-unfolding componentsFault
+unfolding components_fault
 one-read d p place t f n k more j e =
     let m : List ℕ = met t in
     let a : met (take (length t - n) (drop n t)) ≡ drop (length (until (ends d) m)) m
@@ -93,7 +93,7 @@ one-read d p place t f n k more j e =
     let b : k ≡ length (until (is_byte d.field) (drop (length (until (ends d) m)) m)) = e.long ∙ ap (λ l. length (until (is_byte d.field) l)) a in
     record {
       more = e.more ∙ ap (λ l. has d.repetition (until (is_byte d.field) l)) a ∙ sym (rest_more d m);
-      told = j.told ∙ sym (then-zero (placeFault d place (until (ends d) m)));
+      told = j.told ∙ sym (then-zero (place_fault d place (until (ends d) m)));
       short = j.long;
       raw = j.raw;
       long = omega (arith, rest-long d m, j.long);
@@ -103,7 +103,7 @@ one-read d p place t f n k more j e =
 module _ (d : Delims) (p : Proper d) (t u : List ℕ) (e : met u ≡ next d (met t)) where
   pub led-read : (place : Place) (ps : List Place) (f g h n k l : ℕ) (more : Bool) → JudgedOf d place t f n → ComponentsOf d ps u more g k l
       → h ≡ (f then g) → ComponentsOf d (place ∷ ps) t more h n (length t - length u + l)
-  unfolding componentsFault forward
+  unfolding components_fault forward
   led-read place ps f g h n k l more j r q = record {
     more = r.more ∙ ap (λ m. has d.repetition (until (is_byte d.field) m)) e ∙ forward-repeats d p 1 (met t);
     told = q ∙ cc (j.told, r.told);

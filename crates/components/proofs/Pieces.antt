@@ -14,9 +14,9 @@ use Rattle.rules.proofs.Logic.{cases, never, neither, or-false}
 use Rattle.rules.proofs.Lists.{has-nil, has_here, has_there, has_first}
 use Rattle.rules.proofs.Split.{split-nil, split-here, split-there, split-none, pieces-length}
 use Rattle.bytes.specs.Bytes.{until, is_byte}
-use Rattle.scan.specs.Scan.{ends, afterSep, onward, next, next_from}
+use Rattle.scan.specs.Scan.{ends, after_sep, onward, next, next_from}
 use Rattle.scan.proofs.Laws.{until-yes, until-no, until-nil, first_piece}
-use Rattle.components.specs.Components.{endsRepetition, forward}
+use Rattle.components.specs.Components.{ends_repetition, forward}
 
 -- ---- the n-th piece
 onto-tail : (x n : ℕ) (ps : List (List ℕ)) → nth (onto x ps) (suc n) ≡ nth ps (suc n)
@@ -28,36 +28,36 @@ blank-piece : (n : ℕ) → nth ([] ∷ []) n ≡ []
 blank-piece zero = refl
 blank-piece (suc n) = refl
 
-later-piece : (sep n : ℕ) (s : List ℕ) → nth (split sep s) (suc n) ≡ nth (split sep (afterSep sep s)) n
-unfolding split afterSep
+later-piece : (sep n : ℕ) (s : List ℕ) → nth (split sep s) (suc n) ≡ nth (split sep (after_sep sep s)) n
+unfolding split after_sep
 later-piece sep n [] = sym (blank-piece n)
 later-piece sep n (x ∷ s) = cases (eqb x sep) (λ e. cc) (λ e. cc (onto-tail x n (split sep s), later-piece sep n s))
 
 pub piece-at : (sep n : ℕ) (s : List ℕ) → nth (split sep s) n ≡ until (is_byte sep) (onward sep n s)
 unfolding onward
 piece-at sep zero s = first_piece sep s
-piece-at sep (suc n) s = later-piece sep n s ∙ piece-at sep n (afterSep sep s)
+piece-at sep (suc n) s = later-piece sep n s ∙ piece-at sep n (after_sep sep s)
 
 -- ---- the first piece and the others
-pub split_after : (sep : ℕ) (s : List ℕ) → has sep s ≡ true → split sep s ≡ until (is_byte sep) s ∷ split sep (afterSep sep s)
-unfolding until afterSep onto
+pub split_after : (sep : ℕ) (s : List ℕ) → has sep s ≡ true → split sep s ≡ until (is_byte sep) s ∷ split sep (after_sep sep s)
+unfolding until after_sep onto
 split_after sep [] h = never (sym h ∙ has-nil sep)
 split_after sep (x ∷ s) h =
     cases (eqb x sep) (λ e. cc (split-here sep x s e))
     (λ e. cc (split-there sep x s e, split_after sep s (sym (has_there sep x s e) ∙ h)))
 
-after-within : (sep : ℕ) (s : List ℕ) → length (afterSep sep s) ≤ length s
-unfolding afterSep
+after-within : (sep : ℕ) (s : List ℕ) → length (after_sep sep s) ≤ length s
+unfolding after_sep
 after-within sep [] = omega arith
-after-within sep (x ∷ s) = cases (eqb x sep) (λ e. rw (e, afterSep) (omega arith)) (λ e. rw (e, afterSep) (omega (arith, after-within sep s)))
+after-within sep (x ∷ s) = cases (eqb x sep) (λ e. rw (e, after_sep) (omega arith)) (λ e. rw (e, after_sep) (omega (arith, after-within sep s)))
 
-pub after-short : (sep : ℕ) (s : List ℕ) → 0 < length s → length (afterSep sep s) < length s
-unfolding afterSep
+pub after-short : (sep : ℕ) (s : List ℕ) → 0 < length s → length (after_sep sep s) < length s
+unfolding after_sep
 after-short sep [] h = absurd (omega arith)
-after-short sep (x ∷ s) h = cases (eqb x sep) (λ e. rw (e, afterSep) (omega arith)) (λ e. rw (e, afterSep) (omega (arith, after-within sep s)))
+after-short sep (x ∷ s) h = cases (eqb x sep) (λ e. rw (e, after_sep) (omega arith)) (λ e. rw (e, after_sep) (omega (arith, after-within sep s)))
 
-pub after_free : (sep x : ℕ) (s : List ℕ) → has x s ≡ false → has x (afterSep sep s) ≡ false
-unfolding afterSep
+pub after_free : (sep x : ℕ) (s : List ℕ) → has x s ≡ false → has x (after_sep sep s) ≡ false
+unfolding after_sep
 after_free sep x [] h = h
 after_free sep x (b ∷ s) h = let q = has_first x b s h in cases (eqb b sep) (λ e. cc q.1) (λ e. cc (after_free sep x s q.1))
 
@@ -65,15 +65,15 @@ after_free sep x (b ∷ s) h = let q = has_first x b s h in cases (eqb b sep) (�
 pub onward-within : (sep n : ℕ) (s : List ℕ) → length (onward sep n s) ≤ length s
 unfolding onward
 onward-within sep zero s = omega arith
-onward-within sep (suc n) s = omega (arith, onward-within sep n (afterSep sep s), after-within sep s)
+onward-within sep (suc n) s = omega (arith, onward-within sep n (after_sep sep s), after-within sep s)
 
 -- ---- how many pieces there are
-pub after_none : (sep : ℕ) (s : List ℕ) → has sep s ≡ false → afterSep sep s ≡ []
-unfolding afterSep
+pub after_none : (sep : ℕ) (s : List ℕ) → has sep s ≡ false → after_sep sep s ≡ []
+unfolding after_sep
 after_none sep [] h = refl
 after_none sep (x ∷ s) h = let q = has_first sep x s h in cc (q.0, after_none sep s q.1)
 
-after-some : (sep : ℕ) (s : List ℕ) → has sep s ≡ true → length (split sep s) ≡ suc (length (split sep (afterSep sep s)))
+after-some : (sep : ℕ) (s : List ℕ) → has sep s ≡ true → length (split sep s) ≡ suc (length (split sep (after_sep sep s)))
 after-some sep s h = ap length (split_after sep s h)
 
 -- more than n + 1 pieces: a separator after the n-th
@@ -81,11 +81,11 @@ pieces-over : (sep n : ℕ) (s : List ℕ) → ltb (suc n) (length (split sep s)
 unfolding onward
 pieces-over sep zero s =
     cases (has sep s)
-    (λ e. lt-ltb 1 (length (split sep s)) (omega (arith, after-some sep s e, pieces-length sep (afterSep sep s))) ∙ sym e)
+    (λ e. lt-ltb 1 (length (split sep s)) (omega (arith, after-some sep s e, pieces-length sep (after_sep sep s))) ∙ sym e)
     (λ e. ap (λ (l : List (List ℕ)). ltb 1 (length l)) (split-none sep s e) ∙ sym e)
 pieces-over sep (suc n) s =
     cases (has sep s)
-    (λ e. ap (ltb (suc (suc n))) (after-some sep s e) ∙ leb-suc-suc (suc (suc n)) (length (split sep (afterSep sep s))) ∙ pieces-over sep n (afterSep sep s))
+    (λ e. ap (ltb (suc (suc n))) (after-some sep s e) ∙ leb-suc-suc (suc (suc n)) (length (split sep (after_sep sep s))) ∙ pieces-over sep n (after_sep sep s))
     (λ e. ap (λ (l : List (List ℕ)). ltb (suc (suc n)) (length l)) (split-none sep s e)
     ∙ le-ltb (suc (suc n)) 1 (omega arith) ∙ sym (le-ltb (suc n) 1 (omega arith))
     ∙ ap (λ (l : List (List ℕ)). ltb (suc n) (length l)) (sym (split-nil sep)) ∙ pieces-over sep n [] ∙ ap (λ (l : List ℕ). has sep (onward sep n l)) (sym (after_none sep s e)))
@@ -108,21 +108,21 @@ until-free sep [] = has-nil sep
 until-free sep (x ∷ s) = cases (eqb x sep) (λ e. cc (has-nil sep)) (λ e. cc (has_there sep x (until (is_byte sep) s) e, until-free sep s))
 
 -- a field's repetition; a repetition's component
-pub repetition-is : (d : Delims) (m : List ℕ) → until (is_byte d.repetition) (until (is_byte d.field) m) ≡ until (endsRepetition d) m
-repetition-is d m = until-both (is_byte d.field) (is_byte d.repetition) (endsRepetition d) (λ b. refl) m
+pub repetition-is : (d : Delims) (m : List ℕ) → until (is_byte d.repetition) (until (is_byte d.field) m) ≡ until (ends_repetition d) m
+repetition-is d m = until-both (is_byte d.field) (is_byte d.repetition) (ends_repetition d) (λ b. refl) m
 
-component-is : (d : Delims) (m : List ℕ) → until (is_byte d.component) (until (endsRepetition d) m) ≡ until (ends d) m
+component-is : (d : Delims) (m : List ℕ) → until (is_byte d.component) (until (ends_repetition d) m) ≡ until (ends d) m
 unfolding ends
-component-is d m = until-both (endsRepetition d) (is_byte d.component) (ends d) (λ b. refl) m
+component-is d m = until-both (ends_repetition d) (is_byte d.component) (ends d) (λ b. refl) m
 
 -- ---- one component on
-ends-no : (d : Delims) (x : ℕ) → ends d x ≡ false → (endsRepetition d x ≡ false) × (eqb x d.component ≡ false)
+ends-no : (d : Delims) (x : ℕ) → ends d x ≡ false → (ends_repetition d x ≡ false) × (eqb x d.component ≡ false)
 unfolding ends
-ends-no d x e = neither (endsRepetition d x) (eqb x d.component) e
+ends-no d x e = neither (ends_repetition d x) (eqb x d.component) e
 
-ends-yes : (d : Delims) (x : ℕ) → ends d x ≡ true → eqb x d.component ≡ false → endsRepetition d x ≡ true
+ends-yes : (d : Delims) (x : ℕ) → ends d x ≡ true → eqb x d.component ≡ false → ends_repetition d x ≡ true
 unfolding ends
-ends-yes d x e f = sym (or-false (endsRepetition d x)) ∙ ap (λ (t : Bool). endsRepetition d x || t) (sym f) ∙ e
+ends-yes d x e f = sym (or-false (ends_repetition d x)) ∙ ap (λ (t : Bool). ends_repetition d x || t) (sym f) ∙ e
 
 next-there : (d : Delims) (x : ℕ) (m : List ℕ) → ends d x ≡ false → next d (x ∷ m) ≡ next d m
 unfolding next
@@ -137,12 +137,12 @@ unfolding next next_from
 next-nil d = rw (until-nil (ends d))
 
 -- a byte stands inside a component, between two, or ends the repetition
-byteCases : {P : Type 0} (d : Delims) → Proper d → (x : ℕ) (m : List ℕ)
+byte_cases : {P : Type 0} (d : Delims) → Proper d → (x : ℕ) (m : List ℕ)
     → (eqb x d.field ≡ false → eqb x d.repetition ≡ false → eqb x d.component ≡ false → next d (x ∷ m) ≡ next d m → P)
     → (eqb x d.field ≡ false → eqb x d.repetition ≡ false → eqb x d.component ≡ true → next d (x ∷ m) ≡ m → P)
-    → (endsRepetition d x ≡ true → next d (x ∷ m) ≡ x ∷ m → P) → P
+    → (ends_repetition d x ≡ true → next d (x ∷ m) ≡ x ∷ m → P) → P
 unfolding next_from
-byteCases d p x m inside between past =
+byte_cases d p x m inside between past =
     cases (ends d x)
     (λ e. cases (eqb x d.component)
     (λ f. let q : x ≡ d.component = eqb-true x d.component f in
@@ -154,27 +154,27 @@ byteCases d p x m inside between past =
 
 module _ (d : Delims) (p : Proper d) where
   -- in the repetition at the start
-  after_next : (m : List ℕ) → afterSep d.component (until (endsRepetition d) m) ≡ until (endsRepetition d) (next d m)
-  unfolding afterSep until
+  after_next : (m : List ℕ) → after_sep d.component (until (ends_repetition d) m) ≡ until (ends_repetition d) (next d m)
+  unfolding after_sep until
   after_next [] = rw (next-nil d)
   after_next (x ∷ m) =
-      byteCases d p x m (λ f r c n. cc (after_next m)) (λ f r c n. cc) (λ e n. cc)
+      byte_cases d p x m (λ f r c n. cc (after_next m)) (λ f r c n. cc) (λ e n. cc)
 
-  onward-forward : (n : ℕ) (m : List ℕ) → onward d.component n (until (endsRepetition d) m) ≡ until (endsRepetition d) (forward d n m)
+  onward-forward : (n : ℕ) (m : List ℕ) → onward d.component n (until (ends_repetition d) m) ≡ until (ends_repetition d) (forward d n m)
   unfolding onward forward
   onward-forward zero m = refl
   onward-forward (suc n) m = ap (onward d.component n) (after_next m) ∙ onward-forward n (next d m)
 
   -- its components
-  pub component-at : (n : ℕ) (m : List ℕ) → nth (split d.component (until (endsRepetition d) m)) n ≡ until (ends d) (forward d n m)
-  component-at n m = piece-at d.component n (until (endsRepetition d) m) ∙ ap (until (is_byte d.component)) (onward-forward n m) ∙ component-is d (forward d n m)
+  pub component-at : (n : ℕ) (m : List ℕ) → nth (split d.component (until (ends_repetition d) m)) n ≡ until (ends d) (forward d n m)
+  component-at n m = piece-at d.component n (until (ends_repetition d) m) ∙ ap (until (is_byte d.component)) (onward-forward n m) ∙ component-is d (forward d n m)
 
   -- in the field at the start
   next-repeats : (m : List ℕ) → has d.repetition (until (is_byte d.field) (next d m)) ≡ has d.repetition (until (is_byte d.field) m)
   unfolding until
   next-repeats [] = rw (next-nil d)
   next-repeats (x ∷ m) =
-      byteCases d p x m
+      byte_cases d p x m
       (λ f r c n. cc (has_there d.repetition x (until (is_byte d.field) m) r, next-repeats m))
       (λ f r c n. cc (has_there d.repetition x (until (is_byte d.field) m) r))
       (λ e n. cc)
@@ -183,7 +183,7 @@ module _ (d : Delims) (p : Proper d) where
   unfolding until
   next-long [] = rw (next-nil d)
   next-long (x ∷ m) =
-      byteCases d p x m
+      byte_cases d p x m
       (λ f r c n. let z : until (is_byte d.field) (x ∷ m) ≡ x ∷ until (is_byte d.field) m = cc in rw (n, z) (omega (arith, next-long m)))
       (λ f r c n. let z : until (is_byte d.field) (x ∷ m) ≡ x ∷ until (is_byte d.field) m = cc in rw (n, z) (omega arith))
       (λ e n. rw n)
@@ -191,7 +191,7 @@ module _ (d : Delims) (p : Proper d) where
   next-short : (m : List ℕ) → length (next d m) ≤ length m
   next-short [] = rw (next-nil d) (omega arith)
   next-short (x ∷ m) =
-      byteCases d p x m (λ f r c n. rw n (omega (arith, next-short m))) (λ f r c n. rw n (omega arith)) (λ e n. rw n (omega arith))
+      byte_cases d p x m (λ f r c n. rw n (omega (arith, next-short m))) (λ f r c n. rw n (omega arith)) (λ e n. rw n (omega arith))
 
   pub forward-repeats : (n : ℕ) (m : List ℕ) → has d.repetition (until (is_byte d.field) (forward d n m)) ≡ has d.repetition (until (is_byte d.field) m)
   unfolding forward
@@ -209,7 +209,7 @@ module _ (d : Delims) (p : Proper d) where
   forward-short (suc n) m = omega (arith, forward-short n (next d m), next-short m)
 
 -- a field without repetitions is its first repetition
-pub whole-field : (d : Delims) (m : List ℕ) → has d.repetition (until (is_byte d.field) m) ≡ false → until (is_byte d.field) m ≡ until (endsRepetition d) m
+pub whole-field : (d : Delims) (m : List ℕ) → has d.repetition (until (is_byte d.field) m) ≡ false → until (is_byte d.field) m ≡ until (ends_repetition d) m
 whole-field d m h = sym (until_none d.repetition (until (is_byte d.field) m) h) ∙ repetition-is d m
 
 -- more than n + 1 components: another after the n-th

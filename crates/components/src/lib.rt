@@ -2,9 +2,9 @@
 ghost use Rattle.std.specs.Prelude.{◌≡◌, [], ◌∷◌, ◌≤◌, length};
 ghost use Rattle.rules.specs.Shift.{met};
 ghost use Rattle.rules.specs.Proper.{Proper};
-ghost use Rattle.value.specs.Rules.{faultNo};
+ghost use Rattle.value.specs.Rules.{fault_no};
 ghost use Rattle.judge.specs.Judge.{Clean};
-ghost use Rattle.components.specs.Components.{placeFault, Smalls, JudgedOf, ComponentsOf};
+ghost use Rattle.components.specs.Components.{place_fault, Smalls, JudgedOf, ComponentsOf};
 
 use rules::Delims;
 use value::{Fault, Place};
@@ -13,7 +13,7 @@ use value::{Fault, Place};
 
 fn judge_place(raw: &[u8], d: Delims, place: Place) -> Fault
     requires { Smalls place }
-    ensures { faultNo result ≡ placeFault d place (met raw.now) }
+    ensures { fault_no result ≡ place_fault d place (met raw.now) }
 {
     match place {
         Place::Unread => Fault::Nothing,
@@ -24,7 +24,7 @@ fn judge_place(raw: &[u8], d: Delims, place: Place) -> Fault
 
 // The same of a component that has neither escape byte nor subcomponent separator.
 fn judge_clean_place(raw: &[u8], place: Place) -> Fault
-    ensures { (d : Delims) → Clean d raw.now → faultNo result ≡ placeFault d place (met raw.now) }
+    ensures { (d : Delims) → Clean d raw.now → fault_no result ≡ place_fault d place (met raw.now) }
 {
     match place {
         Place::Unread => Fault::Nothing,
@@ -42,7 +42,7 @@ pub struct Judged {
 
 pub fn component(t: &[u8], d: Delims, place: Place) -> Judged
     requires { Proper d × Smalls place }
-    ensures judged_of { JudgedOf d place t.now (faultNo result.fault) result.len }
+    ensures judged_of { JudgedOf d place t.now (fault_no result.fault) result.len }
     ensures within { result.len ≤ length t.now }
 {
     let c = scan::first(t, d);
@@ -68,7 +68,7 @@ pub struct Components {
 
 pub fn one(t: &[u8], d: Delims, a: Place) -> Components
     requires { Proper d × Smalls a }
-    ensures components_of { ComponentsOf d (a ∷ []) t.now result.repeats (faultNo result.fault) result.head result.len }
+    ensures components_of { ComponentsOf d (a ∷ []) t.now result.repeats (fault_no result.fault) result.head result.len }
     ensures within { (result.len ≤ length t.now) × (result.head ≤ length t.now) }
 {
     let x = component(t, d, a);
@@ -85,7 +85,7 @@ pub fn one(t: &[u8], d: Delims, a: Place) -> Components
 
 fn two(t: &[u8], d: Delims, a: Place, b: Place) -> Components
     requires { Proper d × Smalls a × Smalls b }
-    ensures components_of { ComponentsOf d (a ∷ b ∷ []) t.now result.repeats (faultNo result.fault) result.head result.len }
+    ensures components_of { ComponentsOf d (a ∷ b ∷ []) t.now result.repeats (fault_no result.fault) result.head result.len }
     ensures within { (result.len ≤ length t.now) × (result.head ≤ length t.now) }
 {
     let x = component(t, d, a);
@@ -104,7 +104,7 @@ fn two(t: &[u8], d: Delims, a: Place, b: Place) -> Components
 
 pub fn three(t: &[u8], d: Delims, a: Place, b: Place, c: Place) -> Components
     requires { Proper d × Smalls a × Smalls b × Smalls c }
-    ensures components_of { ComponentsOf d (a ∷ b ∷ c ∷ []) t.now result.repeats (faultNo result.fault) result.head result.len }
+    ensures components_of { ComponentsOf d (a ∷ b ∷ c ∷ []) t.now result.repeats (fault_no result.fault) result.head result.len }
     ensures within { (result.len ≤ length t.now) × (result.head ≤ length t.now) }
 {
     let x = component(t, d, a);

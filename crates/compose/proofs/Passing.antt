@@ -12,28 +12,28 @@ use Rattle.rules.specs.declared.Name.{Name}
 use Rattle.rules.specs.declared.Name.TheVariants.{Obr}
 use Rattle.rules.specs.Told.{gives, refusal, ◌when◌}
 use Rattle.rules.specs.Lists.{nth}
-use Rattle.rules.specs.Frame.{is, start, mayEnd}
+use Rattle.rules.specs.Frame.{is, start, may_end}
 use Rattle.rules.specs.Proper.{Proper}
 use Rattle.rules.specs.Row.{lines, Row, row_of}
-use Rattle.rules.specs.Sheet.{lines_of, pastGroup}
-use Rattle.rules.specs.Message.{zeros, counted, written, messageOf}
+use Rattle.rules.specs.Sheet.{lines_of, past_group}
+use Rattle.rules.specs.Message.{zeros, counted, written, message_of}
 use Rattle.order.specs.declared.Reached.{Reached}
-use Rattle.order.specs.Order.{reachedOf}
-use Rattle.writer.specs.Over.{overFront, Wrote, Put}
+use Rattle.order.specs.Order.{reached_of}
+use Rattle.writer.specs.Over.{over_front, Wrote, Put}
 use Rattle.writer.proofs.Laws.{then}
 use Rattle.lines.specs.declared.Verdict.{Verdict}
 use Rattle.lines.specs.declared.Verdict.TheVariants.{Fine}
-use Rattle.lines.specs.Lines.{longestSheet, Cut, HasLine, isFine}
-use Rattle.groups.specs.Groups.{groupValues, index_of, VerdictOn}
+use Rattle.lines.specs.Lines.{longest_sheet, Cut, HasLine, is_fine}
+use Rattle.groups.specs.Groups.{group_values, index_of, VerdictOn}
 use Rattle.openings.specs.Openings.{Next}
-use Rattle.sheets.specs.Sheet.{kind_of, refusalAt, rowsIn}
+use Rattle.sheets.specs.Sheet.{kind_of, refusal_at, rows_in}
 use Rattle.sheets.proofs.Judging as Judging
 use Rattle.sheets.proofs.Judging.{Reading}
 use Rattle.numbered.specs.declared.Numbers.{Numbers}
-use Rattle.numbered.specs.Numbered.{numbersOf}
+use Rattle.numbered.specs.Numbered.{numbers_of}
 use Rattle.compose.specs.declared.Passed.TheVariants.{All, Not}
-use Rattle.compose.specs.Compose.{groupText, FitAt, longestGroup, FaultFree, Pass}
-use Rattle.compose.proofs.Messages.{numbersIn, message-more, segments-more, numbers_more, message-none, segments-none}
+use Rattle.compose.specs.Compose.{group_text, FitAt, longest_group, FaultFree, Pass}
+use Rattle.compose.proofs.Messages.{numbers_in, message-more, segments-more, numbers_more, message-none, segments-none}
 
 -- behind the groups that have led to a: what is read and still to be told, as in judging; what is written and counted
 pub record Passing (d : Delims) (s : List ℕ) (known : Bool) (out₀ : List ℕ) (a : Reached) (at line bytes segments : ℕ) (numbers : Numbers) (places out : List ℕ) : Type 0 where
@@ -41,27 +41,27 @@ pub record Passing (d : Delims) (s : List ℕ) (known : Bool) (out₀ : List ℕ
   pub read : Reading s rows a at line places
   pub right : known ≡ true → FaultFree s
   pub proper : Proper d
-  pub bytes-few : bytes ≤ longestGroup * at
+  pub bytes-few : bytes ≤ longest_group * at
   pub segments-few : segments ≤ 2 * at
   pub specimens-few : numbers.specimen ≤ at
   pub results-few : numbers.result ≤ at
-  pub bytes-are : bytes ≡ length (messageOf d rows)
+  pub bytes-are : bytes ≡ length (message_of d rows)
   pub segments-are : segments ≡ length (written d rows)
-  pub numbers-are : numbersOf numbers ≡ numbersIn zeros rows
+  pub numbers-are : numbers_of numbers ≡ numbers_in zeros rows
   pub same : length out ≡ length out₀
-  pub wrote : length (messageOf d rows) ≤ length out₀ → out ≡ overFront (messageOf d rows) out₀
+  pub wrote : length (message_of d rows) ≤ length out₀ → out ≡ over_front (message_of d rows) out₀
 
 -- ---- a verdict that is known
 pub unjudged : (known : Bool) (h : Name) (ts : List (List ℕ)) → (known ≡ true → VerdictOn (lines h) ts Fine) → known ≡ true → VerdictOn (lines h) ts Fine
 unjudged known h ts f k = f k
 
 -- ---- a refusal
-refuses : (d : Delims) (s x y : List ℕ) (r : Refusal) → rowsIn s ≡ refusal r → Pass d s x (Not r) y
+refuses : (d : Delims) (s x y : List ℕ) (r : Refusal) → rows_in s ≡ refusal r → Pass d s x (Not r) y
 refuses d s x y r e = record { told = rw e; wrote = λ rows g m. cc }
 
-pub begins : (d : Delims) (s : List ℕ) (known : Bool) (out places : List ℕ) (a : Reached) → (length s ≤ longestSheet) × (known ≡ true → FaultFree s) × Proper d → Cut 10 s places → reachedOf a ≡ start
+pub begins : (d : Delims) (s : List ℕ) (known : Bool) (out places : List ℕ) (a : Reached) → (length s ≤ longest_sheet) × (known ≡ true → FaultFree s) × Proper d → Cut 10 s places → reached_of a ≡ start
     → Passing d s known out a 0 1 0 0 (record { specimen = 0; result = 0 }) places out
-unfolding numbersIn overFront
+unfolding numbers_in over_front
 begins d s known out places a h cut e = record {
   rows = [];
   read = Judging.reads s places a h.0 cut e;
@@ -87,34 +87,34 @@ module _ {d : Delims} {s : List ℕ} {known : Bool} {out₀ : List ℕ} {a : Rea
   ts = lines_of rest
 
   -- ---- a line more, and the group that it begins
-  module _ {q : Bool} (there : HasLine q places) (yes : q ≡ true) {h : Name} (next : Next (reachedOf a) (nth ts 0) h) where
+  module _ {q : Bool} (there : HasLine q places) (yes : q ≡ true) {h : Name} (next : Next (reached_of a) (nth ts 0) h) where
     module _ {v : Verdict} (says : VerdictOn (lines h) ts v) where
       -- ---- its lines are wrong
-      pub unread-told : {f : Bool} → f ≡ isFine v → not f ≡ true → {r : Refusal} → r ≡ refusalAt (kind_of v) (line + index_of v) → {y : List ℕ} → Pass d s out₀ (Not r) y
+      pub unread-told : {f : Bool} → f ≡ is_fine v → not f ≡ true → {r : Refusal} → r ≡ refusal_at (kind_of v) (line + index_of v) → {y : List ℕ} → Pass d s out₀ (Not r) y
       unread-told e n {r} t {y} = refuses d s out₀ y r (Judging.unread-told inv.read there yes next says e n t)
 
       -- ---- its lines are right: b, m, r and y are where it leads, its numbers, the end of its text and the buffer then
-      module _ {n : ℕ} (count : (n ≡ length (lines h)) × (n ≤ 10)) {m : Numbers} (ms : (numbersOf m ≡ counted (numbersOf numbers) h) × ((m.specimen ≤ numbers.specimen + 1) × (m.result ≤ numbers.result + 1))) where
+      module _ {n : ℕ} (count : (n ≡ length (lines h)) × (n ≤ 10)) {m : Numbers} (ms : (numbers_of m ≡ counted (numbers_of numbers) h) × ((m.specimen ≤ numbers.specimen + 1) × (m.result ≤ numbers.result + 1))) where
         abbrev done : List Row
         done = inv.rows
 
         abbrev text : List ℕ
-        text = groupText d (numbersOf m) h ts
+        text = group_text d (numbers_of m) h ts
 
-        counts : numbersOf m ≡ counted (numbersIn zeros done) h
+        counts : numbers_of m ≡ counted (numbers_in zeros done) h
         counts = ms.0 ∙ rw inv.numbers-are
 
-        pub goes : {f : Bool} → f ≡ isFine v → not f ≡ false → {b : Reached} → reachedOf b ≡ pastGroup (reachedOf a) h
-            → {r u : ℕ} {y : List ℕ} → FitAt bytes out text r y × (r ≤ bytes + longestGroup) → (u ≡ (1 when is h Obr)) × (u ≤ 1)
+        pub goes : {f : Bool} → f ≡ is_fine v → not f ≡ false → {b : Reached} → reached_of b ≡ past_group (reached_of a) h
+            → {r u : ℕ} {y : List ℕ} → FitAt bytes out text r y × (r ≤ bytes + longest_group) → (u ≡ (1 when is h Obr)) × (u ≤ 1)
             → {next-places : List ℕ} → Cut 10 (take (length s - (at + get_or places n 0)) (drop (at + get_or places n 0) s)) next-places
             → Passing d s known out₀ b (at + get_or places n 0) (line + n) r (segments + (1 + u)) m next-places y
         goes {f} e q {b} g {r} {u} {y} w us {next-places} next-cut =
             let p = Judging.forward inv.read there yes next count in
-            let grown : messageOf d (done ++ row_of h (groupValues h ts)) ≡ messageOf d done ++ text = message-more d done (numbersOf m) h ts counts in
-            let ends : r ≡ length (messageOf d (done ++ row_of h (groupValues h ts)))
-            = w.0.ends ∙ ap (λ (k : ℕ). k + length text) inv.bytes-are ∙ sym (ap length grown ∙ length-append (messageOf d done) text) in
+            let grown : message_of d (done ++ row_of h (group_values h ts)) ≡ message_of d done ++ text = message-more d done (numbers_of m) h ts counts in
+            let ends : r ≡ length (message_of d (done ++ row_of h (group_values h ts)))
+            = w.0.ends ∙ ap (λ (k : ℕ). k + length text) inv.bytes-are ∙ sym (ap length grown ∙ length-append (message_of d done) text) in
             record {
-              rows = done ++ row_of h (groupValues h ts);
+              rows = done ++ row_of h (group_values h ts);
               read = Judging.read-on inv.read there yes next says count e q g next-cut;
               right = inv.right;
               proper = inv.proper;
@@ -123,11 +123,11 @@ module _ {d : Delims} {s : List ℕ} {known : Bool} {out₀ : List ℕ} {a : Rea
               specimens-few = omega (arith, inv.specimens-few, ms.1.0);
               results-few = omega (arith, inv.results-few, ms.1.1);
               bytes-are = ends;
-              segments-are = ap (λ (k : ℕ). k + (1 + u)) inv.segments-are ∙ ap (λ (k : ℕ). length (written d done) + (1 + k)) us.0 ∙ sym (segments-more d done (numbersOf m) h ts counts next.lined);
-              numbers-are = numbers_more d done (numbersOf m) h ts counts;
+              segments-are = ap (λ (k : ℕ). k + (1 + u)) inv.segments-are ∙ ap (λ (k : ℕ). length (written d done) + (1 + k)) us.0 ∙ sym (segments-more d done (numbers_of m) h ts counts next.lined);
+              numbers-are = numbers_more d done (numbers_of m) h ts counts;
               same = w.0.same ∙ inv.same;
               wrote = λ room.
-                  let old : Wrote bytes out (messageOf d done) out₀ = record { ends = inv.bytes-are; is = inv.wrote (omega (arith, ap length grown, length-append (messageOf d done) text)) } in
+                  let old : Wrote bytes out (message_of d done) out₀ = record { ends = inv.bytes-are; is = inv.wrote (omega (arith, ap length grown, length-append (message_of d done) text)) } in
                   let put : Put bytes out text r y = record { ends = w.0.ends; is = w.0.is (omega (arith, inv.same)) } in
                   rw grown (then old put).is;
             }
@@ -137,13 +137,13 @@ module _ {d : Delims} {s : List ℕ} {known : Bool} {out₀ : List ℕ} {a : Rea
     known-fine k = Judging.known-fine inv.read there yes next (inv.right k).told
 
   -- ---- no line more
-  module _ {q : Bool} (there : HasLine q places) (last : q ≡ false) {p : Bool} (e : p ≡ mayEnd (reachedOf a)) where
-    pub ends-refused : {r : Refusal} → not p ≡ true → r ≡ refusalAt Key line → Pass d s out₀ (Not r) out
+  module _ {q : Bool} (there : HasLine q places) (last : q ≡ false) {p : Bool} (e : p ≡ may_end (reached_of a)) where
+    pub ends-refused : {r : Refusal} → not p ≡ true → r ≡ refusal_at Key line → Pass d s out₀ (Not r) out
     ends-refused {r} h f = refuses d s out₀ out r (Judging.ends-early inv.read there last e h f)
 
     pub ends-all : not p ≡ false → Pass d s out₀ (All (record { bytes = bytes; segments = segments })) out
     ends-all h =
-        let w : rowsIn s ≡ gives inv.rows = Judging.ends-well inv.read there last e h in
+        let w : rows_in s ≡ gives inv.rows = Judging.ends-well inv.read there last e h in
         record {
           told = rw (w, inv.bytes-are, inv.segments-are);
           wrote = λ rows x y. let z : inv.rows ≡ rows = cc in rw (← z) (inv.wrote (rw z y));

@@ -18,17 +18,17 @@ use Rattle.rules.specs.Message.{Numbers, zeros}
 use Rattle.rules.specs.Message as Message
 use Rattle.rules.proofs.Logic.{cases, never, not-true, not-false}
 use Rattle.rules.proofs.Names.{name-is}
-use Rattle.writer.specs.Over.{overFront, overAt, Wrote, Put, fitted, Fit}
+use Rattle.writer.specs.Over.{over_front, over_at, Wrote, Put, fitted, Fit}
 use Rattle.writer.proofs.Laws.{back, then}
-use Rattle.segments.specs.Segments.{groupSegment}
+use Rattle.segments.specs.Segments.{group_segment}
 use Rattle.segments.proofs.Texts.{shapes}
 use Rattle.numbered.specs.declared.Numbers.{Numbers as Coded}
-use Rattle.numbered.specs.Numbered.{numbersOf}
-use Rattle.compose.specs.Compose.{groupText, FitAt}
+use Rattle.numbered.specs.Numbered.{numbers_of}
+use Rattle.compose.specs.Compose.{group_text, FitAt}
 
 -- ---- a write where there is room, at a place
 fitted-length : (w old : List ℕ) → length (fitted w old) ≡ length old
-unfolding fitted overFront
+unfolding fitted over_front
 fitted-length w old =
     cases (leb (length w) (length old))
     (λ e. rw e (simp (length-append, length-drop) (omega (arith, leb-true (length w) (length old) e))))
@@ -47,18 +47,18 @@ added x text y at from k h g p =
     record {
       ends = omega (arith, p.ends);
       same = simp (length-append, length-take-le from x h, s, t, length-drop) (omega arith);
-      is = λ w. let f : from ≡ at = g (omega arith) in (back from x (fit-over p (omega arith))).is ∙ ap (λ (q : ℕ). overAt q text x) f;
+      is = λ w. let f : from ≡ at = g (omega arith) in (back from x (fit-over p (omega arith))).is ∙ ap (λ (q : ℕ). over_at q text x) f;
     }
 
 -- ---- one behind another
 front-own : (at : ℕ) (x : List ℕ) → at ≤ length x → Wrote at x (take at x) x
-unfolding overFront
+unfolding over_front
 front-own at x h =
     let l : length (take at x) ≡ at = length-take-le at x h in
     record { ends = sym l; is = sym (ap (λ (n : ℕ). take at x ++ drop n x) l ∙ take-append-drop at x) }
 
-over-two : (at : ℕ) (x b : List ℕ) → at ≤ length x → overFront (take at x ++ b) x ≡ overAt at b x
-unfolding overFront overAt
+over-two : (at : ℕ) (x b : List ℕ) → at ≤ length x → over_front (take at x ++ b) x ≡ over_at at b x
+unfolding over_front over_at
 over-two at x b h =
     let l : length (take at x ++ b) ≡ at + length b = length-append (take at x) b ∙ ap (λ (n : ℕ). n + length b) (length-take-le at x h) in
     rw (l, drop-drop (length b) at x, append_assoc)
@@ -76,12 +76,12 @@ both-put x y z b c at m r p q = record {
 
 -- ---- a group's segments
 module _ (d : Delims) (n : Numbers) (ts : List (List ℕ)) where
-  order-two : groupSegment d n Obr 0 ts ++ groupSegment d zeros Obr 1 ts ≡ groupText d n Obr ts
-  unfolding shapes groupText
+  order-two : group_segment d n Obr 0 ts ++ group_segment d zeros Obr 1 ts ≡ group_text d n Obr ts
+  unfolding shapes group_text
   order-two = simp (append_assoc, append-nil)
 
-  one_only : (g : Name) → is g Obr ≡ false → groupSegment d n g 0 ts ≡ groupText d n g ts
-  unfolding shapes groupText
+  one_only : (g : Name) → is g Obr ≡ false → group_segment d n g 0 ts ≡ group_text d n g ts
+  unfolding shapes group_text
   one_only Msh h = refl
   one_only Pid h = refl
   one_only Pv1 h = refl
@@ -92,21 +92,21 @@ module _ (d : Delims) (n : Numbers) (ts : List (List ℕ)) where
   one_only Other h = refl
 
   -- the first in what remains of x from the place from on: it has k bytes and leaves y there
-  module _ (g : Name) (x y : List ℕ) (at from k : ℕ) (h : from ≤ length x) (f : at ≤ length x → from ≡ at) (p : Fit k y (groupSegment d n g 0 ts) (take (length x - from) (drop from x)))
+  module _ (g : Name) (x y : List ℕ) (at from k : ℕ) (h : from ≤ length x) (f : at ≤ length x → from ≡ at) (p : Fit k y (group_segment d n g 0 ts) (take (length x - from) (drop from x)))
       (q : Bool) (e : q ≡ is g Obr) where
     abbrev whole : List ℕ
     whole = take from x ++ (y ++ drop (length x - from) (drop from x))
 
-    pub one-put : not q ≡ true → FitAt at x (groupText d n g ts) (at + k) whole
-    one-put o = rw (one_only g (sym e ∙ not-true q o)) at (added x (groupSegment d n g 0 ts) y at from k h f p)
+    pub one-put : not q ≡ true → FitAt at x (group_text d n g ts) (at + k) whole
+    one-put o = rw (one_only g (sym e ∙ not-true q o)) at (added x (group_segment d n g 0 ts) y at from k h f p)
 
     pub order-put : not q ≡ false → (z : List ℕ) (behind m : ℕ) → behind ≤ length whole → (at + k ≤ length whole → behind ≡ at + k)
-        → Fit m z (groupSegment d zeros Obr 1 ts) (take (length whole - behind) (drop behind whole))
-        → FitAt at x (groupText d n g ts) (at + k + m) (take behind whole ++ (z ++ drop (length whole - behind) (drop behind whole)))
+        → Fit m z (group_segment d zeros Obr 1 ts) (take (length whole - behind) (drop behind whole))
+        → FitAt at x (group_text d n g ts) (at + k + m) (take behind whole ++ (z ++ drop (length whole - behind) (drop behind whole)))
     order-put o z behind m l j r =
         let b : g ≡ Obr = name-is g Obr (sym e ∙ not-false q o) in
-        let one : FitAt at x (groupSegment d n Obr 0 ts) (at + k) whole = rw b at (added x (groupSegment d n g 0 ts) y at from k h f p) in
-        rw (b, ← order-two) (both-put x whole _ (groupSegment d n Obr 0 ts) (groupSegment d zeros Obr 1 ts) at (at + k) (at + k + m) one (added whole (groupSegment d zeros Obr 1 ts) z (at + k) behind m l j r))
+        let one : FitAt at x (group_segment d n Obr 0 ts) (at + k) whole = rw b at (added x (group_segment d n g 0 ts) y at from k h f p) in
+        rw (b, ← order-two) (both-put x whole _ (group_segment d n Obr 0 ts) (group_segment d zeros Obr 1 ts) at (at + k) (at + k + m) one (added whole (group_segment d zeros Obr 1 ts) z (at + k) behind m l j r))
 
 -- ---- counting
 module _ (x a g : Name) (n : ℕ) (p : Bool) (e : p ≡ is g x) where
@@ -124,6 +124,6 @@ module _ (x a g : Name) (n : ℕ) (p : Bool) (e : p ≡ is g x) where
     count_same k = rw (← e, h, ← f, k)
 
 pub counted_is : (n : Coded) (g : Name) (i j : ℕ) → i ≡ Frame.counting Spm Msh n.specimen g → j ≡ Frame.counting Obx Obr n.result g
-    → record { specimen = i; result = j } ≡ Message.counted (numbersOf n) g
+    → record { specimen = i; result = j } ≡ Message.counted (numbers_of n) g
 unfolding Message.counted
 counted_is n g i j e f = rw (e, f)

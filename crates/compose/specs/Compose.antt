@@ -5,50 +5,50 @@ use Rattle.rules.specs.declared.Name.{Name}
 use Rattle.rules.specs.Told.{Told, gives, refusal, ◌>>=◌}
 use Rattle.rules.specs.Lists.{ended}
 use Rattle.rules.specs.Row.{Row}
-use Rattle.rules.specs.Message.{Numbers, segmentText, written, messageOf}
-use Rattle.writer.specs.Over.{overFront, overAt}
-use Rattle.lines.specs.Lines.{longestSheet}
-use Rattle.sheets.specs.Sheet.{rowsIn}
-use Rattle.segments.specs.Segments.{groupPieces, longestSegment}
+use Rattle.rules.specs.Message.{Numbers, segment_text, written, message_of}
+use Rattle.writer.specs.Over.{over_front, over_at}
+use Rattle.lines.specs.Lines.{longest_sheet}
+use Rattle.sheets.specs.Sheet.{rows_in}
+use Rattle.segments.specs.Segments.{group_pieces, longest_segment}
 use Rattle.compose.specs.declared.Size.{Size}
 use Rattle.compose.specs.declared.Passed.{Passed}
 use Rattle.compose.specs.declared.Passed.TheVariants.{All, Not}
 
 -- the text of the group g that the lines ts begin with, whose numbers are n
-unfoldable pub groupText : Delims → Numbers → Name → List (List ℕ) → List ℕ
-groupText d n g ts = ended 0x0D (map (segmentText d) (groupPieces d n g ts))
+unfoldable pub group_text : Delims → Numbers → Name → List (List ℕ) → List ℕ
+group_text d n g ts = ended 0x0D (map (segment_text d) (group_pieces d n g ts))
 
 -- a write of b over x from at on, where there is room: it ends at r, and leaves y
 pub record FitAt (at : ℕ) (x b : List ℕ) (r : ℕ) (y : List ℕ) : Type 0 where
   pub ends : r ≡ at + length b
   pub same : length y ≡ length x
-  pub is : r ≤ length x → y ≡ overAt at b x
+  pub is : r ≤ length x → y ≡ over_at at b x
 
 -- no group has so many bytes, and no message that is measured ends so far
-abbrev pub longestGroup : ℕ
-longestGroup = 2 * longestSegment
+abbrev pub longest_group : ℕ
+longest_group = 2 * longest_segment
 
-abbrev pub farthestEnd : ℕ
-farthestEnd = longestGroup * longestSheet
+abbrev pub farthest_end : ℕ
+farthest_end = longest_group * longest_sheet
 
 -- what a pass answers
-abbrev pub toldSize : Passed → Told Size
-toldSize (All n) = gives n
-toldSize (Not r) = refusal r
+abbrev pub told_size : Passed → Told Size
+told_size (All n) = gives n
+told_size (Not r) = refusal r
 
 abbrev pub size_of : Delims → List Row → Size
-size_of d rows = record { bytes = length (messageOf d rows); segments = length (written d rows) }
+size_of d rows = record { bytes = length (message_of d rows); segments = length (written d rows) }
 
 -- how many bytes and segments the message of the sheet s has, or its refusal
-abbrev pub sizeTold : Delims → List ℕ → Told Size
-sizeTold d s = rowsIn s >>= λ rows. gives (size_of d rows)
+abbrev pub size_told : Delims → List ℕ → Told Size
+size_told d s = rows_in s >>= λ rows. gives (size_of d rows)
 
 -- the sheet s has no fault
 pub record FaultFree (s : List ℕ) : Type 0 where
   pub rows : List Row
-  pub told : rowsIn s ≡ gives rows
+  pub told : rows_in s ≡ gives rows
 
 -- a pass over the sheet s: what it tells, and that where there is room for the message, it is written
 pub record Pass (d : Delims) (s x : List ℕ) (r : Passed) (y : List ℕ) : Type 0 where
-  pub told : toldSize r ≡ sizeTold d s
-  pub wrote : (rows : List Row) → rowsIn s ≡ gives rows → length (messageOf d rows) ≤ length x → y ≡ overFront (messageOf d rows) x
+  pub told : told_size r ≡ size_told d s
+  pub wrote : (rows : List Row) → rows_in s ≡ gives rows → length (message_of d rows) ≤ length x → y ≡ over_front (message_of d rows) x

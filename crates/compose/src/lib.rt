@@ -6,10 +6,10 @@ ghost use Rattle.rules.specs.Row.{lines};
 ghost use Rattle.rules.specs.Sheet.{lines_of};
 ghost use Rattle.rules.specs.Proper.{Proper};
 ghost use Rattle.rules.specs.Message as Message;
-ghost use Rattle.lines.specs.Lines.{longestSheet, Cut};
+ghost use Rattle.lines.specs.Lines.{longest_sheet, Cut};
 ghost use Rattle.groups.specs.Groups.{VerdictOn};
-ghost use Rattle.numbered.specs.Numbered.{numbersOf, Sources};
-ghost use Rattle.compose.specs.Compose.{groupText, FitAt, longestGroup, farthestEnd, FaultFree, Pass};
+ghost use Rattle.numbered.specs.Numbered.{numbers_of, Sources};
+ghost use Rattle.compose.specs.Compose.{group_text, FitAt, longest_group, farthest_end, FaultFree, Pass};
 
 use lines::Verdict;
 use numbered::Numbers;
@@ -36,9 +36,9 @@ fn put_group(
     numbers: Numbers,
     d: Delims,
 ) -> usize
-    requires { Sources s.now places.now numbers d × (at ≤ farthestEnd) }
-    ensures fit_at { FitAt at out.old (groupText d (numbersOf numbers) name (lines_of s.now)) result out.new }
-    ensures within { result ≤ at + longestGroup }
+    requires { Sources s.now places.now numbers d × (at ≤ farthest_end) }
+    ensures fit_at { FitAt at out.old (group_text d (numbers_of numbers) name (lines_of s.now)) result out.new }
+    ensures within { result ≤ at + longest_group }
 {
     let from = least(at, out.len());
     let end = at + numbered::put_first(&mut out[from..], name, s, places, numbers, d);
@@ -53,7 +53,7 @@ fn put_group(
 
 // How many of a name there are with one name more, counted anew at another.
 fn counting(x: Name, anew: Name, n: usize, name: Name) -> usize
-    requires { n ≤ longestSheet }
+    requires { n ≤ longest_sheet }
     ensures value { result ≡ Frame.counting x anew n name }
     ensures within { result ≤ n + 1 }
 {
@@ -68,8 +68,8 @@ fn counting(x: Name, anew: Name, n: usize, name: Name) -> usize
 
 // The numbers with a group more.
 fn counted(n: Numbers, name: Name) -> Numbers
-    requires { (n.specimen ≤ longestSheet) × (n.result ≤ longestSheet) }
-    ensures result_value { numbersOf result ≡ Message.counted (numbersOf n) name }
+    requires { (n.specimen ≤ longest_sheet) × (n.result ≤ longest_sheet) }
+    ensures result_value { numbers_of result ≡ Message.counted (numbers_of n) name }
     ensures within { (result.specimen ≤ n.specimen + 1) × (result.result ≤ n.result + 1) }
 {
     let specimen = n.specimen;
@@ -108,7 +108,7 @@ fn verdict(known: bool, name: Name, s: &[u8], places: &[usize; 11]) -> Verdict
 
 // A pass over the groups of a sheet. A buffer too short for the message is left in any state, and one with room has the message over its front.
 pub fn pass(out: &mut [u8], sheet: &[u8], d: Delims, known: bool) -> Passed
-    requires { (length sheet.now ≤ longestSheet) × (known ≡ true → FaultFree sheet.now) × Proper d }
+    requires { (length sheet.now ≤ longest_sheet) × (known ≡ true → FaultFree sheet.now) × Proper d }
     ensures { Pass d sheet.now out.old result out.new }
 {
     let mut reached = order::start();

@@ -3,11 +3,11 @@
 ghost use Rattle.std.specs.Prelude.{◌≡◌, ◌<◌, length};
 ghost use Rattle.rules.specs.Told.{gives};
 ghost use Rattle.csv_rules.specs.Answers.{SheetCall};
-ghost use Rattle.csv_rules.specs.Sheets.{csvCount, placeAfter};
+ghost use Rattle.csv_rules.specs.Sheets.{csv_count, place_after};
 ghost use Rattle.csv_rules.specs.Promises.{SheetsCounted, LineTold, CsvSheetWritten, NextSheetWritten};
 ghost use Rattle.csv_rules.specs.Claims.{place_of};
-ghost use Rattle.csv_runs.specs.Sheet.{sheetAt};
-ghost use Rattle.csv.specs.Calls.{Convertible, copiedTold, madeTold};
+ghost use Rattle.csv_runs.specs.Sheet.{sheet_at};
+ghost use Rattle.csv.specs.Calls.{Convertible, copied_told, made_told};
 
 use csv_check::FileVerdict;
 use csv_rules::{Counted, CsvSheets, FileFault, Made, Next};
@@ -58,7 +58,7 @@ fn room() -> [u8; 65537]
 
 // A right sheet, copied where there is room: 45.
 fn copied(sheet: &[u8], out: &mut [u8]) -> Made
-    ensures { SheetCall (copiedTold sheet.now (length out.old)) out.old result out.new }
+    ensures { SheetCall (copied_told sheet.now (length out.old)) out.old result out.new }
 {
     if out.len() < sheet.len() {
         return refused(Kind::Room);
@@ -68,7 +68,7 @@ fn copied(sheet: &[u8], out: &mut [u8]) -> Made
 
 // A sheet that was made is judged before it is copied: 40 to 43, 45.
 fn handed(sheet: &[u8], out: &mut [u8]) -> Made
-    ensures { SheetCall (madeTold sheet.now (length out.old)) out.old result out.new }
+    ensures { SheetCall (made_told sheet.now (length out.old)) out.old result out.new }
 {
     match sheets::judge(sheet) {
         SheetVerdict::Wrong(refusal) => Made::Unfit(refusal),
@@ -79,7 +79,7 @@ fn handed(sheet: &[u8], out: &mut [u8]) -> Made
 // A sheet that the small buffer can't hold, made once more in one that can: its rows convert.
 fn large(file: &[u8], at: usize, mode: &[u8], sent: &[u8], control: &[u8], out: &mut [u8]) -> Made
     requires { (at < length file.now) × Convertible file.now at }
-    ensures { SheetCall (madeTold (sheetAt file.now at (record { mode = mode.entry.now; sent = sent.now; control = control.now })) (length out.old)) out.old result out.new }
+    ensures { SheetCall (made_told (sheet_at file.now at (record { mode = mode.entry.now; sent = sent.now; control = control.now })) (length out.old)) out.old result out.new }
 {
     let mut sheet = room();
     made_in(&mut sheet, file, at, mode, sent, control, out)
@@ -95,7 +95,7 @@ fn made_in(
     out: &mut [u8],
 ) -> Made
     requires { (length sheet.old ≡ 65537) × (at < length file.now) × Convertible file.now at }
-    ensures { SheetCall (madeTold (sheetAt file.now at (record { mode = mode.entry.now; sent = sent.now; control = control.now })) (length out.old)) out.old result out.new }
+    ensures { SheetCall (made_told (sheet_at file.now at (record { mode = mode.entry.now; sent = sent.now; control = control.now })) (length out.old)) out.old result out.new }
 {
     let put = csv_runs::put_sheet(sheet, file, at, mode, sent, control);
     let end = put.end;
@@ -168,7 +168,7 @@ fn next_in(
 
 // ---- the which-th sheet
 fn place_after(file: &[u8], at: usize) -> usize
-    ensures { result ≡ placeAfter file.now at }
+    ensures { result ≡ place_after file.now at }
 {
     if file.len() <= at {
         return file.len();
@@ -223,7 +223,7 @@ fn sheet_of(
     control: &[u8],
     out: &mut [u8],
 ) -> Made
-    requires { csvCount file.now ≡ gives sheets }
+    requires { csv_count file.now ≡ gives sheets }
     ensures { CsvSheetWritten file.now which (record { mode = mode.entry.now; sent = sent.now; control = control.now }) out.old result out.new }
 {
     if which == 0 {

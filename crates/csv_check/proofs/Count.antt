@@ -13,7 +13,7 @@ use Rattle.rules.proofs.Logic.{cases, never, both}
 use Rattle.rules.proofs.Lists.{here, over}
 use Rattle.csv_rules.specs.Count.{numeral, counts}
 use Rattle.csv_rules.specs.Written.{halved}
-use Rattle.csv_check.specs.Walk.{capped, withDigit, ColumnsAre}
+use Rattle.csv_check.specs.Walk.{capped, with_digit, ColumnsAre}
 
 -- ---- a number as far as the code counts
 abbrev top : ℕ
@@ -23,31 +23,31 @@ capped-high : (n : ℕ) → top ≤ n → capped n ≡ top
 unfolding capped
 capped-high n h = rw (le-ltb n top h)
 
-cappedCases : {P : Type 0} (n : ℕ) → (n < top → capped n ≡ n → P) → (top ≤ n → capped n ≡ top → P) → P
+capped_cases : {P : Type 0} (n : ℕ) → (n < top → capped n ≡ n → P) → (top ≤ n → capped n ≡ top → P) → P
 unfolding capped
-cappedCases n f g =
+capped_cases n f g =
     cases (ltb n top) (λ e. f (ltb-true n top e) (rw e)) (λ e. let h = ltb-false n top e in g h (capped-high n h))
 
 -- numbers that are equal so far: equal, or both too large
-sameCapped : {P : Type 0} (a b : ℕ) → capped a ≡ capped b → (a ≡ b → P) → (top ≤ a → top ≤ b → P) → P
-sameCapped a b e f g =
-    cappedCases a
-    (λ p q. cappedCases b (λ r s. f (sym q ∙ e ∙ s)) (λ r s. absurd (let z : a ≡ top = sym q ∙ e ∙ s in omega arith)))
-    (λ p q. cappedCases b (λ r s. absurd (let z : top ≡ b = sym q ∙ e ∙ s in omega arith)) (λ r s. g p r))
+same_capped : {P : Type 0} (a b : ℕ) → capped a ≡ capped b → (a ≡ b → P) → (top ≤ a → top ≤ b → P) → P
+same_capped a b e f g =
+    capped_cases a
+    (λ p q. capped_cases b (λ r s. f (sym q ∙ e ∙ s)) (λ r s. absurd (let z : a ≡ top = sym q ∙ e ∙ s in omega arith)))
+    (λ p q. capped_cases b (λ r s. absurd (let z : top ≡ b = sym q ∙ e ∙ s in omega arith)) (λ r s. g p r))
 
 pub same_count : (a b k : ℕ) → capped a ≡ capped b → k < top → eqb k a ≡ eqb k b
 same_count a b k e h =
-    sameCapped a b e (ap (eqb k)) (λ p q. ne_eqb k a (λ z. absurd (omega arith)) ∙ sym (ne_eqb k b (λ z. absurd (omega arith))))
+    same_capped a b e (ap (eqb k)) (λ p q. ne_eqb k a (λ z. absurd (omega arith)) ∙ sym (ne_eqb k b (λ z. absurd (omega arith))))
 
 same-seven : (a b : ℕ) → capped a ≡ capped b → leb 7 a ≡ leb 7 b
-same-seven a b e = sameCapped a b e (ap (leb 7)) (λ p q. le-leb 7 a (omega arith) ∙ sym (le-leb 7 b (omega arith)))
+same-seven a b e = same_capped a b e (ap (leb 7)) (λ p q. le-leb 7 a (omega arith) ∙ sym (le-leb 7 b (omega arith)))
 
 capped-on : (n m d : ℕ) → capped n ≡ capped m → capped (10 * n + d) ≡ capped (10 * m + d)
 capped-on n m d e =
-    sameCapped n m e (ap (λ (k : ℕ). capped (10 * k + d))) (λ p q. capped-high (10 * n + d) (omega arith) ∙ sym (capped-high (10 * m + d) (omega arith)))
+    same_capped n m e (ap (λ (k : ℕ). capped (10 * k + d))) (λ p q. capped-high (10 * n + d) (omega arith) ∙ sym (capped-high (10 * m + d) (omega arith)))
 
-goes-capped : (n b : ℕ) → capped (10 * n + (b - 48)) ≡ capped (withDigit n b)
-unfolding withDigit
+goes-capped : (n b : ℕ) → capped (10 * n + (b - 48)) ≡ capped (with_digit n b)
+unfolding with_digit
 goes-capped n b =
     cases (ltb n 1000000000000000000)
     (λ e. rw e)
@@ -63,12 +63,12 @@ numeral-capped (b ∷ s) n m e = numeral-capped s (10 * n + (b - 48)) (10 * m + 
 pub digit_low : (b : ℕ) → digit b ≡ true → 48 ≤ b
 digit_low b h = leb-true 48 b (both (leb 48 b) (leb b 57) h).0
 
-pub goes-low : (n b : ℕ) → n < 1000000000000000000 → 10 * n + (b - 48) ≡ withDigit n b
-unfolding withDigit
+pub goes-low : (n b : ℕ) → n < 1000000000000000000 → 10 * n + (b - 48) ≡ with_digit n b
+unfolding with_digit
 goes-low n b h = rw (lt-ltb n 1000000000000000000 h)
 
-pub goes-high : (n b : ℕ) → 1000000000000000000 ≤ n → 10000000000000000000 ≡ withDigit n b
-unfolding withDigit
+pub goes-high : (n b : ℕ) → 1000000000000000000 ≤ n → 10000000000000000000 ≡ with_digit n b
+unfolding with_digit
 goes-high n b h = rw (le-ltb n 1000000000000000000 h)
 
 -- ---- digits as they lie in the file: no quote is among them
@@ -134,7 +134,7 @@ module _ (s : List ℕ) (i n : ℕ) (p : Counting s i n) where
     pub count-digit : not d ≡ false → digit (get_or s i 0) ≡ true
     count-digit g = sym e ∙ not-false d g
 
-    pub count-on : not d ≡ false → (r : ℕ) → r ≡ withDigit n (get_or s i 0) → Counting s (i + 1) r
+    pub count-on : not d ≡ false → (r : ℕ) → r ≡ with_digit n (get_or s i 0) → Counting s (i + 1) r
     unfolding all numeral
     count-on g r q = record {
       place = omega arith;

@@ -10,15 +10,15 @@ use lib.Dec.{eqb, ltb}
 use lib.ListN.{length, take, drop}
 use Rattle.rules.specs.Lists.{empty, onto, nth, all}
 use Rattle.rules.proofs.Logic.{cases, never}
-use Rattle.csv_rules.specs.Quote.{Lines, end, broken, line, more, Stand, Begins, Comma, Inside, Quote, Cr, linesAt, cut, isBroken, FileLine, linesIn}
+use Rattle.csv_rules.specs.Quote.{Lines, end, broken, line, more, Stand, Begins, Comma, Inside, Quote, Cr, lines_at, cut, is_broken, FileLine, lines_in}
 use Rattle.csv_rules.specs.Count.{numeral, counts}
 use Rattle.csv_rules.specs.Kanji.{convertible}
-use Rattle.csv_rules.specs.Sheets.{rowConverts, bytesIn, firstRow}
-use Rattle.csv_rules.specs.Spot.{firstNot, countLine}
+use Rattle.csv_rules.specs.Sheets.{row_converts, bytes_in, first_row}
+use Rattle.csv_rules.specs.Spot.{first_not, count_line}
 use Rattle.csv_rules.specs.Written.{halved}
-use Rattle.csv_rows.specs.Rows.{itemBytes, item_at, RowIs}
+use Rattle.csv_rows.specs.Rows.{item_bytes, item_at, RowIs}
 use Rattle.csv_rows.proofs.Laws.{row-lines, row-unbroken, row-broken, rows_end}
-use Rattle.csv_check.specs.Walk.{capped, firstFound, countSpot, ColumnsAre, columnItem, WalkIs}
+use Rattle.csv_check.specs.Walk.{capped, first_found, count_spot, ColumnsAre, column_item, WalkIs}
 use Rattle.csv_check.specs.Looked.{LookedIs}
 use Rattle.csv_check.proofs.Count.{same_count}
 
@@ -54,44 +54,44 @@ read Inside = 1
 read Quote = 2
 read Cr = 3
 
-lines-few : (a : Stand) (s : List ℕ) → Few (read a) (linesAt a s)
-unfolding linesAt read Few
+lines-few : (a : Stand) (s : List ℕ) → Few (read a) (lines_at a s)
+unfolding lines_at read Few
 lines-few Begins [] = tt
 lines-few Comma [] = tt
 lines-few Inside [] = tt
 lines-few Quote [] = omega arith
 lines-few Cr [] = tt
-lines-few Begins (b ∷ s) = cases (eqb b 0x22) (λ e. rw (e, linesAt) (few-same 0 (linesAt Inside s) (lines-few Inside s))) (λ e. rw (e, linesAt) tt)
-lines-few Comma (b ∷ s) = cases (eqb b 0x22) (λ e. rw (e, linesAt) (few-same 0 (linesAt Inside s) (lines-few Inside s))) (λ e. rw (e, linesAt) tt)
+lines-few Begins (b ∷ s) = cases (eqb b 0x22) (λ e. rw (e, lines_at) (few-same 0 (lines_at Inside s) (lines-few Inside s))) (λ e. rw (e, lines_at) tt)
+lines-few Comma (b ∷ s) = cases (eqb b 0x22) (λ e. rw (e, lines_at) (few-same 0 (lines_at Inside s) (lines-few Inside s))) (λ e. rw (e, lines_at) tt)
 lines-few Inside (b ∷ s) =
     cases (eqb b 0x22)
-    (λ e. rw (e, linesAt) (few-same 1 (linesAt Quote s) (lines-few Quote s)))
-    (λ e. rw (e, linesAt) (few-onto b 0 (linesAt Inside s) (lines-few Inside s)))
+    (λ e. rw (e, lines_at) (few-same 1 (lines_at Quote s) (lines-few Quote s)))
+    (λ e. rw (e, lines_at) (few-onto b 0 (lines_at Inside s) (lines-few Inside s)))
 lines-few Quote (b ∷ s) =
     cases (eqb b 0x22)
-    (λ e. rw (e, linesAt) (few-onto b 1 (linesAt Inside s) (lines-few Inside s)))
+    (λ e. rw (e, lines_at) (few-onto b 1 (lines_at Inside s) (lines-few Inside s)))
     (λ e. cases (eqb b 0x2C)
-    (λ g. rw (e, g, linesAt) (few-item (linesAt Comma s) (lines-few Comma s)))
+    (λ g. rw (e, g, lines_at) (few-item (lines_at Comma s) (lines-few Comma s)))
     (λ g. cases (eqb b 0x0D)
-    (λ h. rw (e, g, h, linesAt) (few-same 2 (linesAt Cr s) (lines-few Cr s)))
-    (λ h. rw (e, g, h, linesAt) tt)))
-lines-few Cr (b ∷ s) = cases (eqb b 0x0A) (λ e. rw (e, linesAt) (omega arith)) (λ e. rw (e, linesAt) tt)
+    (λ h. rw (e, g, h, lines_at) (few-same 2 (lines_at Cr s) (lines-few Cr s)))
+    (λ h. rw (e, g, h, lines_at) tt)))
+lines-few Cr (b ∷ s) = cases (eqb b 0x0A) (λ e. rw (e, lines_at) (omega arith)) (λ e. rw (e, lines_at) tt)
 
 -- ---- 51 over all lines: the first two are no rows
-unfoldable pub firstOff : ℕ → ℕ → List FileLine → ℕ
-firstOff m k [] = 0
-firstOff m k (l ∷ ls) = elim (ltb k 3 || eqb (length l.items) m) [ true ↦ firstOff m (suc k) ls | false ↦ k ]
+unfoldable pub first_off : ℕ → ℕ → List FileLine → ℕ
+first_off m k [] = 0
+first_off m k (l ∷ ls) = elim (ltb k 3 || eqb (length l.items) m) [ true ↦ first_off m (suc k) ls | false ↦ k ]
 
-off-later : (m k : ℕ) (ls : List FileLine) → 3 ≤ k → firstOff m k ls ≡ firstNot (λ (r : FileLine). eqb (length r.items) m) k ls
-unfolding firstOff firstNot
+off-later : (m k : ℕ) (ls : List FileLine) → 3 ≤ k → first_off m k ls ≡ first_not (λ (r : FileLine). eqb (length r.items) m) k ls
+unfolding first_off first_not
 off-later m k [] h = refl
 off-later m k (l ∷ ls) h =
     cases (eqb (length l.items) m)
-    (λ e. rw (le-ltb k 3 h, e, firstOff, firstNot) (off-later m (suc k) ls (omega arith)))
-    (λ e. rw (le-ltb k 3 h, e, firstOff, firstNot))
+    (λ e. rw (le-ltb k 3 h, e, first_off, first_not) (off-later m (suc k) ls (omega arith)))
+    (λ e. rw (le-ltb k 3 h, e, first_off, first_not))
 
-off-first : (m : ℕ) (ls : List FileLine) → firstOff m 1 ls ≡ firstNot (λ (r : FileLine). eqb (length r.items) m) 3 (drop 2 ls)
-unfolding firstOff firstNot
+off-first : (m : ℕ) (ls : List FileLine) → first_off m 1 ls ≡ first_not (λ (r : FileLine). eqb (length r.items) m) 3 (drop 2 ls)
+unfolding first_off first_not
 off-first m [] = refl
 off-first m (v ∷ []) = refl
 off-first m (v ∷ (h ∷ ls)) = off-later m 3 ls (omega arith)
@@ -103,8 +103,8 @@ or_else a b = cond (eqb a 0) b a
 no_zero : (n : ℕ) → eqb (suc n) 0 ≡ false
 no_zero n = ne_eqb (suc n) 0 (λ e. absurd (omega arith))
 
-found-on : (found j x : ℕ) (t : Bool) → or_else found (elim t [ true ↦ x | false ↦ suc j ]) ≡ or_else (firstFound found (suc j) t) x
-unfolding firstFound
+found-on : (found j x : ℕ) (t : Bool) → or_else found (elim t [ true ↦ x | false ↦ suc j ]) ≡ or_else (first_found found (suc j) t) x
+unfolding first_found
 found-on zero j x true = refl
 found-on zero j x false = rw (no_zero j)
 found-on (suc i) j x t = rw (no_zero i) (rw (no_zero i))
@@ -113,12 +113,12 @@ found_all : (found : ℕ) → or_else found 0 ≡ found
 found_all zero = refl
 found_all (suc n) = rw (no_zero n)
 
-pub found-yes : (found n : ℕ) (t : Bool) → (eqb found 0 && not t) ≡ true → n ≡ firstFound found n t
-unfolding firstFound
+pub found-yes : (found n : ℕ) (t : Bool) → (eqb found 0 && not t) ≡ true → n ≡ first_found found n t
+unfolding first_found
 found-yes found n t h = rw h
 
-pub found-no : (found n : ℕ) (t : Bool) → (eqb found 0 && not t) ≡ false → found ≡ firstFound found n t
-unfolding firstFound
+pub found-no : (found n : ℕ) (t : Bool) → (eqb found 0 && not t) ≡ false → found ≡ first_found found n t
+unfolding first_found
 found-no found n t h = rw h
 
 pub before-yes : (n size : ℕ) → n < 3 → size ≡ cond (ltb n 3) size 0
@@ -129,14 +129,14 @@ before-no n size h = rw (le-ltb n 3 h)
 
 -- ---- the lines from a place on
 abbrev from : List ℕ → ℕ → List FileLine
-from f at = linesIn (cut (drop at f))
+from f at = lines_in (cut (drop at f))
 
 pub record Walking (f : List ℕ) (number at lines miscounted unconverted first : ℕ) : Type 0 where
-  pub quoting : isBroken (cut f) ≡ isBroken (cut (drop at f))
-  pub counts : length (linesIn (cut f)) ≡ lines + length (from f at)
-  pub counted : (m : ℕ) → capped number ≡ capped m → firstOff m 1 (linesIn (cut f)) ≡ or_else miscounted (firstOff m (suc lines) (from f at))
-  pub converted : firstNot rowConverts 1 (linesIn (cut f)) ≡ or_else unconverted (firstNot rowConverts (suc lines) (from f at))
-  pub rows : bytesIn (take 2 (linesIn (cut f))) ≡ first + bytesIn (take (2 - lines) (from f at))
+  pub quoting : is_broken (cut f) ≡ is_broken (cut (drop at f))
+  pub counts : length (lines_in (cut f)) ≡ lines + length (from f at)
+  pub counted : (m : ℕ) → capped number ≡ capped m → first_off m 1 (lines_in (cut f)) ≡ or_else miscounted (first_off m (suc lines) (from f at))
+  pub converted : first_not row_converts 1 (lines_in (cut f)) ≡ or_else unconverted (first_not row_converts (suc lines) (from f at))
+  pub rows : bytes_in (take 2 (lines_in (cut f))) ≡ first + bytes_in (take (2 - lines) (from f at))
   pub place : at ≤ length f
   pub few : lines ≤ at
   pub before : first ≤ at
@@ -155,17 +155,17 @@ walk-starts f number = record {
 
 module _ (f : List ℕ) (number at lines miscounted unconverted first : ℕ) (p : Walking f number at lines miscounted unconverted first) where
   -- nothing more is read
-  walk_ends : from f at ≡ [] → (b : Bool) → isBroken (cut (drop at f)) ≡ b → WalkIs f number b lines miscounted unconverted first
-  unfolding firstOff firstNot bytesIn
+  walk_ends : from f at ≡ [] → (b : Bool) → is_broken (cut (drop at f)) ≡ b → WalkIs f number b lines miscounted unconverted first
+  unfolding first_off first_not bytes_in
   walk_ends e b g = record {
     quoting = sym (p.quoting ∙ g);
     counts = let k : length (from f at) ≡ 0 = ap length e in omega (arith, p.counts);
-    counted = λ m h. sym (sym (off-first m (linesIn (cut f))) ∙ p.counted m h ∙ ap (λ (ls : List FileLine). or_else miscounted (firstOff m (suc lines) ls)) e ∙ found_all miscounted);
-    converted = sym (p.converted ∙ ap (λ (ls : List FileLine). or_else unconverted (firstNot rowConverts (suc lines) ls)) e ∙ found_all unconverted);
-    rows = let k : bytesIn (take (2 - lines) (from f at)) ≡ 0 = ap (λ (ls : List FileLine). bytesIn (take (2 - lines) ls)) e ∙ none (2 - lines) in omega (arith, p.rows);
+    counted = λ m h. sym (sym (off-first m (lines_in (cut f))) ∙ p.counted m h ∙ ap (λ (ls : List FileLine). or_else miscounted (first_off m (suc lines) ls)) e ∙ found_all miscounted);
+    converted = sym (p.converted ∙ ap (λ (ls : List FileLine). or_else unconverted (first_not row_converts (suc lines) ls)) e ∙ found_all unconverted);
+    rows = let k : bytes_in (take (2 - lines) (from f at)) ≡ 0 = ap (λ (ls : List FileLine). bytes_in (take (2 - lines) ls)) e ∙ none (2 - lines) in omega (arith, p.rows);
   }
     where
-      none : (n : ℕ) → bytesIn (take n []) ≡ 0
+      none : (n : ℕ) → bytes_in (take n []) ≡ 0
       none zero = refl
       none (suc n) = refl
 
@@ -195,7 +195,7 @@ module _ (f : List ℕ) (number at lines miscounted unconverted first : ℕ) (p 
       row-few : length f < 18446744073709551616 → count < 10000000000000000000
       unfolding Few read cut
       row-few k =
-          let c : linesAt Begins (drop at f) ≡ line t.items size (cut (drop (at + size) f)) =
+          let c : lines_at Begins (drop at f) ≡ line t.items size (cut (drop (at + size) f)) =
           t.is ∙ ap (λ (b : Bool). cond b broken (line t.items size (cut (drop (at + size) f)))) h in
           let n : length t.items + length t.items ≤ size + 0 = rw c at (lines-few Begins (drop at f)) in
           omega (arith, t.counted, t.place)
@@ -206,41 +206,41 @@ module _ (f : List ℕ) (number at lines miscounted unconverted first : ℕ) (p 
       row_next : from f at ≡ row ∷ from f (at + size)
       row_next = row-lines f at false spans size count good bad t h
 
-      module _ (x m u : ℕ) (a : m ≡ firstFound miscounted (lines + 1) (ltb (lines + 1) 3 || eqb count number))
-          (b : u ≡ firstFound unconverted (lines + 1) good) (w : x ≡ cond (ltb (lines + 1) 3) size 0) where
-        more_rows : bytesIn (take 2 (linesIn (cut f))) ≡ (first + x) + bytesIn (take (2 - (lines + 1)) (from f (at + size)))
-        unfolding bytesIn
+      module _ (x m u : ℕ) (a : m ≡ first_found miscounted (lines + 1) (ltb (lines + 1) 3 || eqb count number))
+          (b : u ≡ first_found unconverted (lines + 1) good) (w : x ≡ cond (ltb (lines + 1) 3) size 0) where
+        more_rows : bytes_in (take 2 (lines_in (cut f))) ≡ (first + x) + bytes_in (take (2 - (lines + 1)) (from f (at + size)))
+        unfolding bytes_in
         more_rows =
             cases (ltb (lines + 1) 3)
             (λ e.
             let k : 2 - lines ≡ suc (2 - (lines + 1)) = omega (arith, ltb-true (lines + 1) 3 e) in
-            let z : bytesIn (take (2 - lines) (from f at)) ≡ size + bytesIn (take (2 - (lines + 1)) (from f (at + size))) =
-            ap (λ (n : ℕ). bytesIn (take n (from f at))) k ∙ ap (λ (ls : List FileLine). bytesIn (take (suc (2 - (lines + 1))) ls)) row_next in
+            let z : bytes_in (take (2 - lines) (from f at)) ≡ size + bytes_in (take (2 - (lines + 1)) (from f (at + size))) =
+            ap (λ (n : ℕ). bytes_in (take n (from f at))) k ∙ ap (λ (ls : List FileLine). bytes_in (take (suc (2 - (lines + 1))) ls)) row_next in
             let y : x ≡ size = w ∙ rw e in
             omega (arith, p.rows))
             (λ e.
             let k : 2 - lines ≡ 0 = omega (arith, ltb-false (lines + 1) 3 e) in
             let n : 2 - (lines + 1) ≡ 0 = omega (arith, ltb-false (lines + 1) 3 e) in
-            let z : bytesIn (take (2 - lines) (from f at)) ≡ 0 = ap (λ (n : ℕ). bytesIn (take n (from f at))) k in
-            let o : bytesIn (take (2 - (lines + 1)) (from f (at + size))) ≡ 0 = ap (λ (n : ℕ). bytesIn (take n (from f (at + size)))) n in
+            let z : bytes_in (take (2 - lines) (from f at)) ≡ 0 = ap (λ (n : ℕ). bytes_in (take n (from f at))) k in
+            let o : bytes_in (take (2 - (lines + 1)) (from f (at + size))) ≡ 0 = ap (λ (n : ℕ). bytes_in (take n (from f (at + size)))) n in
             let y : x ≡ 0 = w ∙ rw e in
             omega (arith, p.rows))
 
         pub walk-on : at < length f → length f < 18446744073709551616 → Walking f number (at + size) (lines + 1) m u (first + x)
-        unfolding firstOff firstNot
+        unfolding first_off first_not
         walk-on l k = record {
           quoting = p.quoting ∙ row-unbroken f at false spans size count good bad t h;
           counts = let e : length (from f at) ≡ suc (length (from f (at + size))) = ap length row_next in omega (arith, p.counts);
           counted = λ n e.
               let q : eqb count number ≡ eqb (length t.items) n = same_count number n count e (row-few k) ∙ ap (λ (c : ℕ). eqb c n) t.counted in
               p.counted n e
-              ∙ ap (λ (ls : List FileLine). or_else miscounted (firstOff n (suc lines) ls)) row_next
-              ∙ found-on miscounted lines (firstOff n (suc (suc lines)) (from f (at + size))) (ltb (suc lines) 3 || eqb (length t.items) n)
+              ∙ ap (λ (ls : List FileLine). or_else miscounted (first_off n (suc lines) ls)) row_next
+              ∙ found-on miscounted lines (first_off n (suc (suc lines)) (from f (at + size))) (ltb (suc lines) 3 || eqb (length t.items) n)
               ∙ rw (a, add-one, q);
           converted =
               p.converted
-              ∙ ap (λ (ls : List FileLine). or_else unconverted (firstNot rowConverts (suc lines) ls)) row_next
-              ∙ found-on unconverted lines (firstNot rowConverts (suc (suc lines)) (from f (at + size))) (all convertible t.items)
+              ∙ ap (λ (ls : List FileLine). or_else unconverted (first_not row_converts (suc lines) ls)) row_next
+              ∙ found-on unconverted lines (first_not row_converts (suc (suc lines)) (from f (at + size))) (all convertible t.items)
               ∙ rw (b, add-one, t.converts);
           rows = more_rows;
           place = t.place;
@@ -253,45 +253,45 @@ no-columns : ColumnsAre [] false 0
 unfolding counts empty
 no-columns = record { is = refl; value = λ e. never (sym e) }
 
-pub columns-none : (f : List ℕ) → length f ≡ 0 → ColumnsAre (columnItem (linesIn (cut f))) false 0
-unfolding columnItem
+pub columns-none : (f : List ℕ) → length f ≡ 0 → ColumnsAre (column_item (lines_in (cut f))) false 0
+unfolding column_item
 columns-none f h = let e = (rows_end f 0 (omega arith)).0 in rw e no-columns
 
 module _ (f : List ℕ) (known : Bool) (spans : List ℕ) (size count : ℕ) (good bad : Bool) (t : RowIs f 0 known spans size count good bad) where
-  pub columns-broken : bad ≡ true → ColumnsAre (columnItem (linesIn (cut f))) false 0
-  unfolding columnItem
+  pub columns-broken : bad ≡ true → ColumnsAre (column_item (lines_in (cut f))) false 0
+  unfolding column_item
   columns-broken h = let e = (row-broken f 0 known spans size count good bad t h).0 in rw e no-columns
 
-  pub columns-read : bad ≡ false → (raw : List ℕ) → raw ≡ itemBytes f spans 1 → (g : Bool) (n : ℕ) → ColumnsAre (halved false raw) g n → ColumnsAre (columnItem (linesIn (cut f))) g n
-  unfolding columnItem item_at
+  pub columns-read : bad ≡ false → (raw : List ℕ) → raw ≡ item_bytes f spans 1 → (g : Bool) (n : ℕ) → ColumnsAre (halved false raw) g n → ColumnsAre (column_item (lines_in (cut f))) g n
+  unfolding column_item item_at
   columns-read h raw e g n c =
       let v : halved false raw ≡ nth t.items 1 = ap (halved false) e ∙ t.lies.each 1 (omega arith) in
-      let w : columnItem (linesIn (cut f)) ≡ nth t.items 1 = ap columnItem (row-lines f 0 known spans size count good bad t h) in
+      let w : column_item (lines_in (cut f)) ≡ nth t.items 1 = ap column_item (row-lines f 0 known spans size count good bad t h) in
       rw (w, ← v) c
 
 -- ---- 51 of the whole file
 module _ (lines : ℕ) (good : Bool) (miscounted : ℕ) where
-  pub spot-none : lines ≡ 0 → 1 ≡ countSpot lines good miscounted
-  unfolding countSpot
+  pub spot-none : lines ≡ 0 → 1 ≡ count_spot lines good miscounted
+  unfolding count_spot
   spot-none h = rw h
 
-  pub spot-one : lines ≡ 1 → 2 ≡ countSpot lines good miscounted
-  unfolding countSpot
+  pub spot-one : lines ≡ 1 → 2 ≡ count_spot lines good miscounted
+  unfolding count_spot
   spot-one h = rw h
 
   module _ (a : lines ≡ 0 → ⊥) (b : lines ≡ 1 → ⊥) where
-    pub spot-rows : good ≡ true → miscounted ≡ countSpot lines good miscounted
-    unfolding countSpot
+    pub spot-rows : good ≡ true → miscounted ≡ count_spot lines good miscounted
+    unfolding count_spot
     spot-rows h = rw (ne_eqb lines 0 a, ne_eqb lines 1 b, h)
 
-    pub spot-columns : good ≡ false → 1 ≡ countSpot lines good miscounted
-    unfolding countSpot
+    pub spot-columns : good ≡ false → 1 ≡ count_spot lines good miscounted
+    unfolding count_spot
     spot-columns h = rw (ne_eqb lines 0 a, ne_eqb lines 1 b, h)
 
-spot-line : (ls : List FileLine) (good : Bool) (number lines miscounted : ℕ) → ColumnsAre (columnItem ls) good number → lines ≡ length ls
-    → ((m : ℕ) → capped number ≡ capped m → miscounted ≡ firstNot (λ (r : FileLine). eqb (length r.items) m) 3 (drop 2 ls))
-    → countSpot lines good miscounted ≡ countLine ls
-unfolding countSpot countLine columnItem
+spot-line : (ls : List FileLine) (good : Bool) (number lines miscounted : ℕ) → ColumnsAre (column_item ls) good number → lines ≡ length ls
+    → ((m : ℕ) → capped number ≡ capped m → miscounted ≡ first_not (λ (r : FileLine). eqb (length r.items) m) 3 (drop 2 ls))
+    → count_spot lines good miscounted ≡ count_line ls
+unfolding count_spot count_line column_item
 spot-line [] good number lines miscounted c n h = rw n
 spot-line (v ∷ []) good number lines miscounted c n h = rw n
 spot-line (v ∷ (w ∷ ls)) good number lines miscounted c n h =
@@ -301,14 +301,14 @@ spot-line (v ∷ (w ∷ ls)) good number lines miscounted c n h =
     (λ e. rw (y, z, e, ← c.is, e) (h (numeral 0 (nth v.items 1)) (c.value e)))
     (λ e. rw (y, z, e, ← c.is, e))
 
-pub look-all : (f : List ℕ) (good : Bool) (number : ℕ) → ColumnsAre (columnItem (linesIn (cut f))) good number
+pub look-all : (f : List ℕ) (good : Bool) (number : ℕ) → ColumnsAre (column_item (lines_in (cut f))) good number
     → (b : Bool) (lines miscounted unconverted first : ℕ) → WalkIs f number b lines miscounted unconverted first
-    → (r : ℕ) → r ≡ countSpot lines good miscounted → LookedIs f b lines r unconverted first
-unfolding firstRow
+    → (r : ℕ) → r ≡ count_spot lines good miscounted → LookedIs f b lines r unconverted first
+unfolding first_row
 look-all f good number c b lines miscounted unconverted first w r e = record {
   quoting = w.quoting;
   counts = w.counts;
-  counted = e ∙ spot-line (linesIn (cut f)) good number lines miscounted c w.counts w.counted;
+  counted = e ∙ spot-line (lines_in (cut f)) good number lines miscounted c w.counts w.counted;
   converted = w.converted;
   rows = w.rows;
 }

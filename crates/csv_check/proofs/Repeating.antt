@@ -8,7 +8,7 @@ use borrow.Author.Tests.{ltb-true, ltb-false, leb-true, le-leb, eqb-true, eqb-fa
 use lib.Dec.{eqb, leb, ltb}
 use lib.ListN.{length, replicate}
 use Rattle.rules.proofs.Logic.{cases, both, never, and-false}
-use Rattle.csv_rules.specs.Sheets.{rowConverts}
+use Rattle.csv_rules.specs.Sheets.{row_converts}
 use Rattle.csv_rows.specs.Rows.{Inside, RowIs}
 use Rattle.csv_rows.proofs.Laws.{rows_end}
 use Rattle.csv_places.specs.Places.{Places}
@@ -17,7 +17,7 @@ use Rattle.csv_repeats.specs.Looks.{WithRow}
 use Rattle.csv_repeats.specs.Rounds.{Partly}
 use Rattle.csv_repeats.proofs.Laws.{nowhere}
 use Rattle.csv_repeats.proofs.Going.{Going, going-starts, going-places, going-ends, going-runs, going-met, going_on, with-few}
-use Rattle.csv_check.specs.Walk.{firstFound}
+use Rattle.csv_check.specs.Walk.{first_found}
 use Rattle.csv_check.specs.Repeats.{WalkedRows, RepeatsAre, Askable, WithRowIf}
 
 -- ---- where 53 and 54 are still looked for
@@ -93,13 +93,13 @@ module _ (f places before : List ℕ) (at lines unconverted first unkept line di
   }
 
   module _ (spans : List ℕ) (size n : ℕ) (good bad : Bool) (T : RowIs f at false spans size n good bad) (b : bad ≡ false)
-      (x u : ℕ) (w : x ≡ cond (ltb (lines + 1) 3) size 0) (i : u ≡ firstFound unconverted (lines + 1) good) where
+      (x u : ℕ) (w : x ≡ cond (ltb (lines + 1) 3) size 0) (i : u ≡ first_found unconverted (lines + 1) good) where
     abbrev asked : Bool
     asked = leb 3 (lines + 1) && eqb u 0 && eqb differs 0
 
     -- a row that is asked of: all before it convert, none differs, and the first row stays
     so_far : u ≡ 0 → (unconverted ≡ 0) × (good ≡ true)
-    unfolding firstFound
+    unfolding first_found
     so_far z =
         cases (eqb unconverted 0)
         (λ e. cases good (λ k. (eqb-true unconverted 0 e, k)) (λ k. absurd (let y : u ≡ lines + 1 = i ∙ rw (e, k) in omega arith)))
@@ -163,7 +163,7 @@ module _ (f places before : List ℕ) (at lines unconverted first unkept line di
           going : Going f first 3 places before at unkept line (lines + 1) returns count
           going = P.going l (so_far y).0 (eqb-true differs 0 z)
 
-          converts : rowConverts (record { items = T.items; size = size }) ≡ true
+          converts : row_converts (record { items = T.items; size = size }) ≡ true
           converts = sym T.converts ∙ (so_far y).1
 
           not_first : at ≡ 0 → ⊥

@@ -2,14 +2,14 @@
 // whose numbers the table of that walk could not keep.
 ghost use Rattle.std.specs.Prelude.{◌≡◌, true, false, cond, ltb};
 ghost use Rattle.rules.specs.Frame.{digit};
-ghost use Rattle.csv_rules.specs.Quote.{cut, linesIn};
-ghost use Rattle.csv_rules.specs.Sheets.{csvCount};
-ghost use Rattle.csv_rules.specs.Spot.{csvSpot};
+ghost use Rattle.csv_rules.specs.Quote.{cut, lines_in};
+ghost use Rattle.csv_rules.specs.Sheets.{csv_count};
+ghost use Rattle.csv_rules.specs.Spot.{csv_spot};
 ghost use Rattle.csv_rules.specs.Written.{halved};
-ghost use Rattle.csv_check.specs.Walk.{withDigit, firstFound, countSpot, ColumnsAre, columnItem, WalkIs};
+ghost use Rattle.csv_check.specs.Walk.{with_digit, first_found, count_spot, ColumnsAre, column_item, WalkIs};
 ghost use Rattle.csv_check.specs.Repeats.{Askable, WithRowIf, RepeatsAre};
 ghost use Rattle.csv_check.specs.Looked.{LookedIs};
-ghost use Rattle.csv_check.specs.Verdicts.{toldVerdict, line_of};
+ghost use Rattle.csv_check.specs.Verdicts.{told_verdict, line_of};
 
 use csv_repeats::Repeated;
 use csv_rules::{CsvSheets, FileFault};
@@ -36,7 +36,7 @@ struct Columns {
 // A number with one more digit.
 fn one_more(n: usize, b: u8) -> usize
     requires { digit b ≡ true }
-    ensures { result ≡ withDigit n b }
+    ensures { result ≡ with_digit n b }
 {
     if n < 1000000000000000000 {
         return 10 * n + (b - 48) as usize;
@@ -69,7 +69,7 @@ fn column_count(raw: &[u8]) -> Columns
 
 // The first line that a test refuses: the one found before, else this one, where it doesn't pass.
 fn first_found(found: usize, line: usize, passes: bool) -> usize
-    ensures { result ≡ firstFound found line passes }
+    ensures { result ≡ first_found found line passes }
 {
     if (found == 0) & !passes {
         return line;
@@ -89,7 +89,7 @@ fn before_rows(line: usize, size: usize) -> usize
 
 // 51: "no version or heading line, a column count there that isn't a number from 7 up, or a row with another count".
 fn count_spot(lines: usize, counts: bool, miscounted: usize) -> usize
-    ensures { result ≡ countSpot lines counts miscounted }
+    ensures { result ≡ count_spot lines counts miscounted }
 {
     if lines == 0 {
         return 1;
@@ -105,7 +105,7 @@ fn count_spot(lines: usize, counts: bool, miscounted: usize) -> usize
 
 // The column count of a file: the second item of its version line.
 fn columns_of(file: &[u8]) -> Columns
-    ensures { ColumnsAre (columnItem (linesIn (cut file.now))) result.counts result.number }
+    ensures { ColumnsAre (column_item (lines_in (cut file.now))) result.counts result.number }
 {
     if file.len() == 0 {
         return Columns {
@@ -248,8 +248,8 @@ fn wrong(fault: FileFault, line: usize) -> FileVerdict
 
 // 50 to 54, "in that order, each over the whole file".
 pub fn verdict_on(file: &[u8]) -> FileVerdict
-    ensures result_value { toldVerdict result ≡ csvCount file.now }
-    ensures line { line_of result ≡ csvSpot file.now }
+    ensures result_value { told_verdict result ≡ csv_count file.now }
+    ensures line { line_of result ≡ csv_spot file.now }
 {
     let found = look(file);
     if found.broken {

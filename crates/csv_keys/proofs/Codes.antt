@@ -16,14 +16,14 @@ use Rattle.rules.proofs.Logic.{cases, both, not-true}
 use Rattle.rules.proofs.Lists.{same-eq}
 use Rattle.value.specs.declared.Fault.{Fault}
 use Rattle.value.specs.declared.Rule.TheVariants.{Number}
-use Rattle.value.specs.Rules.{faultNo, fineOf, ruleOf}
+use Rattle.value.specs.Rules.{fault_no, fine_of, rule_of}
 use Rattle.value.proofs.Laws.{fine-zero, fault-some}
 use Rattle.csv_rules.specs.Written.{halved}
-use Rattle.csv_rules.specs.Columns.{meaningOf, type_of, sexes, classes, forms}
+use Rattle.csv_rules.specs.Columns.{meaning_of, type_of, sexes, classes, forms}
 use Rattle.csv_rules.proofs.Raw.{spelling, not-number}
-use Rattle.csv_rows.specs.Rows.{itemBytes, item_at}
-use Rattle.csv_keys.specs.Keys.{rawOf, KeyIs}
-use Rattle.csv_keys.specs.Ways.{itemIn, code_of, AsIs, Word}
+use Rattle.csv_rows.specs.Rows.{item_bytes, item_at}
+use Rattle.csv_keys.specs.Keys.{raw_of, KeyIs}
+use Rattle.csv_keys.specs.Ways.{item_in, code_of, AsIs, Word}
 use Rattle.csv_keys.proofs.Items.{item-length, all-halved, halved-plain, as-is-key}
 
 -- ---- the code of an item
@@ -63,8 +63,8 @@ unfoldable lookup : List (String × String) → ℕ → List ℕ → List ℕ
 lookup [] c v = v
 lookup (k ∷ cs) c v = cond (eqb c (code_of (bytes k.0))) (bytes k.1) (lookup cs c v)
 
-meaning-is : (cs : List (String × String)) (raw : List ℕ) → short cs ≡ true → meaningOf cs (halved false raw) ≡ lookup cs (code_of raw) (halved false raw)
-unfolding meaningOf lookup short
+meaning-is : (cs : List (String × String)) (raw : List ℕ) → short cs ≡ true → meaning_of cs (halved false raw) ≡ lookup cs (code_of raw) (halved false raw)
+unfolding meaning_of lookup short
 meaning-is [] raw h = refl
 meaning-is (k ∷ cs) raw h =
     let x = code_of (bytes k.0) in
@@ -74,12 +74,12 @@ meaning-is (k ∷ cs) raw h =
     let e : same (halved false raw) (bytes k.0) ≡ eqb (code_of raw) x =
     ap (same (halved false raw)) (same-eq (bytes k.0) (x ∷ []) q.0) ∙ same_code raw x (not-true (eqb x 0x22) r.0) (not-true (eqb x 0) r.1) in
     cases (eqb (code_of raw) x)
-    (λ t. rw (meaningOf, e, t))
-    (λ t. rw (meaningOf, e, t) (meaning-is cs raw p.1))
+    (λ t. rw (meaning_of, e, t))
+    (λ t. rw (meaning_of, e, t) (meaning-is cs raw p.1))
 
 -- a word is a key of any file
 pub word-key : (f w lead : List ℕ) (n start len : ℕ) → Word w lead n start len → KeyIs f w lead n start len
-unfolding rawOf halved
+unfolding raw_of halved
 word-key f w lead n start len p =
     record {
       is = rw (p.size_is, append-nil (take n lead)) p.is;
@@ -90,68 +90,68 @@ word-key f w lead n start len p =
     }
 
 module _ (f lead : List ℕ) (start len code n s l : ℕ) (e : code ≡ code_of (take len (drop start f))) where
-  coded : (cs : List (String × String)) (w : List ℕ) → short cs ≡ true → lookup cs code (itemIn f start len) ≡ w → Word w lead n s l
-      → KeyIs f (meaningOf cs (itemIn f start len)) lead n s l
+  coded : (cs : List (String × String)) (w : List ℕ) → short cs ≡ true → lookup cs code (item_in f start len) ≡ w → Word w lead n s l
+      → KeyIs f (meaning_of cs (item_in f start len)) lead n s l
   coded cs w o q p =
-      let z : meaningOf cs (itemIn f start len) ≡ w = meaning-is cs (take len (drop start f)) o ∙ rw (← e) q in
+      let z : meaning_of cs (item_in f start len) ≡ w = meaning-is cs (take len (drop start f)) o ∙ rw (← e) q in
       rw z (word-key f w lead n s l p)
 
-  uncoded : (cs : List (String × String)) → short cs ≡ true → lookup cs code (itemIn f start len) ≡ itemIn f start len → start + len ≤ length f
-      → AsIs start len lead n s l → KeyIs f (meaningOf cs (itemIn f start len)) lead n s l
+  uncoded : (cs : List (String × String)) → short cs ≡ true → lookup cs code (item_in f start len) ≡ item_in f start len → start + len ≤ length f
+      → AsIs start len lead n s l → KeyIs f (meaning_of cs (item_in f start len)) lead n s l
   uncoded cs o q h a =
-      let z : meaningOf cs (itemIn f start len) ≡ itemIn f start len = meaning-is cs (take len (drop start f)) o ∙ rw (← e) q in
-      as-is-key f (meaningOf cs (itemIn f start len)) lead start len n s l h (sym z) a
+      let z : meaning_of cs (item_in f start len) ≡ item_in f start len = meaning-is cs (take len (drop start f)) o ∙ rw (← e) q in
+      as-is-key f (meaning_of cs (item_in f start len)) lead start len n s l h (sym z) a
 
   -- the tables
-  pub sex-male : code ≡ 49 → Word (77 ∷ []) lead n s l → KeyIs f (meaningOf sexes (itemIn f start len)) lead n s l
+  pub sex-male : code ≡ 49 → Word (77 ∷ []) lead n s l → KeyIs f (meaning_of sexes (item_in f start len)) lead n s l
   unfolding lookup short bytes code_of same
   sex-male h w = coded sexes (77 ∷ []) refl (rw h) w
 
-  pub sex-female : code ≡ 50 → Word (70 ∷ []) lead n s l → KeyIs f (meaningOf sexes (itemIn f start len)) lead n s l
+  pub sex-female : code ≡ 50 → Word (70 ∷ []) lead n s l → KeyIs f (meaning_of sexes (item_in f start len)) lead n s l
   unfolding lookup short bytes code_of same
   sex-female h w = coded sexes (70 ∷ []) refl (rw h) w
 
-  pub sex-other : code ≡ 51 → Word (79 ∷ []) lead n s l → KeyIs f (meaningOf sexes (itemIn f start len)) lead n s l
+  pub sex-other : code ≡ 51 → Word (79 ∷ []) lead n s l → KeyIs f (meaning_of sexes (item_in f start len)) lead n s l
   unfolding lookup short bytes code_of same
   sex-other h w = coded sexes (79 ∷ []) refl (rw h) w
 
-  pub sex-stays : (code ≡ 49 → ⊥) → (code ≡ 50 → ⊥) → (code ≡ 51 → ⊥) → start + len ≤ length f → AsIs start len lead n s l → KeyIs f (meaningOf sexes (itemIn f start len)) lead n s l
+  pub sex-stays : (code ≡ 49 → ⊥) → (code ≡ 50 → ⊥) → (code ≡ 51 → ⊥) → start + len ≤ length f → AsIs start len lead n s l → KeyIs f (meaning_of sexes (item_in f start len)) lead n s l
   unfolding lookup short bytes code_of same
   sex-stays h0 h1 h2 h a = uncoded sexes refl (rw (ne_eqb code 49 h0, ne_eqb code 50 h1, ne_eqb code 51 h2)) h a
 
-  pub class-in : code ≡ 49 → Word (73 ∷ []) lead n s l → KeyIs f (meaningOf classes (itemIn f start len)) lead n s l
+  pub class-in : code ≡ 49 → Word (73 ∷ []) lead n s l → KeyIs f (meaning_of classes (item_in f start len)) lead n s l
   unfolding lookup short bytes code_of same
   class-in h w = coded classes (73 ∷ []) refl (rw h) w
 
-  pub class-out : code ≡ 50 → Word (79 ∷ []) lead n s l → KeyIs f (meaningOf classes (itemIn f start len)) lead n s l
+  pub class-out : code ≡ 50 → Word (79 ∷ []) lead n s l → KeyIs f (meaning_of classes (item_in f start len)) lead n s l
   unfolding lookup short bytes code_of same
   class-out h w = coded classes (79 ∷ []) refl (rw h) w
 
-  pub class-stays : (code ≡ 49 → ⊥) → (code ≡ 50 → ⊥) → start + len ≤ length f → AsIs start len lead n s l → KeyIs f (meaningOf classes (itemIn f start len)) lead n s l
+  pub class-stays : (code ≡ 49 → ⊥) → (code ≡ 50 → ⊥) → start + len ≤ length f → AsIs start len lead n s l → KeyIs f (meaning_of classes (item_in f start len)) lead n s l
   unfolding lookup short bytes code_of same
   class-stays h0 h1 h a = uncoded classes refl (rw (ne_eqb code 49 h0, ne_eqb code 50 h1)) h a
 
-  pub form-from : code ≡ 85 → Word (62 ∷ 61 ∷ []) lead n s l → KeyIs f (meaningOf forms (itemIn f start len)) lead n s l
+  pub form-from : code ≡ 85 → Word (62 ∷ 61 ∷ []) lead n s l → KeyIs f (meaning_of forms (item_in f start len)) lead n s l
   unfolding lookup short bytes code_of same
   form-from h w = coded forms (62 ∷ 61 ∷ []) refl (rw h) w
 
-  pub form-to : code ≡ 69 → Word (60 ∷ 61 ∷ []) lead n s l → KeyIs f (meaningOf forms (itemIn f start len)) lead n s l
+  pub form-to : code ≡ 69 → Word (60 ∷ 61 ∷ []) lead n s l → KeyIs f (meaning_of forms (item_in f start len)) lead n s l
   unfolding lookup short bytes code_of same
   form-to h w = coded forms (60 ∷ 61 ∷ []) refl (rw h) w
 
-  pub form-below : code ≡ 76 → Word (60 ∷ []) lead n s l → KeyIs f (meaningOf forms (itemIn f start len)) lead n s l
+  pub form-below : code ≡ 76 → Word (60 ∷ []) lead n s l → KeyIs f (meaning_of forms (item_in f start len)) lead n s l
   unfolding lookup short bytes code_of same
   form-below h w = coded forms (60 ∷ []) refl (rw h) w
 
-  pub form-above : code ≡ 79 → Word (62 ∷ []) lead n s l → KeyIs f (meaningOf forms (itemIn f start len)) lead n s l
+  pub form-above : code ≡ 79 → Word (62 ∷ []) lead n s l → KeyIs f (meaning_of forms (item_in f start len)) lead n s l
   unfolding lookup short bytes code_of same
   form-above h w = coded forms (62 ∷ []) refl (rw h) w
 
-  pub form-none : code ≡ 66 → Word ([]) lead n s l → KeyIs f (meaningOf forms (itemIn f start len)) lead n s l
+  pub form-none : code ≡ 66 → Word ([]) lead n s l → KeyIs f (meaning_of forms (item_in f start len)) lead n s l
   unfolding lookup short bytes code_of same
   form-none h w = coded forms ([]) refl (rw h) w
 
-  pub form-stays : (code ≡ 85 → ⊥) → (code ≡ 69 → ⊥) → (code ≡ 76 → ⊥) → (code ≡ 79 → ⊥) → (code ≡ 66 → ⊥) → start + len ≤ length f → AsIs start len lead n s l → KeyIs f (meaningOf forms (itemIn f start len)) lead n s l
+  pub form-stays : (code ≡ 85 → ⊥) → (code ≡ 69 → ⊥) → (code ≡ 76 → ⊥) → (code ≡ 79 → ⊥) → (code ≡ 66 → ⊥) → start + len ≤ length f → AsIs start len lead n s l → KeyIs f (meaning_of forms (item_in f start len)) lead n s l
   unfolding lookup short bytes code_of same
   form-stays h0 h1 h2 h3 h4 h a = uncoded forms refl (rw (ne_eqb code 85 h0, ne_eqb code 69 h1, ne_eqb code 76 h2, ne_eqb code 79 h3, ne_eqb code 66 h4)) h a
 
@@ -176,32 +176,32 @@ number-halved raw =
     (λ e. not-number (halved false raw) (all-halved spelling refl raw ∙ e) ∙ sym (not-number raw e))
 
 module _ (f spans lead : List ℕ) (start len code n s l : ℕ) (e : code ≡ code_of (take len (drop start f))) (h : start + len ≤ length f) where
-  without : (empty (itemIn f start len) || same (itemIn f start len) (bytes "B")) ≡ not (not (eqb len 0) && not (eqb code 66))
+  without : (empty (item_in f start len) || same (item_in f start len) (bytes "B")) ≡ not (not (eqb len 0) && not (eqb code 66))
   unfolding bytes
   without =
       rw (empty-halved (take len (drop start f)), item-length f start len h, same_code (take len (drop start f)) 66 refl refl, ← e)
       (cases (eqb len 0) (λ t. rw t) (λ t. rw t (cases (eqb code 66) (λ u. rw u) (λ u. rw u))))
 
-  pub kind-sn : (not (eqb len 0) && not (eqb code 66)) ≡ true → Word (83 ∷ 78 ∷ []) lead n s l → KeyIs f (type_of (item_at f spans 34) (itemIn f start len)) lead n s l
+  pub kind-sn : (not (eqb len 0) && not (eqb code 66)) ≡ true → Word (83 ∷ 78 ∷ []) lead n s l → KeyIs f (type_of (item_at f spans 34) (item_in f start len)) lead n s l
   unfolding type_of bytes
   kind-sn t w =
-      let z : type_of (item_at f spans 34) (itemIn f start len) ≡ 83 ∷ 78 ∷ [] = rw (without, t) in
+      let z : type_of (item_at f spans 34) (item_in f start len) ≡ 83 ∷ 78 ∷ [] = rw (without, t) in
       rw z (word-key f (83 ∷ 78 ∷ []) lead n s l w)
 
-  module _ (t : (not (eqb len 0) && not (eqb code 66)) ≡ false) (raw : List ℕ) (o : raw ≡ itemBytes f spans 34) (x : Fault) (q : faultNo x ≡ fault true (ruleOf Number) raw) (u : Bool) (g : u ≡ fineOf x) where
-    number_is : fits true numeric (item_at f spans 34) ≡ eqb (faultNo x) 0
-    unfolding item_at ruleOf
-    number_is = number-halved (itemBytes f spans 34) ∙ ap (fits true numeric) (sym o) ∙ ap (λ (k : ℕ). eqb k 0) (sym q)
+  module _ (t : (not (eqb len 0) && not (eqb code 66)) ≡ false) (raw : List ℕ) (o : raw ≡ item_bytes f spans 34) (x : Fault) (q : fault_no x ≡ fault true (rule_of Number) raw) (u : Bool) (g : u ≡ fine_of x) where
+    number_is_lem : fits true numeric (item_at f spans 34) ≡ eqb (fault_no x) 0
+    unfolding item_at rule_of
+    number_is_lem = number-halved (item_bytes f spans 34) ∙ ap (fits true numeric) (sym o) ∙ ap (λ (k : ℕ). eqb k 0) (sym q)
 
-    pub kind-nm : u ≡ true → Word (78 ∷ 77 ∷ []) lead n s l → KeyIs f (type_of (item_at f spans 34) (itemIn f start len)) lead n s l
+    pub kind-nm : u ≡ true → Word (78 ∷ 77 ∷ []) lead n s l → KeyIs f (type_of (item_at f spans 34) (item_in f start len)) lead n s l
     unfolding type_of bytes
     kind-nm v w =
-        let z : type_of (item_at f spans 34) (itemIn f start len) ≡ 78 ∷ 77 ∷ [] = rw (without, t, number_is, fine-zero x (sym g ∙ v)) in
+        let z : type_of (item_at f spans 34) (item_in f start len) ≡ 78 ∷ 77 ∷ [] = rw (without, t, number_is_lem, fine-zero x (sym g ∙ v)) in
         rw z (word-key f (78 ∷ 77 ∷ []) lead n s l w)
 
-    pub kind-st : u ≡ false → Word (83 ∷ 84 ∷ []) lead n s l → KeyIs f (type_of (item_at f spans 34) (itemIn f start len)) lead n s l
+    pub kind-st : u ≡ false → Word (83 ∷ 84 ∷ []) lead n s l → KeyIs f (type_of (item_at f spans 34) (item_in f start len)) lead n s l
     unfolding type_of bytes
     kind-st v w =
-        let d : eqb (faultNo x) 0 ≡ false = ne_eqb (faultNo x) 0 (omega (arith, fault-some x (sym g ∙ v))) in
-        let z : type_of (item_at f spans 34) (itemIn f start len) ≡ 83 ∷ 84 ∷ [] = rw (without, t, number_is, d) in
+        let d : eqb (fault_no x) 0 ≡ false = ne_eqb (fault_no x) 0 (omega (arith, fault-some x (sym g ∙ v))) in
+        let z : type_of (item_at f spans 34) (item_in f start len) ≡ 83 ∷ 84 ∷ [] = rw (without, t, number_is_lem, d) in
         rw z (word-key f (83 ∷ 84 ∷ []) lead n s l w)

@@ -12,13 +12,13 @@ use Rattle.rules.specs.Lists.{empty, same}
 use Rattle.rules.proofs.Logic.{cases, never, both}
 use Rattle.rules.proofs.Lists.{here, over}
 use Rattle.csv_rules.specs.Written.{halved}
-use Rattle.csv_keys.specs.Keys.{rawOf}
+use Rattle.csv_keys.specs.Keys.{raw_of}
 use Rattle.csv_keys.specs.Ways.{NextOrBlank, KeyFits, left_of, StepIs}
 use Rattle.csv_keys.proofs.Items.{item-length, part-is}
 
 module _ (f lead : List ℕ) (n start len : ℕ) where
-  pub left-starts : left_of f lead n start len 0 ≡ rawOf f lead n start len
-  unfolding left_of rawOf
+  pub left-starts : left_of f lead n start len 0 ≡ raw_of f lead n start len
+  unfolding left_of raw_of
   left-starts = let e : 0 - n ≡ 0 = omega arith in rw e
 
   module _ (fits : KeyFits f lead n start len) where
@@ -97,19 +97,19 @@ pub second-in : (i m j n : ℕ) → (ltb i m && ltb j n) ≡ true → j < n
 second-in i m j n h = ltb-true j n (both (ltb i m) (ltb j n) h).1
 
 pub keys-start : (f la : List ℕ) (na sa ma : ℕ) (lb : List ℕ) (nb sb mb : ℕ)
-    → same (rawOf f la na sa ma) (rawOf f lb nb sb mb) ≡ same (left_of f la na sa ma 0) (left_of f lb nb sb mb 0)
+    → same (raw_of f la na sa ma) (raw_of f lb nb sb mb) ≡ same (left_of f la na sa ma 0) (left_of f lb nb sb mb 0)
 keys-start f la na sa ma lb nb sb mb = rw (left-starts f la na sa ma, left-starts f lb nb sb mb)
 
 module _ (f la : List ℕ) (na sa ma : ℕ) (lb : List ℕ) (nb sb mb : ℕ) (a : KeyFits f la na sa ma) (b : KeyFits f lb nb sb mb) (i j : ℕ)
-    (inv : same (rawOf f la na sa ma) (rawOf f lb nb sb mb) ≡ same (left_of f la na sa ma i) (left_of f lb nb sb mb j)) where
+    (inv : same (raw_of f la na sa ma) (raw_of f lb nb sb mb) ≡ same (left_of f la na sa ma i) (left_of f lb nb sb mb j)) where
   module _ (x k y l : ℕ) (p : StepIs f la na sa ma i x k) (q : StepIs f lb nb sb mb j y l) where
-    pub keys-differ : (x ≡ y → ⊥) → false ≡ same (rawOf f la na sa ma) (rawOf f lb nb sb mb)
+    pub keys-differ : (x ≡ y → ⊥) → false ≡ same (raw_of f la na sa ma) (raw_of f lb nb sb mb)
     keys-differ e = sym (inv ∙ rw (p.is, q.is) (same-other x y (left_of f la na sa ma k) (left_of f lb nb sb mb l) e))
 
-    pub keys_on : x ≡ y → same (rawOf f la na sa ma) (rawOf f lb nb sb mb) ≡ same (left_of f la na sa ma k) (left_of f lb nb sb mb l)
+    pub keys_on : x ≡ y → same (raw_of f la na sa ma) (raw_of f lb nb sb mb) ≡ same (left_of f la na sa ma k) (left_of f lb nb sb mb l)
     keys_on e = inv ∙ rw (p.is, q.is) (same_byte x y (left_of f la na sa ma k) (left_of f lb nb sb mb l) e)
 
-  pub keys-end : (ltb i (na + ma) && ltb j (nb + mb)) ≡ false → (leb (na + ma) i && leb (nb + mb) j) ≡ same (rawOf f la na sa ma) (rawOf f lb nb sb mb)
+  pub keys-end : (ltb i (na + ma) && ltb j (nb + mb)) ≡ false → (leb (na + ma) i && leb (nb + mb) j) ≡ same (raw_of f la na sa ma) (raw_of f lb nb sb mb)
   keys-end e =
       cases (ltb i (na + ma))
       (λ t.

@@ -11,14 +11,14 @@ use lib.Seq.{take-nil, drop-nil, take-take, drop-drop, length-take-le}
 use Rattle.rules.specs.Lists.{filled, all, onto}
 use Rattle.rules.specs.Shift.{within}
 use Rattle.rules.specs.Frame.{digit}
-use Rattle.rules.specs.Value.{digitsOk}
+use Rattle.rules.specs.Value.{digits_ok}
 use Rattle.rules.proofs.Logic.{cases, never, either, neither, and-false}
 use Rattle.rules.proofs.Lists.{here, over, all_first, all_cons, empty-zero, filled-some}
 use Rattle.rules.proofs.Split.{split-nil, split-here, split-there, split-cons}
 use Rattle.csv_rules.specs.Written.{halved}
-use Rattle.csv_rules.specs.Columns.{familyOf, given_of, fifteenOf}
-use Rattle.csv_keys.specs.Keys.{rawOf, KeyIs}
-use Rattle.csv_keys.specs.Ways.{itemIn, blankAt, AsIs, NextOrBlank}
+use Rattle.csv_rules.specs.Columns.{family_of, given_of, fifteen_of}
+use Rattle.csv_keys.specs.Keys.{raw_of, KeyIs}
+use Rattle.csv_keys.specs.Ways.{item_in, blank_at, AsIs, NextOrBlank}
 
 -- ---- a byte
 half-here : (b : ℕ) (s : List ℕ) → eqb b 0x22 ≡ false → halved false (b ∷ s) ≡ b ∷ halved false s
@@ -33,16 +33,16 @@ half-two : (b t : ℕ) (s : List ℕ) → eqb b 0x22 ≡ true → halved false (
 unfolding halved
 half-two b t s e = rw (e, halved)
 
-blank-here : (b : ℕ) (s : List ℕ) → eqb b 0x22 ≡ false → blankAt false (b ∷ s) ≡ cond (eqb b 0x20) 0 (1 + blankAt false s)
-unfolding blankAt
-blank-here b s e = cases (eqb b 0x20) (λ f. rw (f, blankAt)) (λ f. rw (f, e, blankAt) (omega arith))
+blank-here : (b : ℕ) (s : List ℕ) → eqb b 0x22 ≡ false → blank_at false (b ∷ s) ≡ cond (eqb b 0x20) 0 (1 + blank_at false s)
+unfolding blank_at
+blank-here b s e = cases (eqb b 0x20) (λ f. rw (f, blank_at)) (λ f. rw (f, e, blank_at) (omega arith))
 
-blank-last : (b : ℕ) → blankAt false (b ∷ []) ≡ cond (eqb b 0x20) 0 1
-unfolding blankAt
-blank-last b = cases (eqb b 0x20) (λ f. rw (f, blankAt)) (λ f. cases (eqb b 0x22) (λ e. rw (f, e, blankAt)) (λ e. rw (f, e, blankAt)))
+blank-last : (b : ℕ) → blank_at false (b ∷ []) ≡ cond (eqb b 0x20) 0 1
+unfolding blank_at
+blank-last b = cases (eqb b 0x20) (λ f. rw (f, blank_at)) (λ f. cases (eqb b 0x22) (λ e. rw (f, e, blank_at)) (λ e. rw (f, e, blank_at)))
 
-blank-two : (b t : ℕ) (s : List ℕ) → b ≡ 0x22 → blankAt false (b ∷ (t ∷ s)) ≡ 2 + blankAt false s
-unfolding blankAt
+blank-two : (b t : ℕ) (s : List ℕ) → b ≡ 0x22 → blank_at false (b ∷ (t ∷ s)) ≡ 2 + blank_at false s
+unfolding blank_at
 blank-two b t s e = rw e (omega arith)
 
 -- so many bytes further on
@@ -55,7 +55,7 @@ module _ (s : List ℕ) (i j : ℕ) (h : i < length s) (e : j ≡ i + 1) where
   here-at = here 0 s i h ∙ ap (λ (n : ℕ). get_or s i 0 ∷ drop n s) (sym e)
 
   pub next_last : length s ≤ j → NextOrBlank s i j
-  unfolding blankAt
+  unfolding blank_at
   next_last l =
       let o : drop j s ≡ [] = over s j l in
       let w : drop i s ≡ get_or s i 0 ∷ [] = here-at ∙ ap (λ (w : List ℕ). get_or s i 0 ∷ w) o in
@@ -64,7 +64,7 @@ module _ (s : List ℕ) (i j : ℕ) (h : i < length s) (e : j ≡ i + 1) where
         high = omega arith;
         is = ap (halved false) w ∙ half-last (get_or s i 0) ∙ ap (λ (w : List ℕ). get_or s i 0 ∷ halved false w) (sym o);
         blank =
-            ap (λ (w : List ℕ). i + blankAt false w) w ∙ ap (λ (n : ℕ). i + n) (blank-last (get_or s i 0)) ∙ further (eqb (get_or s i 0) 0x20) i 1 0
+            ap (λ (w : List ℕ). i + blank_at false w) w ∙ ap (λ (n : ℕ). i + n) (blank-last (get_or s i 0)) ∙ further (eqb (get_or s i 0) 0x20) i 1 0
             ∙ rw (o, e);
       }
 
@@ -77,8 +77,8 @@ module _ (s : List ℕ) (i j : ℕ) (h : i < length s) (e : j ≡ i + 1) where
         high = omega arith;
         is = ap (halved false) w ∙ half-two (get_or s i 0) (get_or s j 0) (drop (i + 2) s) (eq-eqb (get_or s i 0) 0x22 q);
         blank =
-            ap (λ (w : List ℕ). i + blankAt false w) w ∙ ap (λ (n : ℕ). i + n) (blank-two (get_or s i 0) (get_or s j 0) (drop (i + 2) s) q)
-            ∙ further false i 2 (blankAt false (drop (i + 2) s)) ∙ rw q;
+            ap (λ (w : List ℕ). i + blank_at false w) w ∙ ap (λ (n : ℕ). i + n) (blank-two (get_or s i 0) (get_or s j 0) (drop (i + 2) s) q)
+            ∙ further false i 2 (blank_at false (drop (i + 2) s)) ∙ rw q;
       }
 
   pub next_one : (get_or s i 0 ≡ 0x22 → ⊥) → NextOrBlank s i j
@@ -89,8 +89,8 @@ module _ (s : List ℕ) (i j : ℕ) (h : i < length s) (e : j ≡ i + 1) where
         high = omega arith;
         is = ap (halved false) here-at ∙ half-here (get_or s i 0) (drop j s) z;
         blank =
-            ap (λ (w : List ℕ). i + blankAt false w) here-at ∙ ap (λ (n : ℕ). i + n) (blank-here (get_or s i 0) (drop j s) z)
-            ∙ further (eqb (get_or s i 0) 0x20) i 1 (blankAt false (drop j s)) ∙ rw e;
+            ap (λ (w : List ℕ). i + blank_at false w) here-at ∙ ap (λ (n : ℕ). i + n) (blank-here (get_or s i 0) (drop j s) z)
+            ∙ further (eqb (get_or s i 0) 0x20) i 1 (blank_at false (drop j s)) ∙ rw e;
       }
 
 -- ---- a test that no quote passes
@@ -113,32 +113,32 @@ module _ (p : ℕ → Bool) (q : p 0x22 ≡ false) where
       (λ e. rw e (ap (λ (t : List ℕ). b ∷ t) (halved-plain s r.1)))
 
 -- ---- the first blank: a walk to it
-module _ (s : List ℕ) (i : ℕ) (inv : blankAt false s ≡ i + blankAt false (drop i s)) where
-  pub blank-found : i < length s → get_or s i 0 ≡ 0x20 → i ≡ blankAt false s
-  unfolding blankAt
-  blank-found h e = let z : blankAt false (drop i s) ≡ 0 = ap (blankAt false) (here 0 s i h) ∙ rw e in omega arith
+module _ (s : List ℕ) (i : ℕ) (inv : blank_at false s ≡ i + blank_at false (drop i s)) where
+  pub blank-found : i < length s → get_or s i 0 ≡ 0x20 → i ≡ blank_at false s
+  unfolding blank_at
+  blank-found h e = let z : blank_at false (drop i s) ≡ 0 = ap (blank_at false) (here 0 s i h) ∙ rw e in omega arith
 
-  pub blank-on : (r : ℕ) → (get_or s i 0 ≡ 0x20 → ⊥) → NextOrBlank s i r → blankAt false s ≡ r + blankAt false (drop r s)
+  pub blank-on : (r : ℕ) → (get_or s i 0 ≡ 0x20 → ⊥) → NextOrBlank s i r → blank_at false s ≡ r + blank_at false (drop r s)
   blank-on r e p = inv ∙ p.blank ∙ rw (ne_eqb (get_or s i 0) 0x20 e)
 
-  pub blank_none : length s ≤ i → i ≡ blankAt false s
-  unfolding blankAt
-  blank_none h = let z : blankAt false (drop i s) ≡ 0 = ap (blankAt false) (over s i h) in omega arith
+  pub blank_none : length s ≤ i → i ≡ blank_at false s
+  unfolding blank_at
+  blank_none h = let z : blank_at false (drop i s) ≡ 0 = ap (blank_at false) (over s i h) in omega arith
 
-pub blank-starts : (s : List ℕ) → blankAt false s ≡ 0 + blankAt false (drop 0 s)
+pub blank-starts : (s : List ℕ) → blank_at false s ≡ 0 + blank_at false (drop 0 s)
 blank-starts s = omega arith
 
 -- ---- names
-family-here : (b : ℕ) (s : List ℕ) → eqb b 0x20 ≡ true → familyOf (b ∷ s) ≡ []
-unfolding familyOf
+family-here : (b : ℕ) (s : List ℕ) → eqb b 0x20 ≡ true → family_of (b ∷ s) ≡ []
+unfolding family_of
 family-here b s e = rw (split-here 0x20 b s e)
 
-family-there : (b : ℕ) (s : List ℕ) → eqb b 0x20 ≡ false → familyOf (b ∷ s) ≡ b ∷ familyOf s
-unfolding familyOf onto
+family-there : (b : ℕ) (s : List ℕ) → eqb b 0x20 ≡ false → family_of (b ∷ s) ≡ b ∷ family_of s
+unfolding family_of onto
 family-there b s e = rw (split-there 0x20 b s e, split-cons 0x20 s)
 
-family-nil : familyOf [] ≡ []
-unfolding familyOf
+family-nil : family_of [] ≡ []
+unfolding family_of
 family-nil = rw (split-nil 0x20)
 
 given-here : (b : ℕ) (s : List ℕ) → eqb b 0x20 ≡ true → given_of (b ∷ s) ≡ s
@@ -151,26 +151,26 @@ given-there b s e = rw (family-there b s e)
 
 given-nil : given_of [] ≡ []
 unfolding given_of
-given-nil = drop-nil (suc (length (familyOf [])))
+given-nil = drop-nil (suc (length (family_of [])))
 
-family-is : (t : Bool) (s : List ℕ) → halved t (take (blankAt t s) s) ≡ familyOf (halved t s)
-unfolding halved blankAt
+family-is : (t : Bool) (s : List ℕ) → halved t (take (blank_at t s) s) ≡ family_of (halved t s)
+unfolding halved blank_at
 family-is false [] = sym family-nil
 family-is true [] = sym family-nil
 family-is false (b ∷ s) =
     cases (eqb b 0x20)
-    (λ e. rw (e, blankAt, family-here b (halved (eqb b 0x22) s) e))
-    (λ e. rw (e, blankAt, family-there b (halved (eqb b 0x22) s) e) (ap (λ (x : List ℕ). b ∷ x) (family-is (eqb b 0x22) s)))
+    (λ e. rw (e, blank_at, family-here b (halved (eqb b 0x22) s) e))
+    (λ e. rw (e, blank_at, family-there b (halved (eqb b 0x22) s) e) (ap (λ (x : List ℕ). b ∷ x) (family-is (eqb b 0x22) s)))
 family-is true (b ∷ s) = family-is false s
 
-given_is : (t : Bool) (s : List ℕ) → halved false (drop (suc (blankAt t s)) s) ≡ given_of (halved t s)
-unfolding halved blankAt
+given_is : (t : Bool) (s : List ℕ) → halved false (drop (suc (blank_at t s)) s) ≡ given_of (halved t s)
+unfolding halved blank_at
 given_is false [] = sym given-nil
 given_is true [] = sym given-nil
 given_is false (b ∷ s) =
     cases (eqb b 0x20)
-    (λ e. rw (e, blankAt, given-here b (halved (eqb b 0x22) s) e, eqb-true b 0x20 e))
-    (λ e. rw (e, blankAt, given-there b (halved (eqb b 0x22) s) e) (given_is (eqb b 0x22) s))
+    (λ e. rw (e, blank_at, given-here b (halved (eqb b 0x22) s) e, eqb-true b 0x20 e))
+    (λ e. rw (e, blank_at, given-there b (halved (eqb b 0x22) s) e) (given_is (eqb b 0x22) s))
 given_is true (b ∷ s) = given_is false s
 
 drop-take : (a n : ℕ) (s : List ℕ) → drop a (take n s) ≡ take (n - a) (drop a s)
@@ -181,9 +181,9 @@ drop-take (suc a) (suc n) (b ∷ s) = let e : suc n - suc a ≡ n - a = omega ar
 
 -- ---- keys
 -- an item as it lies in the file
-pub as-is-key : (f v lead : List ℕ) (from size n start len : ℕ) → from + size ≤ length f → itemIn f from size ≡ v → AsIs from size lead n start len
+pub as-is-key : (f v lead : List ℕ) (from size n start len : ℕ) → from + size ≤ length f → item_in f from size ≡ v → AsIs from size lead n start len
     → KeyIs f v lead n start len
-unfolding rawOf all
+unfolding raw_of all
 as-is-key f v lead from size n start len h e a =
     record {
       is = rw (a.none, a.from_is, a.size_is) e;
@@ -197,57 +197,57 @@ as-is-key f v lead from size n start len h e a =
 pub part-is : (f : List ℕ) (start len : ℕ) → take (start + len - start) (drop start f) ≡ take len (drop start f)
 part-is f start len = let e : start + len - start ≡ len = omega arith in rw e
 
-module _ (f lead : List ℕ) (start len at n s l : ℕ) (h : start + len ≤ length f) (e : at ≡ blankAt false (take (start + len - start) (drop start f))) where
-  at-is : at ≡ blankAt false (take len (drop start f))
-  at-is = e ∙ ap (blankAt false) (part-is f start len)
+module _ (f lead : List ℕ) (start len at n s l : ℕ) (h : start + len ≤ length f) (e : at ≡ blank_at false (take (start + len - start) (drop start f))) where
+  at-is : at ≡ blank_at false (take len (drop start f))
+  at-is = e ∙ ap (blank_at false) (part-is f start len)
 
-  pub family-key : at ≤ length (take (start + len - start) (drop start f)) → AsIs start at lead n s l → KeyIs f (familyOf (itemIn f start len)) lead n s l
+  pub family-key : at ≤ length (take (start + len - start) (drop start f)) → AsIs start at lead n s l → KeyIs f (family_of (item_in f start len)) lead n s l
   family-key w a =
       let k : at ≤ len = omega (arith, length-take (start + len - start) (drop start f)) in
-      as-is-key f (familyOf (itemIn f start len)) lead start at n s l (omega arith)
+      as-is-key f (family_of (item_in f start len)) lead start at n s l (omega arith)
       (ap (halved false) (sym (take-take at len (drop start f) k)) ∙ ap (λ (m : ℕ). halved false (take m (take len (drop start f)))) at-is
       ∙ family-is false (take len (drop start f)))
       a
 
-  given-at : halved false (drop (suc at) (take len (drop start f))) ≡ given_of (itemIn f start len)
+  given-at : halved false (drop (suc at) (take len (drop start f))) ≡ given_of (item_in f start len)
   given-at = ap (λ (m : ℕ). halved false (drop (suc m) (take len (drop start f)))) at-is ∙ given_is false (take len (drop start f))
 
-  pub given-none : len ≤ at → AsIs (start + len) 0 lead n s l → KeyIs f (given_of (itemIn f start len)) lead n s l
+  pub given-none : len ≤ at → AsIs (start + len) 0 lead n s l → KeyIs f (given_of (item_in f start len)) lead n s l
   unfolding halved
   given-none w a =
       let o : drop (suc at) (take len (drop start f)) ≡ [] = over (take len (drop start f)) (suc at) (omega (arith, length-take len (drop start f))) in
-      as-is-key f (given_of (itemIn f start len)) lead (start + len) 0 n s l (omega arith) (sym (ap (halved false) o) ∙ given-at) a
+      as-is-key f (given_of (item_in f start len)) lead (start + len) 0 n s l (omega arith) (sym (ap (halved false) o) ∙ given-at) a
 
-  pub given-key : (behind : ℕ) → at < len → behind ≡ at + 1 → AsIs (start + behind) (len - behind) lead n s l → KeyIs f (given_of (itemIn f start len)) lead n s l
+  pub given-key : (behind : ℕ) → at < len → behind ≡ at + 1 → AsIs (start + behind) (len - behind) lead n s l → KeyIs f (given_of (item_in f start len)) lead n s l
   given-key behind w b a =
       let g : suc at ≡ behind = omega arith in
-      as-is-key f (given_of (itemIn f start len)) lead (start + behind) (len - behind) n s l (omega arith)
+      as-is-key f (given_of (item_in f start len)) lead (start + behind) (len - behind) n s l (omega arith)
       (ap (halved false) (ap (take (len - behind)) (sym (drop-drop behind start f)) ∙ sym (drop-take behind len (drop start f)))
       ∙ ap (λ (m : ℕ). halved false (drop m (take len (drop start f)))) (sym g) ∙ given-at)
       a
 
 -- ---- fifteen digits
-not-fifteen : (v : List ℕ) → all digit v ≡ false → fifteenOf v ≡ v
-unfolding fifteenOf
+not-fifteen : (v : List ℕ) → all digit v ≡ false → fifteen_of v ≡ v
+unfolding fifteen_of
 not-fifteen v h = rw (h, and-false (leb (length v) 15), and-false (filled v))
 
-fifteen-not : (raw : List ℕ) → all digit raw ≡ false → fifteenOf (halved false raw) ≡ halved false raw
+fifteen-not : (raw : List ℕ) → all digit raw ≡ false → fifteen_of (halved false raw) ≡ halved false raw
 fifteen-not raw h = not-fifteen (halved false raw) (all-halved digit refl raw ∙ h)
 
-outside : (v : List ℕ) → (eqb (length v) 0 || ltb 15 (length v)) ≡ true → fifteenOf v ≡ v
-unfolding fifteenOf
+outside : (v : List ℕ) → (eqb (length v) 0 || ltb 15 (length v)) ≡ true → fifteen_of v ≡ v
+unfolding fifteen_of
 outside v h =
     either (eqb (length v) 0) (ltb 15 (length v)) h
     (λ e. rw (empty-zero v (eqb-true (length v) 0 e)))
     (λ e. rw (lt-leb (length v) 15 (ltb-true 15 (length v) e), and-false (filled v)))
 
-fifteen-outside : (raw : List ℕ) → (eqb (length raw) 0 || ltb 15 (length raw)) ≡ true → fifteenOf (halved false raw) ≡ halved false raw
+fifteen-outside : (raw : List ℕ) → (eqb (length raw) 0 || ltb 15 (length raw)) ≡ true → fifteen_of (halved false raw) ≡ halved false raw
 fifteen-outside raw h =
     cases (all digit raw) (λ d. rw (halved-plain digit refl raw d) (outside raw h)) (λ d. fifteen-not raw d)
 
 fifteen-pads : (raw : List ℕ) → all digit raw ≡ true → (eqb (length raw) 0 || ltb 15 (length raw)) ≡ false
-    → fifteenOf (halved false raw) ≡ replicate (15 - length raw) 48 ++ halved false raw
-unfolding fifteenOf
+    → fifteen_of (halved false raw) ≡ replicate (15 - length raw) 48 ++ halved false raw
+unfolding fifteen_of
 fifteen-pads raw d h =
     let n = neither (eqb (length raw) 0) (ltb 15 (length raw)) h in
     rw (halved-plain digit refl raw d, filled-some raw (eqb-false (length raw) 0 n.0), le-leb (length raw) 15 (ltb-false 15 (length raw) n.1), d)
@@ -269,22 +269,22 @@ module _ (f : List ℕ) (start len : ℕ) (h : start + len ≤ length f) where
   pub item-length : length (take len (drop start f)) ≡ len
   item-length = length-take-le len (drop start f) (omega (arith, length-drop start f))
 
-  pub fifteen-stays : (lead : List ℕ) (n s l : ℕ) → (eqb len 0 || ltb 15 len) ≡ true → AsIs start len lead n s l → KeyIs f (fifteenOf (itemIn f start len)) lead n s l
+  pub fifteen-stays : (lead : List ℕ) (n s l : ℕ) → (eqb len 0 || ltb 15 len) ≡ true → AsIs start len lead n s l → KeyIs f (fifteen_of (item_in f start len)) lead n s l
   fifteen-stays lead n s l e a =
-      as-is-key f (fifteenOf (itemIn f start len)) lead start len n s l h (sym (fifteen-outside (take len (drop start f)) (rw item-length e))) a
+      as-is-key f (fifteen_of (item_in f start len)) lead start len n s l h (sym (fifteen-outside (take len (drop start f)) (rw item-length e))) a
 
-  module _ (t : Bool) (q : t ≡ digitsOk len (take (start + len - start) (drop start f))) where
+  module _ (t : Bool) (q : t ≡ digits_ok len (take (start + len - start) (drop start f))) where
     digits_are : t ≡ all digit (take len (drop start f))
     digits_are =
         let r = take len (drop start f) in
-        q ∙ ap (digitsOk len) (part-is f start len) ∙ ap (λ (x : Bool). x && all digit r) (eq-eqb (length r) len item-length)
+        q ∙ ap (digits_ok len) (part-is f start len) ∙ ap (λ (x : Bool). x && all digit r) (eq-eqb (length r) len item-length)
 
-    pub fifteen-other : (lead : List ℕ) (n s l : ℕ) → not t ≡ true → AsIs start len lead n s l → KeyIs f (fifteenOf (itemIn f start len)) lead n s l
+    pub fifteen-other : (lead : List ℕ) (n s l : ℕ) → not t ≡ true → AsIs start len lead n s l → KeyIs f (fifteen_of (item_in f start len)) lead n s l
     fifteen-other lead n s l e a =
-        as-is-key f (fifteenOf (itemIn f start len)) lead start len n s l h (sym (fifteen-not (take len (drop start f)) (sym digits_are ∙ not-true t e))) a
+        as-is-key f (fifteen_of (item_in f start len)) lead start len n s l h (sym (fifteen-not (take len (drop start f)) (sym digits_are ∙ not-true t e))) a
 
-    pub fifteen-key : (eqb len 0 || ltb 15 len) ≡ false → not t ≡ false → KeyIs f (fifteenOf (itemIn f start len)) (replicate 15 48) (15 - len) start len
-    unfolding rawOf
+    pub fifteen-key : (eqb len 0 || ltb 15 len) ≡ false → not t ≡ false → KeyIs f (fifteen_of (item_in f start len)) (replicate 15 48) (15 - len) start len
+    unfolding raw_of
     fifteen-key e g =
         let r = take len (drop start f) in
         let z = take-replicate (15 - len) 15 48 (omega arith) in

@@ -9,23 +9,23 @@ use Rattle.csv_keys.specs.declared.How.{How}
 use Rattle.csv_keys.specs.declared.How.TheVariants.{Text, UpToBlank, PastBlank, Fifteen, Sex, Class, Form, ValueType}
 
 -- the table's way that a case of the code's enum stands for
-unfoldable pub howOf : How → Columns.How
-howOf Text = Columns.text
-howOf UpToBlank = Columns.upToBlank
-howOf PastBlank = Columns.pastBlank
-howOf Fifteen = Columns.fifteen
-howOf Sex = Columns.coded sexes
-howOf Class = Columns.coded classes
-howOf Form = Columns.coded forms
-howOf ValueType = Columns.typed 35
+unfoldable pub how_of : How → Columns.How
+how_of Text = Columns.text
+how_of UpToBlank = Columns.upToBlank
+how_of PastBlank = Columns.pastBlank
+how_of Fifteen = Columns.fifteen
+how_of Sex = Columns.coded sexes
+how_of Class = Columns.coded classes
+how_of Form = Columns.coded forms
+how_of ValueType = Columns.typed 35
 
 -- the first n of the bytes lead, then the item that lies in the file f from start on
-unfoldable pub rawOf : List ℕ → List ℕ → ℕ → ℕ → ℕ → List ℕ
-rawOf f lead n start len = take n lead ++ halved false (take len (drop start f))
+unfoldable pub raw_of : List ℕ → List ℕ → ℕ → ℕ → ℕ → List ℕ
+raw_of f lead n start len = take n lead ++ halved false (take len (drop start f))
 
 -- a key: its raw value is v; the bytes that don't stand in the file stand alone
 pub record KeyIs (f v lead : List ℕ) (n start len : ℕ) : Type 0 where
-  pub is : rawOf f lead n start len ≡ v
+  pub is : raw_of f lead n start len ≡ v
   pub plain : all (λ (b : ℕ). within 0x20 0x7E b) (take n lead) ≡ true
   pub size : length lead ≡ 15
   pub few : n ≤ 15

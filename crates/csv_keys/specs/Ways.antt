@@ -7,30 +7,30 @@ use Rattle.csv_keys.specs.declared.How.{How}
 use Rattle.csv_keys.specs.declared.How.TheVariants.{Text, UpToBlank, PastBlank, Fifteen, Sex, Class, Form, ValueType}
 
 -- the item whose bytes lie in the file from start on
-abbrev pub itemIn : List ℕ → ℕ → ℕ → List ℕ
-itemIn f start len = halved false (take len (drop start f))
+abbrev pub item_in : List ℕ → ℕ → ℕ → List ℕ
+item_in f start len = halved false (take len (drop start f))
 
 -- how many bytes stand before an item's first blank, quotes doubled: all where there is none; true: a quote has just been read
-unfoldable pub blankAt : Bool → List ℕ → ℕ
-blankAt false [] = 0
-blankAt true [] = 0
-blankAt false (b ∷ s) = elim (eqb b 0x20) [ true ↦ 0 | false ↦ suc (blankAt (eqb b 0x22) s) ]
-blankAt true (b ∷ s) = suc (blankAt false s)
+unfoldable pub blank_at : Bool → List ℕ → ℕ
+blank_at false [] = 0
+blank_at true [] = 0
+blank_at false (b ∷ s) = elim (eqb b 0x20) [ true ↦ 0 | false ↦ suc (blank_at (eqb b 0x22) s) ]
+blank_at true (b ∷ s) = suc (blank_at false s)
 
 -- the byte of an item that has one; 0 of any other
 unfoldable pub code_of : List ℕ → ℕ
 code_of raw = cond (eqb (length raw) 1) (get_or raw 0 0) 0
 
 -- keys that their column alone feeds
-abbrev pub byColumn : How → Bool
-byColumn Text = true
-byColumn UpToBlank = true
-byColumn PastBlank = true
-byColumn Fifteen = true
-byColumn Sex = true
-byColumn Class = true
-byColumn Form = true
-byColumn ValueType = false
+abbrev pub by_column : How → Bool
+by_column Text = true
+by_column UpToBlank = true
+by_column PastBlank = true
+by_column Fifteen = true
+by_column Sex = true
+by_column Class = true
+by_column Form = true
+by_column ValueType = false
 
 -- a key that is an item as it lies in the file; one that is the word w
 pub record AsIs (from size : ℕ) (lead : List ℕ) (n start len : ℕ) : Type 0 where
@@ -52,7 +52,7 @@ pub record NextOrBlank (s : List ℕ) (i r : ℕ) : Type 0 where
   pub low : i < r
   pub high : r ≤ length s
   pub is : halved false (drop i s) ≡ get_or s i 0 ∷ halved false (drop r s)
-  pub blank : i + blankAt false (drop i s) ≡ cond (eqb (get_or s i 0) 0x20) i (r + blankAt false (drop r s))
+  pub blank : i + blank_at false (drop i s) ≡ cond (eqb (get_or s i 0) 0x20) i (r + blank_at false (drop r s))
 
 -- a key whose bytes lie in its array and in the file
 pub record KeyFits (f lead : List ℕ) (n start len : ℕ) : Type 0 where

@@ -3,12 +3,12 @@ ghost use Rattle.std.specs.Prelude.{◌≡◌, true, false, ◌&&◌, [], ◌∷
 ghost use Rattle.rules.specs.declared.Name.TheVariants.{Pid, Pv1, Spm, Obr};
 ghost use Rattle.rules.specs.Lists.{same};
 ghost use Rattle.rules.specs.Shift.{within};
-ghost use Rattle.csv_rules.specs.Columns.{familyOf, given_of, fifteenOf, meaningOf, type_of, sexes, classes, forms, number_of};
+ghost use Rattle.csv_rules.specs.Columns.{family_of, given_of, fifteen_of, meaning_of, type_of, sexes, classes, forms, number_of};
 ghost use Rattle.csv_rules.specs.Columns as Columns;
-ghost use Rattle.csv_rules.specs.Raw.{rawBy, rawAgree};
+ghost use Rattle.csv_rules.specs.Raw.{raw_by, raw_agree};
 ghost use Rattle.csv_rows.specs.Rows.{Inside, row_at, item_at};
-ghost use Rattle.csv_keys.specs.Keys.{howOf, rawOf, KeyIs};
-ghost use Rattle.csv_keys.specs.Ways.{blankAt, code_of, itemIn, AsIs, Word, NextOrBlank, KeyFits, StepIs, byColumn};
+ghost use Rattle.csv_keys.specs.Keys.{how_of, raw_of, KeyIs};
+ghost use Rattle.csv_keys.specs.Ways.{blank_at, code_of, item_in, AsIs, Word, NextOrBlank, KeyFits, StepIs, by_column};
 
 use value::Rule;
 
@@ -66,7 +66,7 @@ fn past_byte(raw: &[u8], i: usize) -> usize
 
 // The place of an item's first blank; its end where it has none.
 fn blank_at(raw: &[u8]) -> usize
-    ensures value { result ≡ blankAt false raw.now }
+    ensures value { result ≡ blank_at false raw.now }
     ensures within { result ≤ length raw.now }
 {
     let mut i = 0;
@@ -82,7 +82,7 @@ fn blank_at(raw: &[u8]) -> usize
 // PID-5: the family name stands before the first blank.
 fn family(file: &[u8], start: usize, len: usize) -> KeyAt
     requires { start + len ≤ length file.now }
-    ensures { KeyIs file.now (familyOf (itemIn file.now start len)) result.lead result.filled result.start result.len }
+    ensures { KeyIs file.now (family_of (item_in file.now start len)) result.lead result.filled result.start result.len }
 {
     let end = start + len;
     let at = blank_at(&file[start..end]);
@@ -92,7 +92,7 @@ fn family(file: &[u8], start: usize, len: usize) -> KeyAt
 // The given name stands behind it.
 fn given(file: &[u8], start: usize, len: usize) -> KeyAt
     requires { start + len ≤ length file.now }
-    ensures { KeyIs file.now (given_of (itemIn file.now start len)) result.lead result.filled result.start result.len }
+    ensures { KeyIs file.now (given_of (item_in file.now start len)) result.lead result.filled result.start result.len }
 {
     let end = start + len;
     let at = blank_at(&file[start..end]);
@@ -108,7 +108,7 @@ fn given(file: &[u8], start: usize, len: usize) -> KeyAt
 // OBR-2: "15 digits, leading zeros"; what isn't 1 to 15 digits stays.
 fn fifteen(file: &[u8], start: usize, len: usize) -> KeyAt
     requires { start + len ≤ length file.now }
-    ensures { KeyIs file.now (fifteenOf (itemIn file.now start len)) result.lead result.filled result.start result.len }
+    ensures { KeyIs file.now (fifteen_of (item_in file.now start len)) result.lead result.filled result.start result.len }
 {
     if (len == 0) | (15 < len) {
         return as_is(start, len);
@@ -158,7 +158,7 @@ fn word(first: u8, second: u8, size: usize) -> KeyAt
 // PID-8, table 2.
 fn sex(file: &[u8], start: usize, len: usize) -> KeyAt
     requires { start + len ≤ length file.now }
-    ensures { KeyIs file.now (meaningOf sexes (itemIn file.now start len)) result.lead result.filled result.start result.len }
+    ensures { KeyIs file.now (meaning_of sexes (item_in file.now start len)) result.lead result.filled result.start result.len }
 {
     let code = code_of(file, start, len);
     if code == b'1' {
@@ -176,7 +176,7 @@ fn sex(file: &[u8], start: usize, len: usize) -> KeyAt
 // PV1-2, table 6.
 fn class(file: &[u8], start: usize, len: usize) -> KeyAt
     requires { start + len ≤ length file.now }
-    ensures { KeyIs file.now (meaningOf classes (itemIn file.now start len)) result.lead result.filled result.start result.len }
+    ensures { KeyIs file.now (meaning_of classes (item_in file.now start len)) result.lead result.filled result.start result.len }
 {
     let code = code_of(file, start, len);
     if code == b'1' {
@@ -191,7 +191,7 @@ fn class(file: &[u8], start: usize, len: usize) -> KeyAt
 // SN, component 1, table 10.
 fn form(file: &[u8], start: usize, len: usize) -> KeyAt
     requires { start + len ≤ length file.now }
-    ensures { KeyIs file.now (meaningOf forms (itemIn file.now start len)) result.lead result.filled result.start result.len }
+    ensures { KeyIs file.now (meaning_of forms (item_in file.now start len)) result.lead result.filled result.start result.len }
 {
     let code = code_of(file, start, len);
     if code == b'U' {
@@ -215,7 +215,7 @@ fn form(file: &[u8], start: usize, len: usize) -> KeyAt
 // OBX-2: a form other than B makes SN; without one a number is NM, any other value ST. (A text with a quote is no number, doubled or not.)
 fn value_type(file: &[u8], spans: &[usize; 90], start: usize, len: usize) -> KeyAt
     requires { Inside file.now spans.now × (start + len ≤ length file.now) }
-    ensures { KeyIs file.now (type_of (item_at file.now spans.now 34) (itemIn file.now start len)) result.lead result.filled result.start result.len }
+    ensures { KeyIs file.now (type_of (item_at file.now spans.now 34) (item_in file.now start len)) result.lead result.filled result.start result.len }
 {
     let code = code_of(file, start, len);
     if (len != 0) & (code != b'B') {
@@ -231,7 +231,7 @@ fn value_type(file: &[u8], spans: &[usize; 90], start: usize, len: usize) -> Key
 // The key that a column feeds.
 pub fn key(file: &[u8], spans: &[usize; 90], how: How, column: usize) -> KeyAt
     requires { Inside file.now spans.now × (1 ≤ column) × (column ≤ 45) }
-    ensures { KeyIs file.now (rawBy (howOf how) (row_at file.now spans.now) column) result.lead result.filled result.start result.len }
+    ensures { KeyIs file.now (raw_by (how_of how) (row_at file.now spans.now) column) result.lead result.filled result.start result.len }
 {
     let n = column - 1;
     let start = spans[2 * n];
@@ -284,7 +284,7 @@ fn byte_at(file: &[u8], k: KeyAt, p: usize) -> Step
 // Whether two keys have the same raw value.
 fn same_key(file: &[u8], a: KeyAt, b: KeyAt) -> bool
     requires { KeyFits file.now a.lead a.filled a.start a.len × KeyFits file.now b.lead b.filled b.start b.len }
-    ensures { result ≡ same (rawOf file.now a.lead a.filled a.start a.len) (rawOf file.now b.lead b.filled b.start b.len) }
+    ensures { result ≡ same (raw_of file.now a.lead a.filled a.start a.len) (raw_of file.now b.lead b.filled b.start b.len) }
 {
     let m = a.filled + a.len;
     let n = b.filled + b.len;
@@ -304,8 +304,8 @@ fn same_key(file: &[u8], a: KeyAt, b: KeyAt) -> bool
 
 // Whether two rows agree in a key that its column alone feeds. Items that are the same byte for byte give the same key.
 fn same_at(file: &[u8], a: &[usize; 90], b: &[usize; 90], how: How, column: usize) -> bool
-    requires { Inside file.now a.now × Inside file.now b.now × (1 ≤ column) × (column ≤ 45) × (byColumn how ≡ true) }
-    ensures { result ≡ same (rawBy (howOf how) (row_at file.now a.now) column) (rawBy (howOf how) (row_at file.now b.now) column) }
+    requires { Inside file.now a.now × Inside file.now b.now × (1 ≤ column) × (column ≤ 45) × (by_column how ≡ true) }
+    ensures { result ≡ same (raw_by (how_of how) (row_at file.now a.now) column) (raw_by (how_of how) (row_at file.now b.now) column) }
 {
     let n = column - 1;
     let mine = csv_rows::item(file, a, n);
@@ -321,7 +321,7 @@ fn same_at(file: &[u8], a: &[usize; 90], b: &[usize; 90], how: How, column: usiz
 // Whether two rows agree in the halves of a name.
 fn same_name(file: &[u8], a: &[usize; 90], b: &[usize; 90], column: usize) -> bool
     requires { Inside file.now a.now × Inside file.now b.now × (1 ≤ column) × (column ≤ 45) }
-    ensures { result ≡ (same (rawBy Columns.upToBlank (row_at file.now a.now) column) (rawBy Columns.upToBlank (row_at file.now b.now) column) && same (rawBy Columns.pastBlank (row_at file.now a.now) column) (rawBy Columns.pastBlank (row_at file.now b.now) column)) }
+    ensures { result ≡ (same (raw_by Columns.upToBlank (row_at file.now a.now) column) (raw_by Columns.upToBlank (row_at file.now b.now) column) && same (raw_by Columns.pastBlank (row_at file.now a.now) column) (raw_by Columns.pastBlank (row_at file.now b.now) column)) }
 {
     same_at(file, a, b, How::UpToBlank, column) & same_at(file, a, b, How::PastBlank, column)
 }
@@ -329,7 +329,7 @@ fn same_name(file: &[u8], a: &[usize; 90], b: &[usize; 90], column: usize) -> bo
 // Whether two rows agree in the patient keys.
 fn same_patient(file: &[u8], a: &[usize; 90], b: &[usize; 90]) -> bool
     requires { Inside file.now a.now × Inside file.now b.now }
-    ensures { result ≡ rawAgree Pid (row_at file.now a.now) (row_at file.now b.now) }
+    ensures { result ≡ raw_agree Pid (row_at file.now a.now) (row_at file.now b.now) }
 {
     same_at(file, a, b, How::Text, 8)
         & same_name(file, a, b, 9)
@@ -349,7 +349,7 @@ pub fn same_number(file: &[u8], a: &[usize; 90], b: &[usize; 90]) -> bool
 // Whether two rows agree in the header keys.
 pub fn same_header(file: &[u8], a: &[usize; 90], b: &[usize; 90]) -> bool
     requires { Inside file.now a.now × Inside file.now b.now }
-    ensures { result ≡ (rawAgree Pid (row_at file.now a.now) (row_at file.now b.now) && rawAgree Pv1 (row_at file.now a.now) (row_at file.now b.now)) }
+    ensures { result ≡ (raw_agree Pid (row_at file.now a.now) (row_at file.now b.now) && raw_agree Pv1 (row_at file.now a.now) (row_at file.now b.now)) }
 {
     same_patient(file, a, b) & same_at(file, a, b, How::Class, 21)
 }
@@ -357,14 +357,14 @@ pub fn same_header(file: &[u8], a: &[usize; 90], b: &[usize; 90]) -> bool
 // In the specimen keys; in the order keys.
 pub fn same_specimen(file: &[u8], a: &[usize; 90], b: &[usize; 90]) -> bool
     requires { Inside file.now a.now × Inside file.now b.now }
-    ensures { result ≡ rawAgree Spm (row_at file.now a.now) (row_at file.now b.now) }
+    ensures { result ≡ raw_agree Spm (row_at file.now a.now) (row_at file.now b.now) }
 {
     same_at(file, a, b, How::Text, 25) & same_at(file, a, b, How::Text, 24)
 }
 
 pub fn same_order(file: &[u8], a: &[usize; 90], b: &[usize; 90]) -> bool
     requires { Inside file.now a.now × Inside file.now b.now }
-    ensures { result ≡ rawAgree Obr (row_at file.now a.now) (row_at file.now b.now) }
+    ensures { result ≡ raw_agree Obr (row_at file.now a.now) (row_at file.now b.now) }
 {
     same_at(file, a, b, How::Fifteen, 20) & same_at(file, a, b, How::Text, 30)
 }

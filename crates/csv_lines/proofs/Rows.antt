@@ -8,18 +8,18 @@ use Rattle.rules.specs.Sheet.{row_lines}
 use Rattle.rules.proofs.Logic.{cases}
 use Rattle.csv_rules.specs.Quote.{Items, FileLine}
 use Rattle.csv_rules.specs.Columns.{keys}
-use Rattle.csv_rules.specs.Sheets.{agree, Run, Given, below, sheetRows}
-use Rattle.csv_lines.specs.Lines.{headerLines, first_lines, nextLines, groupLines}
+use Rattle.csv_rules.specs.Sheets.{agree, Run, Given, below, sheet_rows}
+use Rattle.csv_lines.specs.Lines.{header_lines, first_lines, next_lines, group_lines}
 use Rattle.csv_lines.proofs.Groups.{tables}
 
 -- ---- the lines of a run
 pub rows_are : (g : Given) (u : Run)
-    → row_lines (sheetRows g u) ≡ headerLines g.mode g.sent g.control ++ (first_lines u.row.items ++ row_lines (below u.row.items u.others))
-unfolding tables row_lines sheetRows row_of values first_lines
+    → row_lines (sheet_rows g u) ≡ header_lines g.mode g.sent g.control ++ (first_lines u.row.items ++ row_lines (below u.row.items u.others))
+unfolding tables row_lines sheet_rows row_of values first_lines
 rows_are g u = refl
 
-pub next-are : (q : Items) (r : FileLine) (rs : List FileLine) → row_lines (below q (r ∷ rs)) ≡ nextLines q r.items ++ row_lines (below r.items rs)
-unfolding tables row_lines below row_of values nextLines
+pub next-are : (q : Items) (r : FileLine) (rs : List FileLine) → row_lines (below q (r ∷ rs)) ≡ next_lines q r.items ++ row_lines (below r.items rs)
+unfolding tables row_lines below row_of values next_lines
 next-are q r rs =
     cases (agree Spm q r.items)
     (λ e. cases (agree Obr q r.items) (λ h. rw (e, h)) (λ h. rw (e, h)))
@@ -27,9 +27,9 @@ next-are q r rs =
 
 -- ---- rows with equal keys
 pub first-same : (r p : Items) → ((g : Name) → keys g r ≡ keys g p) → first_lines r ≡ first_lines p
-unfolding first_lines groupLines
+unfolding first_lines group_lines
 first-same r p e = rw (e Pid, e Pv1, e Spm, e Obr, e Obx)
 
-pub next-same : (q p r s : Items) → ((g : Name) → keys g q ≡ keys g p) → ((g : Name) → keys g r ≡ keys g s) → nextLines q r ≡ nextLines p s
-unfolding nextLines groupLines
+pub next-same : (q p r s : Items) → ((g : Name) → keys g q ≡ keys g p) → ((g : Name) → keys g r ≡ keys g s) → next_lines q r ≡ next_lines p s
+unfolding next_lines group_lines
 next-same q p r s e h = rw (e Spm, e Obr, h Spm, h Obr, h Obx)

@@ -3,11 +3,11 @@ ghost use Rattle.std.specs.Prelude.{◌≡◌, true, [], ◌∷◌, ◌++◌, �
 ghost use Rattle.rules.specs.declared.Name.TheVariants.{Pid, Pv1, Spm, Obr, Obx};
 ghost use Rattle.rules.specs.Lists.{all};
 ghost use Rattle.csv_rules.specs.Kanji.{convertible};
-ghost use Rattle.csv_rules.specs.Columns.{valueBy};
+ghost use Rattle.csv_rules.specs.Columns.{value_by};
 ghost use Rattle.reach.specs.Reach.{Adds};
 ghost use Rattle.csv_rows.specs.Rows.{Inside, row_at};
-ghost use Rattle.csv_keys.specs.Keys.{howOf};
-ghost use Rattle.csv_lines.specs.Lines.{AddsLines, lineBy, familyAndGiven, groupLines, someLines, headerLines, first_lines, nextLines};
+ghost use Rattle.csv_keys.specs.Keys.{how_of};
+ghost use Rattle.csv_lines.specs.Lines.{AddsLines, line_by, family_and_given, group_lines, some_lines, header_lines, first_lines, next_lines};
 
 use csv_keys::How;
 
@@ -23,7 +23,7 @@ fn put_value(
     column: usize,
 ) -> usize
     requires { (at ≤ length out.old) × Inside file.now spans.now × (all convertible (row_at file.now spans.now) ≡ true) × (1 ≤ column) × (column ≤ 45) }
-    ensures { Adds at out.old (valueBy (howOf how) (row_at file.now spans.now) column) result out.new }
+    ensures { Adds at out.old (value_by (how_of how) (row_at file.now spans.now) column) result out.new }
 {
     let k = csv_keys::key(file, spans, how, column);
     let lead = k.lead;
@@ -45,7 +45,7 @@ fn line<'a>(
     column: usize,
 ) -> usize
     requires { (at ≤ length out.old) × Inside file.now spans.now × (all convertible (row_at file.now spans.now) ≡ true) × (1 ≤ column) × (column ≤ 45) }
-    ensures { AddsLines at out.old (lineBy key.now how (row_at file.now spans.now) column) result out.new }
+    ensures { AddsLines at out.old (line_by key.now how (row_at file.now spans.now) column) result out.new }
 {
     let at = reach::put(out, at, key);
     let at = put_value(out, at, file, spans, how, column);
@@ -67,7 +67,7 @@ fn plain_line<'a>(out: &mut [u8], at: usize, key: &'a [u8], value: &'a [u8]) -> 
 // "the caller gives the values of keys without a column"
 pub fn header(out: &mut [u8], at: usize, mode: &[u8], sent: &[u8], control: &[u8]) -> usize
     requires { at ≤ length out.old }
-    ensures { AddsLines at out.old (headerLines mode.now sent.now control.now) result out.new }
+    ensures { AddsLines at out.old (header_lines mode.now sent.now control.now) result out.new }
 {
     let at = reach::put(out, at, b"version=1\n");
     let at = plain_line(out, at, b"mode=", mode);
@@ -77,7 +77,7 @@ pub fn header(out: &mut [u8], at: usize, mode: &[u8], sent: &[u8], control: &[u8
 
 fn patient(out: &mut [u8], at: usize, file: &[u8], spans: &[usize; 90]) -> usize
     requires { (at ≤ length out.old) × Inside file.now spans.now × (all convertible (row_at file.now spans.now) ≡ true) }
-    ensures { AddsLines at out.old (groupLines Pid (row_at file.now spans.now)) result out.new }
+    ensures { AddsLines at out.old (group_lines Pid (row_at file.now spans.now)) result out.new }
 {
     let at = line(out, at, b"patient=", file, spans, How::Text, 8);
     let at = name(out, at, b"family=", b"given=", file, spans, 9);
@@ -96,7 +96,7 @@ fn name<'a>(
     column: usize,
 ) -> usize
     requires { (at ≤ length out.old) × Inside file.now spans.now × (all convertible (row_at file.now spans.now) ≡ true) × (1 ≤ column) × (column ≤ 45) }
-    ensures { AddsLines at out.old (familyAndGiven family.now given.now (row_at file.now spans.now) column) result out.new }
+    ensures { AddsLines at out.old (family_and_given family.now given.now (row_at file.now spans.now) column) result out.new }
 {
     let at = line(out, at, family, file, spans, How::UpToBlank, column);
     line(out, at, given, file, spans, How::PastBlank, column)
@@ -105,7 +105,7 @@ fn name<'a>(
 // birth and sex.
 fn birth(out: &mut [u8], at: usize, file: &[u8], spans: &[usize; 90]) -> usize
     requires { (at ≤ length out.old) × Inside file.now spans.now × (all convertible (row_at file.now spans.now) ≡ true) }
-    ensures { AddsLines at out.old (someLines Pid 5 2 (row_at file.now spans.now)) result out.new }
+    ensures { AddsLines at out.old (some_lines Pid 5 2 (row_at file.now spans.now)) result out.new }
 {
     let at = line(out, at, b"birth=", file, spans, How::Text, 11);
     line(out, at, b"sex=", file, spans, How::Sex, 12)
@@ -113,14 +113,14 @@ fn birth(out: &mut [u8], at: usize, file: &[u8], spans: &[usize; 90]) -> usize
 
 fn visit(out: &mut [u8], at: usize, file: &[u8], spans: &[usize; 90]) -> usize
     requires { (at ≤ length out.old) × Inside file.now spans.now × (all convertible (row_at file.now spans.now) ≡ true) }
-    ensures { AddsLines at out.old (groupLines Pv1 (row_at file.now spans.now)) result out.new }
+    ensures { AddsLines at out.old (group_lines Pv1 (row_at file.now spans.now)) result out.new }
 {
     line(out, at, b"class=", file, spans, How::Class, 21)
 }
 
 fn specimen(out: &mut [u8], at: usize, file: &[u8], spans: &[usize; 90]) -> usize
     requires { (at ≤ length out.old) × Inside file.now spans.now × (all convertible (row_at file.now spans.now) ≡ true) }
-    ensures { AddsLines at out.old (groupLines Spm (row_at file.now spans.now)) result out.new }
+    ensures { AddsLines at out.old (group_lines Spm (row_at file.now spans.now)) result out.new }
 {
     let at = line(out, at, b"specimen=", file, spans, How::Text, 25);
     line(out, at, b"collected=", file, spans, How::Text, 24)
@@ -128,7 +128,7 @@ fn specimen(out: &mut [u8], at: usize, file: &[u8], spans: &[usize; 90]) -> usiz
 
 fn order(out: &mut [u8], at: usize, file: &[u8], spans: &[usize; 90]) -> usize
     requires { (at ≤ length out.old) × Inside file.now spans.now × (all convertible (row_at file.now spans.now) ≡ true) }
-    ensures { AddsLines at out.old (groupLines Obr (row_at file.now spans.now)) result out.new }
+    ensures { AddsLines at out.old (group_lines Obr (row_at file.now spans.now)) result out.new }
 {
     let at = line(out, at, b"order=", file, spans, How::Fifteen, 20);
     line(out, at, b"group=", file, spans, How::Text, 30)
@@ -136,7 +136,7 @@ fn order(out: &mut [u8], at: usize, file: &[u8], spans: &[usize; 90]) -> usize
 
 fn result(out: &mut [u8], at: usize, file: &[u8], spans: &[usize; 90]) -> usize
     requires { (at ≤ length out.old) × Inside file.now spans.now × (all convertible (row_at file.now spans.now) ≡ true) }
-    ensures { AddsLines at out.old (groupLines Obx (row_at file.now spans.now)) result out.new }
+    ensures { AddsLines at out.old (group_lines Obx (row_at file.now spans.now)) result out.new }
 {
     let at = item(out, at, file, spans);
     let at = observed(out, at, file, spans);
@@ -146,7 +146,7 @@ fn result(out: &mut [u8], at: usize, file: &[u8], spans: &[usize; 90]) -> usize
 // item, name and type.
 fn item(out: &mut [u8], at: usize, file: &[u8], spans: &[usize; 90]) -> usize
     requires { (at ≤ length out.old) × Inside file.now spans.now × (all convertible (row_at file.now spans.now) ≡ true) }
-    ensures { AddsLines at out.old (someLines Obx 0 3 (row_at file.now spans.now)) result out.new }
+    ensures { AddsLines at out.old (some_lines Obx 0 3 (row_at file.now spans.now)) result out.new }
 {
     let at = line(out, at, b"item=", file, spans, How::Text, 31);
     let at = line(out, at, b"name=", file, spans, How::Text, 29);
@@ -156,7 +156,7 @@ fn item(out: &mut [u8], at: usize, file: &[u8], spans: &[usize; 90]) -> usize
 // compare and value; join and second are blank.
 fn observed(out: &mut [u8], at: usize, file: &[u8], spans: &[usize; 90]) -> usize
     requires { (at ≤ length out.old) × Inside file.now spans.now × (all convertible (row_at file.now spans.now) ≡ true) }
-    ensures { AddsLines at out.old (someLines Obx 3 4 (row_at file.now spans.now)) result out.new }
+    ensures { AddsLines at out.old (some_lines Obx 3 4 (row_at file.now spans.now)) result out.new }
 {
     let at = line(out, at, b"compare=", file, spans, How::Form, 36);
     let at = line(out, at, b"value=", file, spans, How::Text, 35);
@@ -166,7 +166,7 @@ fn observed(out: &mut [u8], at: usize, file: &[u8], spans: &[usize; 90]) -> usiz
 // unit, flag and status.
 fn status(out: &mut [u8], at: usize, file: &[u8], spans: &[usize; 90]) -> usize
     requires { (at ≤ length out.old) × Inside file.now spans.now × (all convertible (row_at file.now spans.now) ≡ true) }
-    ensures { AddsLines at out.old (someLines Obx 7 3 (row_at file.now spans.now)) result out.new }
+    ensures { AddsLines at out.old (some_lines Obx 7 3 (row_at file.now spans.now)) result out.new }
 {
     let at = line(out, at, b"unit=", file, spans, How::Text, 37);
     let at = line(out, at, b"flag=", file, spans, How::Text, 41);
@@ -196,7 +196,7 @@ pub fn next_row(
     spans: &[usize; 90],
 ) -> usize
     requires { (at ≤ length out.old) × Inside file.now before.now × (all convertible (row_at file.now before.now) ≡ true) × Inside file.now spans.now × (all convertible (row_at file.now spans.now) ≡ true) }
-    ensures { AddsLines at out.old (nextLines (row_at file.now before.now) (row_at file.now spans.now)) result out.new }
+    ensures { AddsLines at out.old (next_lines (row_at file.now before.now) (row_at file.now spans.now)) result out.new }
 {
     if !csv_keys::same_specimen(file, before, spans) {
         let at = specimen(out, at, file, spans);

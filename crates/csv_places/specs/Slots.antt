@@ -8,7 +8,7 @@ pub record Nothing (places : List ℕ) : Type 0 where
   pub none : (i : ℕ) → get_or places i 0 ≡ 0
 
 -- the slot that is told free; 0 where none is
-unfoldable pub freeSlot : Slot → ℕ
-freeSlot (Held p) = 0
-freeSlot (Free i) = i
-freeSlot Crowded = 0
+unfoldable pub free_slot : Slot → ℕ
+free_slot (Held p) = 0
+free_slot (Free i) = i
+free_slot Crowded = 0

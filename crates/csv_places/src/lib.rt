@@ -4,8 +4,8 @@ ghost use Rattle.std.specs.Prelude.{◌≡◌, false, cond, ◌<◌, length};
 ghost use Rattle.csv_rules.specs.Written.{halved};
 ghost use Rattle.csv_rules.specs.Columns.{number_of};
 ghost use Rattle.csv_rows.specs.Rows.{Inside, row_at};
-ghost use Rattle.csv_places.specs.Places.{itemsAt, stirred, hashOf, slotFilled, slotAfter, number_at, RowThere, Places, SlotIs, keepsPlace, withPlace};
-ghost use Rattle.csv_places.specs.Slots.{Nothing, freeSlot};
+ghost use Rattle.csv_places.specs.Places.{items_at, stirred, hash_of, slot_filled, slot_after, number_at, RowThere, Places, SlotIs, keeps_place, with_place};
+ghost use Rattle.csv_places.specs.Slots.{Nothing, free_slot};
 
 // What is kept of a number.
 #[derive(Drop)]
@@ -45,7 +45,7 @@ fn wide(b: u8) -> usize
 
 // The hash of an item, from how it lies in the file.
 fn hash(raw: &[u8]) -> usize
-    ensures value { result ≡ hashOf (halved false raw.now) }
+    ensures value { result ≡ hash_of (halved false raw.now) }
     ensures small { result < 4294967296 }
 {
     let mut h = 0;
@@ -63,7 +63,7 @@ fn hash(raw: &[u8]) -> usize
 // The hash of a row's number.
 pub fn hash_of(file: &[u8], spans: &[usize; 90]) -> usize
     requires { Inside file.now spans.now }
-    ensures value { result ≡ hashOf (number_of (row_at file.now spans.now)) }
+    ensures value { result ≡ hash_of (number_of (row_at file.now spans.now)) }
     ensures small { result < 4294967296 }
 {
     hash(csv_rows::item(file, spans, 6))
@@ -72,7 +72,7 @@ pub fn hash_of(file: &[u8], spans: &[usize; 90]) -> usize
 // The slot behind one, the first behind the last.
 fn slot_after(slot: usize) -> usize
     requires { slot < 32768 }
-    ensures value { result ≡ slotAfter slot }
+    ensures value { result ≡ slot_after slot }
     ensures within { result < 32768 }
 {
     if slot == 32767 {
@@ -100,7 +100,7 @@ fn number_there(file: &[u8], p: usize, spans: &[usize; 90]) -> bool
 
 // The same, where the hashes of both numbers are known: the row is read only where they are alike.
 fn number_marked(file: &[u8], p: usize, mark: usize, spans: &[usize; 90], hash: usize) -> bool
-    requires { RowThere file.now p × Inside file.now spans.now × (mark ≡ hashOf (number_of (itemsAt file.now p))) × (hash ≡ hashOf (number_of (row_at file.now spans.now))) }
+    requires { RowThere file.now p × Inside file.now spans.now × (mark ≡ hash_of (number_of (items_at file.now p))) × (hash ≡ hash_of (number_of (row_at file.now spans.now))) }
     ensures { result ≡ number_at file.now (row_at file.now spans.now) p }
 {
     if mark == hash {
@@ -111,7 +111,7 @@ fn number_marked(file: &[u8], p: usize, mark: usize, spans: &[usize; 90], hash: 
 
 // What is kept of the number of a row, whose hash is given: looked for from the slot of its hash on.
 pub fn look_up(file: &[u8], places: &[u32; 65536], spans: &[usize; 90], hash: usize) -> Slot
-    requires { Places file.now places.now × Inside file.now spans.now × (hash ≡ hashOf (number_of (row_at file.now spans.now))) }
+    requires { Places file.now places.now × Inside file.now spans.now × (hash ≡ hash_of (number_of (row_at file.now spans.now))) }
     ensures { SlotIs file.now places.now (row_at file.now spans.now) result }
 {
     let mut slot = hash % 32768;
@@ -134,7 +134,7 @@ pub fn look_up(file: &[u8], places: &[u32; 65536], spans: &[usize; 90], hash: us
 // Fills a slot.
 fn put(places: &mut [u32; 65536], i: usize, at: usize, hash: usize)
     requires { (i < 32768) × (at < 4294967296) × (hash < 4294967296) }
-    ensures { places.new ≡ slotFilled places.old i at hash }
+    ensures { places.new ≡ slot_filled places.old i at hash }
 {
     places[2 * i] = at as u32;
     places[2 * i + 1] = hash as u32;
@@ -142,9 +142,9 @@ fn put(places: &mut [u32; 65536], i: usize, at: usize, hash: usize)
 
 // Keeps a place for a number, whose hash is given, where a slot is free; tells whether the number is known then.
 pub fn keep(places: &mut [u32; 65536], slot: Slot, at: usize, hash: usize) -> bool
-    requires { (freeSlot slot < 32768) × (hash < 4294967296) }
-    ensures value { result ≡ keepsPlace slot at }
-    ensures kept { places.new ≡ withPlace places.old slot at hash }
+    requires { (free_slot slot < 32768) × (hash < 4294967296) }
+    ensures value { result ≡ keeps_place slot at }
+    ensures kept { places.new ≡ with_place places.old slot at hash }
 {
     match slot {
         Slot::Held(_) => true,

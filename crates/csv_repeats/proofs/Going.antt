@@ -12,8 +12,8 @@ use Rattle.rules.specs.Lists.{any, all}
 use Rattle.rules.proofs.Logic.{cases, never, and-false, or-false, not-true}
 use Rattle.rules.proofs.Lists.{all_cons, all_first}
 use Rattle.csv_rules.specs.Quote.{FileLine}
-use Rattle.csv_rules.specs.Sheets.{clash, differ, rowConverts, runs, bytesIn}
-use Rattle.csv_rules.specs.Spot.{firstAfter, clashes, comesBack}
+use Rattle.csv_rules.specs.Sheets.{clash, differ, row_converts, runs, bytes_in}
+use Rattle.csv_rules.specs.Spot.{first_after, clashes, comes_back}
 use Rattle.csv_rules.proofs.Behind.{among, new-agrees}
 use Rattle.csv_rules.proofs.Order.{all-parts}
 use Rattle.csv_rows.specs.Rows.{lines_from, RowIs}
@@ -22,9 +22,9 @@ use Rattle.csv_places.specs.Places.{Places}
 use Rattle.csv_places.specs.Slots.{Nothing}
 use Rattle.csv_repeats.specs.declared.Standing.{Standing}
 use Rattle.csv_repeats.specs.declared.Standing.TheVariants.{Same, New, Back, Differs}
-use Rattle.csv_repeats.specs.Looks.{Stands, WithRow, isDiffers, isBack, begun}
-use Rattle.csv_repeats.specs.Rounds.{firstLine, left, Partly}
-use Rattle.csv_repeats.proofs.Seen.{back, back-append, sized, few-sized, any_append, sameRun, begunAfter, begun_all}
+use Rattle.csv_repeats.specs.Looks.{Stands, WithRow, is_differs, is_back, begun}
+use Rattle.csv_repeats.specs.Rounds.{first_line, left, Partly}
+use Rattle.csv_repeats.proofs.Seen.{back, back-append, sized, few-sized, any_append, same_run, begun_after, begun_all}
 use Rattle.csv_repeats.proofs.Standings.{Says, away, none-back}
 use Rattle.csv_repeats.proofs.Laws.{row-alike}
 use Rattle.csv_repeats.proofs.Kept.{Kept, Near, kept-starts, kept-places, stands-says, stands-left, stands-kept}
@@ -34,15 +34,15 @@ use Rattle.csv_repeats.proofs.Firsts.{least-none, least-early, first-late, Alone
 pub record Keeping (f : List ℕ) (first k : ℕ) (places before : List ℕ) (at line returns count : ℕ) : Type 0 where
   pub seen : List FileLine
   pub lines : lines_from f first ≡ back seen (lines_from f at)
-  pub place : at ≡ first + bytesIn seen
+  pub place : at ≡ first + bytes_in seen
   pub line-is : line ≡ k + length seen
-  pub converts : all rowConverts seen ≡ true
+  pub converts : all row_converts seen ≡ true
   pub sizes-are : all sized seen ≡ true
   pub agree : differ seen ≡ false
-  pub clash-at : firstAfter clashes k [] (lines_from f first) ≡ firstAfter clashes line seen (lines_from f at)
-  pub back_at : firstAfter comesBack k [] (lines_from f first) ≡ cond (eqb returns 0) (firstAfter comesBack line seen (lines_from f at)) returns
+  pub clash-at : first_after clashes k [] (lines_from f first) ≡ first_after clashes line seen (lines_from f at)
+  pub back_at : first_after comes_back k [] (lines_from f first) ≡ cond (eqb returns 0) (first_after comes_back line seen (lines_from f at)) returns
   pub back-before : returns < line
-  pub runs-are : length (runs (lines_from f first)) ≡ count + begunAfter seen (lines_from f at)
+  pub runs-are : length (runs (lines_from f first)) ≡ count + begun_after seen (lines_from f at)
   pub kept-are : Kept f seen places
   pub near : Near f before seen
 
@@ -52,22 +52,22 @@ pub record Leaving (f : List ℕ) (first k : ℕ) (places before : List ℕ) (at
   pub late : List FileLine
   pub lines : lines_from f first ≡ back kept (lines_from f unkept)
   pub late-are : lines_from f unkept ≡ back late (lines_from f at)
-  pub place : at ≡ first + bytesIn (late ++ kept)
+  pub place : at ≡ first + bytes_in (late ++ kept)
   pub line-is : line ≡ k + length (late ++ kept)
-  pub unkept-is : unkept ≡ first + bytesIn kept
+  pub unkept-is : unkept ≡ first + bytes_in kept
   pub start_is : start ≡ k + length kept
   pub inside : unkept < length f
   pub some : first < 4294967296 → kept ≡ [] → ⊥
-  pub converts : all rowConverts (late ++ kept) ≡ true
+  pub converts : all row_converts (late ++ kept) ≡ true
   pub sizes-are : all sized (late ++ kept) ≡ true
   pub kept-sizes : all sized kept ≡ true
   pub agree : differ kept ≡ false
   pub apart : all (away kept) late ≡ true
-  pub clash-at : firstAfter clashes k [] (lines_from f first) ≡ firstAfter clashes start kept (lines_from f unkept)
-  pub back_at : returns ≡ 0 → firstAfter comesBack k [] (lines_from f first) ≡ firstAfter comesBack start kept (lines_from f unkept)
-  pub back_alone : returns ≡ 0 → Alone comesBack kept late
-  pub back-met : (returns ≡ 0 → ⊥) → firstAfter comesBack k [] (lines_from f first) ≡ firstLine returns (firstAfter comesBack start [] (lines_from f unkept))
-  pub runs-are : length (runs (lines_from f first)) ≡ count + begunAfter (late ++ kept) (lines_from f at)
+  pub clash-at : first_after clashes k [] (lines_from f first) ≡ first_after clashes start kept (lines_from f unkept)
+  pub back_at : returns ≡ 0 → first_after comes_back k [] (lines_from f first) ≡ first_after comes_back start kept (lines_from f unkept)
+  pub back_alone : returns ≡ 0 → Alone comes_back kept late
+  pub back-met : (returns ≡ 0 → ⊥) → first_after comes_back k [] (lines_from f first) ≡ first_line returns (first_after comes_back start [] (lines_from f unkept))
+  pub runs-are : length (runs (lines_from f first)) ≡ count + begun_after (late ++ kept) (lines_from f at)
   pub kept-are : Kept f kept places
   pub near : Near f before (late ++ kept)
 
@@ -78,7 +78,7 @@ pub record Going (f : List ℕ) (first k : ℕ) (places before : List ℕ) (at u
 
 pub going-starts : (f : List ℕ) (first k : ℕ) (places before : List ℕ) (start : ℕ) → 0 < k → length places ≡ 65536 → Nothing places
     → Going f first k places before first 0 start k 0 0
-unfolding back bytesIn all differ Near
+unfolding back bytes_in all differ Near
 going-starts f first k places before start h m n = record {
   keeping = λ z. record {
     seen = [];
@@ -91,7 +91,7 @@ going-starts f first k places before start h m n = record {
     clash-at = refl;
     back_at = refl;
     back-before = h;
-    runs-are = begun_all (lines_from f first) ∙ (let z : begunAfter [] (lines_from f first) ≡ 0 + begunAfter [] (lines_from f first) = omega arith in z);
+    runs-are = begun_all (lines_from f first) ∙ (let z : begun_after [] (lines_from f first) ≡ 0 + begun_after [] (lines_from f first) = omega arith in z);
     kept-are = kept-starts f places m n;
     near = tt;
   };
@@ -105,9 +105,9 @@ unfolding left
 left-some f unkept z = rw (ne_eqb unkept 0 z)
 
 -- where none is left
-none_left : (f : List ℕ) (first k differs returns start : ℕ) → firstAfter clashes k [] (lines_from f first) ≡ differs
-    → (differs ≡ 0 → firstAfter comesBack k [] (lines_from f first) ≡ returns) → Partly f first k differs returns 0 start
-unfolding left firstAfter
+none_left : (f : List ℕ) (first k differs returns start : ℕ) → first_after clashes k [] (lines_from f first) ≡ differs
+    → (differs ≡ 0 → first_after comes_back k [] (lines_from f first) ≡ returns) → Partly f first k differs returns 0 start
+unfolding left first_after
 none_left f first k differs returns start d b = record {
   clash = d ∙ sym (least-none differs);
   back = λ h. b h ∙ sym (least-none returns);
@@ -127,18 +127,18 @@ away-alone kept (l ∷ late) h =
     (rw (any_append (clash l.items) late kept, n, or-false (any (clash l.items) late)), away-alone kept late q.1)
 
 -- some rows have some bytes
-some-sizes : (s : List FileLine) → (s ≡ [] → ⊥) → all sized s ≡ true → 0 < bytesIn s
-unfolding bytesIn
+some-sizes : (s : List FileLine) → (s ≡ [] → ⊥) → all sized s ≡ true → 0 < bytes_in s
+unfolding bytes_in
 some-sizes [] h k = absurd (h refl)
 some-sizes (l ∷ s) h k = omega (arith, ltb-true 0 l.size (all_first sized l s k).0)
 
 -- a row is left at least
 module _ (f : List ℕ) (first k : ℕ) (places before : List ℕ) (at unkept start line returns count : ℕ) (z : unkept ≡ 0 → ⊥)
     (G : Leaving f first k places before at unkept start line returns count) where
-  some_left : (differs told : ℕ) → firstAfter clashes k [] (lines_from f first) ≡ firstLine differs (firstAfter clashes start [] (lines_from f unkept))
-      → (differs ≡ 0 → firstAfter comesBack k [] (lines_from f first) ≡ firstLine told (firstAfter comesBack start [] (lines_from f unkept)))
+  some_left : (differs told : ℕ) → first_after clashes k [] (lines_from f first) ≡ first_line differs (first_after clashes start [] (lines_from f unkept))
+      → (differs ≡ 0 → first_after comes_back k [] (lines_from f first) ≡ first_line told (first_after comes_back start [] (lines_from f unkept)))
       → Partly f first k differs told unkept start
-  unfolding bytesIn
+  unfolding bytes_in
   some_left differs told d b =
       let e = left-some f unkept z in
       record {
@@ -159,7 +159,7 @@ module _ (f : List ℕ) (first k : ℕ) (places before : List ℕ) (at unkept st
       (λ q. let K = G.keeping (eqb-true unkept 0 q) in kept-places f K.seen places K.kept-are)
       (λ q. let L = G.leaving (eqb-false unkept 0 q) in kept-places f L.kept places L.kept-are)
 
-  pub going-converts : all rowConverts (lines_from f first) ≡ true → all rowConverts (lines_from f at) ≡ true
+  pub going-converts : all row_converts (lines_from f first) ≡ true → all row_converts (lines_from f at) ≡ true
   going-converts h =
       cases (eqb unkept 0)
       (λ q. let K = G.keeping (eqb-true unkept 0 q) in behind K.seen (lines_from f first) (lines_from f at) K.lines h)
@@ -167,22 +167,22 @@ module _ (f : List ℕ) (first k : ℕ) (places before : List ℕ) (at unkept st
       let L = G.leaving (eqb-false unkept 0 q) in
       behind L.late (lines_from f unkept) (lines_from f at) L.late-are (behind L.kept (lines_from f first) (lines_from f unkept) L.lines h))
     where
-      behind : (seen ls rest : List FileLine) → ls ≡ back seen rest → all rowConverts ls ≡ true → all rowConverts rest ≡ true
-      behind seen ls rest e h = (all-parts rowConverts (back seen []) rest (rw (e, back-append seen rest) at h)).1
+      behind : (seen ls rest : List FileLine) → ls ≡ back seen rest → all row_converts ls ≡ true → all row_converts rest ≡ true
+      behind seen ls rest e h = (all-parts row_converts (back seen []) rest (rw (e, back-append seen rest) at h)).1
 
 -- ---- the end
 module _ (f : List ℕ) (first k : ℕ) (places before : List ℕ) (at unkept start line returns count : ℕ) (G : Going f first k places before at unkept start line returns count)
     (e : lines_from f at ≡ []) where
   keeping-ends : Keeping f first k places before at line returns count → Partly f first k 0 returns 0 start
-  unfolding firstAfter
+  unfolding first_after
   keeping-ends K =
-      none_left f first k 0 returns start (K.clash-at ∙ ap (firstAfter clashes line K.seen) e)
+      none_left f first k 0 returns start (K.clash-at ∙ ap (first_after clashes line K.seen) e)
       (λ h.
-      K.back_at ∙ ap (λ (ls : List FileLine). cond (eqb returns 0) (firstAfter comesBack line K.seen ls) returns) e
+      K.back_at ∙ ap (λ (ls : List FileLine). cond (eqb returns 0) (first_after comes_back line K.seen ls) returns) e
       ∙ cases (eqb returns 0) (λ q. rw q (sym (eqb-true returns 0 q))) (λ q. rw q))
 
   leaving-ends : (unkept ≡ 0 → ⊥) → Leaving f first k places before at unkept start line returns count → Partly f first k 0 returns unkept start
-  unfolding firstLine
+  unfolding first_line
   leaving-ends z L =
       let u : 0 < start = omega (arith, G.counted, L.start_is) in
       let ls : lines_from f unkept ≡ back L.late [] = L.late-are ∙ ap (back L.late) e in
@@ -192,7 +192,7 @@ module _ (f : List ℕ) (first k : ℕ) (places before : List ℕ) (at unkept st
       cases (eqb returns 0)
       (λ q.
       let y = eqb-true returns 0 q in
-      rw y (L.back_at y ∙ rw ls (alone-ends comesBack L.kept start u L.late (L.back_alone y))))
+      rw y (L.back_at y ∙ rw ls (alone-ends comes_back L.kept start u L.late (L.back_alone y))))
       (λ q. L.back-met (eqb-false returns 0 q)))
 
   pub going-ends : Partly f first k 0 returns unkept start
@@ -202,9 +202,9 @@ module _ (f : List ℕ) (first k : ℕ) (places before : List ℕ) (at unkept st
       (λ q. let y = eqb-false unkept 0 q in leaving-ends y (G.leaving y))
 
   pub going-runs : count ≡ length (runs (lines_from f first))
-  unfolding begunAfter
+  unfolding begun_after
   going-runs =
-      let none : (seen : List FileLine) → begunAfter seen (lines_from f at) ≡ 0 = λ seen. ap (begunAfter seen) e in
+      let none : (seen : List FileLine) → begun_after seen (lines_from f at) ≡ 0 = λ seen. ap (begun_after seen) e in
       cases (eqb unkept 0)
       (λ q. let K = G.keeping (eqb-true unkept 0 q) in omega (arith, K.runs-are, none K.seen))
       (λ q. let L = G.leaving (eqb-false unkept 0 q) in omega (arith, L.runs-are, none (L.late ++ L.kept)))
@@ -228,7 +228,7 @@ module _ (f : List ℕ) (first k : ℕ) (places before : List ℕ) (at line retu
   row-some = let m : 0 < size + 0 = rw b at T.moves in omega arith
 
   -- as long as every number is kept
-  module _ (K : Keeping f first k places before at line returns count) (c : rowConverts row ≡ true) (z : at ≡ 0 → ⊥)
+  module _ (K : Keeping f first k places before at line returns count) (c : row_converts row ≡ true) (z : at ≡ 0 → ⊥)
       (s : Standing) (o : ℕ) (after : List ℕ) (R : Stands f first at before spans places 0 s o after) where
     keep-says : Says K.seen [] row s
     unfolding all
@@ -242,67 +242,67 @@ module _ (f : List ℕ) (first k : ℕ) (places before : List ℕ) (at line retu
         stands-kept f first at before spans places K.seen K.kept-are row K.place K.near K.sizes-are (row-alike f spans T.items T.lies) s o after R rows z
 
     -- 53
-    keep-differs : (told start : ℕ) → 0 < line → isDiffers s ≡ true → Partly f first k line told o start
-    unfolding firstAfter
+    keep-differs : (told start : ℕ) → 0 < line → is_differs s ≡ true → Partly f first k line told o start
+    unfolding first_after
     keep-differs told start l h =
         let a : any (clash T.items) K.seen ≡ true = keep-says.differs h in
         keep-cases
         (λ q w.
         rw q
-        (none_left f first k line told start (K.clash-at ∙ ap (firstAfter clashes line K.seen) rows ∙ rw (a, firstAfter)) (λ y. absurd (omega arith))))
+        (none_left f first k line told start (K.clash-at ∙ ap (first_after clashes line K.seen) rows ∙ rw (a, first_after)) (λ y. absurd (omega arith))))
         (λ q w m y. never (sym a ∙ new-agrees row K.seen m))
 
-    module _ (h : isDiffers s ≡ false) where
+    module _ (h : is_differs s ≡ false) where
       none : any (clash T.items) K.seen ≡ false
       none = keep-says.agrees h
 
-      begins : begun s ≡ cond (sameRun K.seen row) 0 1
+      begins : begun s ≡ cond (same_run K.seen row) 0 1
       begins = keep-says.begins h
 
       -- it is kept, too
-      keep-on : (p : ℕ) → p ≡ cond (eqb returns 0 && isBack s) line returns → Kept f (row ∷ K.seen) after
+      keep-on : (p : ℕ) → p ≡ cond (eqb returns 0 && is_back s) line returns → Kept f (row ∷ K.seen) after
           → Keeping f first k after spans (at + size) (line + 1) p (count + begun s)
-      unfolding back bytesIn all differ Near firstAfter begunAfter comesBack
+      unfolding back bytes_in all differ Near first_after begun_after comes_back
       keep-on p q w = record {
         seen = row ∷ K.seen;
         lines = K.lines ∙ ap (back K.seen) rows;
         place = omega (arith, K.place);
         line-is = omega (arith, K.line-is);
-        converts = rw (all_cons rowConverts row K.seen, c) K.converts;
+        converts = rw (all_cons row_converts row K.seen, c) K.converts;
         sizes-are = rw (all_cons sized row K.seen, lt-ltb 0 size row-some) K.sizes-are;
         agree = rw none K.agree;
-        clash-at = K.clash-at ∙ ap (firstAfter clashes line K.seen) rows ∙ rw (none, firstAfter, add-one);
+        clash-at = K.clash-at ∙ ap (first_after clashes line K.seen) rows ∙ rw (none, first_after, add-one);
         back_at = K.back_at ∙ back-next;
         back-before = back_low;
         runs-are =
-            let y : begunAfter K.seen (lines_from f at) ≡ cond (sameRun K.seen row) 0 1 + begunAfter (row ∷ K.seen) (lines_from f (at + size)) =
-            ap (begunAfter K.seen) rows in
+            let y : begun_after K.seen (lines_from f at) ≡ cond (same_run K.seen row) 0 1 + begun_after (row ∷ K.seen) (lines_from f (at + size)) =
+            ap (begun_after K.seen) rows in
             omega (arith, K.runs-are, y, begins);
         kept-are = w;
         near = T.lies;
       }
         where
-          told : isBack s ≡ comesBack K.seen row
-          told = cases (isBack s) (λ y. y ∙ sym (keep-says.returns y)) (λ y. y ∙ sym (keep-says.stays h y))
+          told : is_back s ≡ comes_back K.seen row
+          told = cases (is_back s) (λ y. y ∙ sym (keep-says.returns y)) (λ y. y ∙ sym (keep-says.stays h y))
 
           back_low : p < line + 1
-          back_low = cases (eqb returns 0 && isBack s) (λ y. let u : p ≡ line = q ∙ rw y in omega arith) (λ y. let u : p ≡ returns = q ∙ rw y in omega (arith, K.back-before))
+          back_low = cases (eqb returns 0 && is_back s) (λ y. let u : p ≡ line = q ∙ rw y in omega arith) (λ y. let u : p ≡ returns = q ∙ rw y in omega (arith, K.back-before))
 
-          back-next : cond (eqb returns 0) (firstAfter comesBack line K.seen (lines_from f at)) returns
-              ≡ cond (eqb p 0) (firstAfter comesBack (line + 1) (row ∷ K.seen) (lines_from f (at + size))) p
+          back-next : cond (eqb returns 0) (first_after comes_back line K.seen (lines_from f at)) returns
+              ≡ cond (eqb p 0) (first_after comes_back (line + 1) (row ∷ K.seen) (lines_from f (at + size))) p
           back-next =
               rw (rows, add-one)
               (cases (eqb returns 0)
               (λ z.
-              cases (comesBack K.seen row)
-              (λ c. let u : p ≡ line = q ∙ rw (z, told, c) in rw (z, c, u, firstAfter, ne_eqb line 0 (λ y. omega (arith, K.back-before))))
-              (λ c. let u : p ≡ returns = q ∙ rw (z, told, c) in rw (c, u, z, firstAfter)))
+              cases (comes_back K.seen row)
+              (λ c. let u : p ≡ line = q ∙ rw (z, told, c) in rw (z, c, u, first_after, ne_eqb line 0 (λ y. omega (arith, K.back-before))))
+              (λ c. let u : p ≡ returns = q ∙ rw (z, told, c) in rw (c, u, z, first_after)))
               (λ z. let u : p ≡ returns = q ∙ rw z in rw (u, z)))
 
       -- it is the first that isn't
-      keep-leaves : (p : ℕ) → p ≡ cond (eqb returns 0 && isBack s) line returns → after ≡ places → among K.seen row ≡ false → (at < 4294967296 → K.seen ≡ [] → ⊥)
+      keep-leaves : (p : ℕ) → p ≡ cond (eqb returns 0 && is_back s) line returns → after ≡ places → among K.seen row ≡ false → (at < 4294967296 → K.seen ≡ [] → ⊥)
           → Leaving f first k after spans (at + size) at line (line + 1) p (count + begun s)
-      unfolding back bytesIn all Near begunAfter Alone
+      unfolding back bytes_in all Near begun_after Alone
       keep-leaves p q t m y = record {
         kept = K.seen;
         late = row ∷ [];
@@ -313,8 +313,8 @@ module _ (f : List ℕ) (first k : ℕ) (places before : List ℕ) (at line retu
         unkept-is = K.place;
         start_is = K.line-is;
         inside = omega (arith, T.place, row-some);
-        some = λ l e. y (let u : bytesIn K.seen ≡ 0 = ap bytesIn e in omega (arith, K.place)) e;
-        converts = rw (all_cons rowConverts row K.seen, c) K.converts;
+        some = λ l e. y (let u : bytes_in K.seen ≡ 0 = ap bytes_in e in omega (arith, K.place)) e;
+        converts = rw (all_cons row_converts row K.seen, c) K.converts;
         sizes-are = rw (all_cons sized row K.seen, lt-ltb 0 size row-some) K.sizes-are;
         kept-sizes = K.sizes-are;
         agree = K.agree;
@@ -326,24 +326,24 @@ module _ (f : List ℕ) (first k : ℕ) (places before : List ℕ) (at line retu
             let l = ne_eqb returns 0 (λ u. e (same ∙ u)) in
             K.back_at ∙ rw (l, same)
             (sym
-            (least-early returns (firstAfter comesBack line [] (lines_from f at)) (let u = eqb-false returns 0 l in omega arith)
-            (λ u. let v = first-late comesBack line [] (lines_from f at) u in omega (arith, K.back-before))));
+            (least-early returns (first_after comes_back line [] (lines_from f at)) (let u = eqb-false returns 0 l in omega arith)
+            (λ u. let v = first-late comes_back line [] (lines_from f at) u in omega (arith, K.back-before))));
         runs-are =
-            let y : begunAfter K.seen (lines_from f at) ≡ cond (sameRun K.seen row) 0 1 + begunAfter (row ∷ K.seen) (lines_from f (at + size)) =
-            ap (begunAfter K.seen) rows in
+            let y : begun_after K.seen (lines_from f at) ≡ cond (same_run K.seen row) 0 1 + begun_after (row ∷ K.seen) (lines_from f (at + size)) =
+            ap (begun_after K.seen) rows in
             omega (arith, K.runs-are, y, begins);
         kept-are = rw t K.kept-are;
         near = T.lies;
       }
         where
-          quiet : isBack s ≡ false
-          quiet = cases (isBack s) (λ y. never (sym (keep-says.returns y) ∙ none-back K.seen row m)) (λ y. y)
+          quiet : is_back s ≡ false
+          quiet = cases (is_back s) (λ y. never (sym (keep-says.returns y) ∙ none-back K.seen row m)) (λ y. y)
 
           same : p ≡ returns
           same = q ∙ rw (quiet, and-false (eqb returns 0))
 
   -- once a number isn't
-  module _ (unkept start : ℕ) (L : Leaving f first k places before at unkept start line returns count) (counted : 0 < k) (y : unkept ≡ 0 → ⊥) (c : rowConverts row ≡ true)
+  module _ (unkept start : ℕ) (L : Leaving f first k places before at unkept start line returns count) (counted : 0 < k) (y : unkept ≡ 0 → ⊥) (c : row_converts row ≡ true)
       (s : Standing) (o : ℕ) (after : List ℕ) (R : Stands f first at before spans places unkept s o after) where
     leave-says : Says L.kept L.late row s
     leave-says =
@@ -365,21 +365,21 @@ module _ (f : List ℕ) (first k : ℕ) (places before : List ℕ) (at line retu
 
     -- a line that is told by a test
     leave-met : (p : List FileLine → FileLine → Bool) → Alone p L.kept L.late → p (L.late ++ L.kept) row ≡ true
-        → firstAfter p start L.kept (lines_from f unkept) ≡ firstLine line (firstAfter p start [] (lines_from f unkept))
+        → first_after p start L.kept (lines_from f unkept) ≡ first_line line (first_after p start [] (lines_from f unkept))
     leave-met p A t = rw (late-rows, line-late) (alone-met p L.kept start start-some L.late A row (lines_from f (at + size)) t)
 
     -- 53
-    leave-differs : (told : ℕ) → isDiffers s ≡ true → Partly f first k line told o start
+    leave-differs : (told : ℕ) → is_differs s ≡ true → Partly f first k line told o start
     leave-differs told h =
         rw leave-stays.0
         (some_left f first k places before at unkept start line returns count y L line told
         (L.clash-at ∙ leave-met clashes (away-alone L.kept L.late L.apart) (leave-says.differs h))
         (λ e. absurd (omega (arith, line-late, start-some))))
 
-    module _ (h : isDiffers s ≡ false) where
-      leave-on : (p : ℕ) → p ≡ cond (eqb returns 0 && isBack s) line returns
+    module _ (h : is_differs s ≡ false) where
+      leave-on : (p : ℕ) → p ≡ cond (eqb returns 0 && is_back s) line returns
           → Leaving f first k after spans (at + size) unkept start (line + 1) p (count + begun s)
-      unfolding back bytesIn Near begunAfter Alone
+      unfolding back bytes_in Near begun_after Alone
       leave-on p q = record {
         kept = L.kept;
         late = row ∷ L.late;
@@ -391,7 +391,7 @@ module _ (f : List ℕ) (first k : ℕ) (places before : List ℕ) (at line retu
         start_is = L.start_is;
         inside = L.inside;
         some = L.some;
-        converts = rw (all_cons rowConverts row (L.late ++ L.kept), c) L.converts;
+        converts = rw (all_cons row_converts row (L.late ++ L.kept), c) L.converts;
         sizes-are = rw (all_cons sized row (L.late ++ L.kept), lt-ltb 0 size row-some) L.sizes-are;
         kept-sizes = L.kept-sizes;
         agree = L.agree;
@@ -402,25 +402,25 @@ module _ (f : List ℕ) (first k : ℕ) (places before : List ℕ) (at line retu
         back-met = λ e.
             cases (eqb returns 0)
             (λ u.
-            cases (isBack s)
+            cases (is_back s)
             (λ v.
             let l : p ≡ line = q ∙ rw (u, v) in
             let w = eqb-true returns 0 u in
-            L.back_at w ∙ rw l (leave-met comesBack (L.back_alone w) (leave-says.returns v)))
+            L.back_at w ∙ rw l (leave-met comes_back (L.back_alone w) (leave-says.returns v)))
             (λ v. absurd (e (q ∙ rw (u, v) (eqb-true returns 0 u)))))
             (λ u. let l : p ≡ returns = q ∙ rw u in rw l (L.back-met (eqb-false returns 0 u)));
         runs-are =
-            let v : begunAfter (L.late ++ L.kept) (lines_from f at) ≡ cond (sameRun (L.late ++ L.kept) row) 0 1 + begunAfter (row ∷ (L.late ++ L.kept)) (lines_from f (at + size)) =
-            ap (begunAfter (L.late ++ L.kept)) rows in
+            let v : begun_after (L.late ++ L.kept) (lines_from f at) ≡ cond (same_run (L.late ++ L.kept) row) 0 1 + begun_after (row ∷ (L.late ++ L.kept)) (lines_from f (at + size)) =
+            ap (begun_after (L.late ++ L.kept)) rows in
             omega (arith, L.runs-are, v, leave-says.begins h);
         kept-are = rw leave-stays.1 L.kept-are;
         near = T.lies;
       }
         where
-          none_yet : p ≡ 0 → (returns ≡ 0) × (isBack s ≡ false)
+          none_yet : p ≡ 0 → (returns ≡ 0) × (is_back s ≡ false)
           none_yet e =
               cases (eqb returns 0)
-              (λ u. cases (isBack s) (λ v. absurd (let l : p ≡ line = q ∙ rw (u, v) in omega (arith, line-late, start-some))) (λ v. (eqb-true returns 0 u, v)))
+              (λ u. cases (is_back s) (λ v. absurd (let l : p ≡ line = q ∙ rw (u, v) in omega (arith, line-late, start-some))) (λ v. (eqb-true returns 0 u, v)))
               (λ u. absurd (eqb-false returns 0 u (let l : p ≡ returns = q ∙ rw u in sym l ∙ e)))
 
   -- a row begins one run at most
@@ -428,7 +428,7 @@ module _ (f : List ℕ) (first k : ℕ) (places before : List ℕ) (at line retu
   with-few unkept start o m d p r after W = omega (arith, W.runs, few-begun W.standing)
 
   -- ---- either
-  module _ (unkept start : ℕ) (G : Going f first k places before at unkept start line returns count) (c : rowConverts row ≡ true) (z : at ≡ 0 → ⊥)
+  module _ (unkept start : ℕ) (G : Going f first k places before at unkept start line returns count) (c : row_converts row ≡ true) (z : at ≡ 0 → ⊥)
       (o m d p r : ℕ) (after : List ℕ) (W : WithRow f first at before spans places unkept start line returns count o m d p r after) where
     line-some : 0 < line
     line-some =
@@ -439,7 +439,7 @@ module _ (f : List ℕ) (first k : ℕ) (places before : List ℕ) (at line retu
     -- 53 is met
     pub going-met : (d ≡ 0 → ⊥) → Partly f first k d p o m
     going-met h =
-        let w : isDiffers W.standing ≡ true = cases (isDiffers W.standing) (λ q. q) (λ q. absurd (h (W.differs ∙ rw q))) in
+        let w : is_differs W.standing ≡ true = cases (is_differs W.standing) (λ q. q) (λ q. absurd (h (W.differs ∙ rw q))) in
         let e : d ≡ line = W.differs ∙ rw w in
         cases (eqb unkept 0)
         (λ q.
@@ -452,8 +452,8 @@ module _ (f : List ℕ) (first k : ℕ) (places before : List ℕ) (at line retu
         rw (e, n) (leave-differs unkept start (G.leaving u) G.counted u c W.standing o after W.stands p w))
 
     module _ (h : d ≡ 0) where
-      alike : isDiffers W.standing ≡ false
-      alike = cases (isDiffers W.standing) (λ q. absurd (let e : d ≡ line = W.differs ∙ rw q in omega (arith, line-some))) (λ q. q)
+      alike : is_differs W.standing ≡ false
+      alike = cases (is_differs W.standing) (λ q. absurd (let e : d ≡ line = W.differs ∙ rw q in omega (arith, line-some))) (λ q. q)
 
       from-keeping : unkept ≡ 0 → Going f first k after spans (at + size) o m (line + 1) p (count + begun W.standing)
       from-keeping u =

@@ -12,7 +12,7 @@ use Rattle.rules.specs.Lists.{same}
 use Rattle.rules.proofs.Logic.{cases, never}
 use Rattle.csv_rules.specs.Quote.{Items, FileLine}
 use Rattle.csv_rules.specs.Columns.{number_of}
-use Rattle.csv_rules.specs.Sheets.{sameNumber}
+use Rattle.csv_rules.specs.Sheets.{same_number}
 use Rattle.csv_rows.specs.Rows.{lines_from, row_at, Inside, Spans, RowIs}
 use Rattle.csv_rows.proofs.Laws.{row-lines, row-broken}
 use Rattle.csv_rows.proofs.Tied.{tied-raw, tied-number}
@@ -20,16 +20,16 @@ use Rattle.csv_repeats.specs.declared.Standing.{Standing}
 use Rattle.csv_repeats.specs.declared.Standing.TheVariants.{Same, New, Back, Differs}
 use Rattle.csv_places.specs.declared.Slot.{Slot}
 use Rattle.csv_places.specs.declared.Slot.TheVariants.{Held, Free, Crowded}
-use Rattle.csv_places.specs.Places.{itemsAt, hashOf, RowThere, Places, SlotIs, keepsPlace, withPlace}
+use Rattle.csv_places.specs.Places.{items_at, hash_of, RowThere, Places, SlotIs, keeps_place, with_place}
 use Rattle.csv_places.proofs.Laws.{items-there, row_inside}
-use Rattle.csv_repeats.specs.Looks.{sameHeader, lookedFor, HeldThere, Looked, Stands, WithRow, isDiffers, isBack, begun}
+use Rattle.csv_repeats.specs.Looks.{same_header, looked_for, HeldThere, Looked, Stands, WithRow, is_differs, is_back, begun}
 use Rattle.csv_repeats.proofs.Standings.{Alike}
 
 -- ---- the first line that is named
-pub back-first : (returns at : ℕ) (s : Standing) (t : Bool) → t ≡ isBack s → (eqb returns 0 && t) ≡ true → at ≡ cond (eqb returns 0 && isBack s) at returns
+pub back-first : (returns at : ℕ) (s : Standing) (t : Bool) → t ≡ is_back s → (eqb returns 0 && t) ≡ true → at ≡ cond (eqb returns 0 && is_back s) at returns
 back-first returns at s t e h = rw (← e, h)
 
-pub back-kept : (returns at : ℕ) (s : Standing) (t : Bool) → t ≡ isBack s → (eqb returns 0 && t) ≡ false → returns ≡ cond (eqb returns 0 && isBack s) at returns
+pub back-kept : (returns at : ℕ) (s : Standing) (t : Bool) → t ≡ is_back s → (eqb returns 0 && t) ≡ false → returns ≡ cond (eqb returns 0 && is_back s) at returns
 back-kept returns at s t e h = rw (← e, h)
 
 -- ---- a row as it lies in the file
@@ -52,13 +52,13 @@ module _ (f : List ℕ) (p : ℕ) (T : RowThere f p) where
   pub there-inside : p < length f
   there-inside = row_inside f p T
 
-  pub there-found : (q : List ℕ) (size n : ℕ) (good bad : Bool) → RowIs f p true q size n good bad → (r : Items) (g : Bool) → g ≡ sameHeader r (row_at f q)
-      → (s : Standing) → s ≡ cond g Back Differs → s ≡ cond (sameHeader r (itemsAt f p)) Back Differs
+  pub there-found : (q : List ℕ) (size n : ℕ) (good bad : Bool) → RowIs f p true q size n good bad → (r : Items) (g : Bool) → g ≡ same_header r (row_at f q)
+      → (s : Standing) → s ≡ cond g Back Differs → s ≡ cond (same_header r (items_at f p)) Back Differs
   there-found q size n good bad R r g e s k =
       let b : bad ≡ false = cases bad (λ z. absurd (omega (arith, ap length (sym (row-broken f p true q size n good bad R z).0 ∙ T.is)))) (λ z. z) in
       let w : record { items = R.items; size = size } ∷ lines_from f (p + size) ≡ T.row ∷ T.others = sym (row-lines f p true q size n good bad R b) ∙ T.is in
       let o : record { items = R.items; size = size } ≡ T.row = cc in
-      let i : R.items ≡ itemsAt f p = ap (λ (l : FileLine). l.items) o ∙ sym (items-there f p T) in
+      let i : R.items ≡ items_at f p = ap (λ (l : FileLine). l.items) o ∙ sym (items-there f p T) in
       let a = row-alike f q R.items R.lies in
       k ∙ rw (e, a.pid, a.pv1, i)
 
@@ -70,32 +70,32 @@ held-there f places r Crowded P H = tt
 
 -- ---- a standing found
 module _ (f : List ℕ) (r : Items) (slot : Slot) (s : Standing) where
-  pub held-for : (p : ℕ) → slot ≡ Held p → s ≡ cond (sameHeader r (itemsAt f p)) Back Differs → s ≡ lookedFor f r slot
-  unfolding lookedFor
+  pub held-for : (p : ℕ) → slot ≡ Held p → s ≡ cond (same_header r (items_at f p)) Back Differs → s ≡ looked_for f r slot
+  unfolding looked_for
   held-for p h e = e ∙ rw h
 
-pub free-for : (f : List ℕ) (r : Items) (slot : Slot) (i : ℕ) → slot ≡ Free i → New ≡ lookedFor f r slot
-unfolding lookedFor
+pub free-for : (f : List ℕ) (r : Items) (slot : Slot) (i : ℕ) → slot ≡ Free i → New ≡ looked_for f r slot
+unfolding looked_for
 free-for f r slot i h = rw h
 
-pub crowded-for : (f : List ℕ) (r : Items) (slot : Slot) → slot ≡ Crowded → New ≡ lookedFor f r slot
-unfolding lookedFor
+pub crowded-for : (f : List ℕ) (r : Items) (slot : Slot) → slot ≡ Crowded → New ≡ looked_for f r slot
+unfolding looked_for
 crowded-for f r slot h = rw h
 
 pub held_at : (f : List ℕ) (slot : Slot) (p : ℕ) → HeldThere f slot → slot ≡ Held p → RowThere f p
 unfolding HeldThere
 held_at f slot p h e = rw e at h
 
-module _ (f : List ℕ) (at : ℕ) (r : Items) (places : List ℕ) (unkept : ℕ) (slot : Slot) (S : SlotIs f places r slot) (s : Standing) (e : s ≡ lookedFor f r slot) where
-  pub looked-kept : unkept ≡ 0 → (after : List ℕ) (hash : ℕ) → hash ≡ hashOf (number_of r) → after ≡ withPlace places slot at hash → (k : Bool) → k ≡ keepsPlace slot at → (o : ℕ) → o ≡ cond k 0 at
+module _ (f : List ℕ) (at : ℕ) (r : Items) (places : List ℕ) (unkept : ℕ) (slot : Slot) (S : SlotIs f places r slot) (s : Standing) (e : s ≡ looked_for f r slot) where
+  pub looked-kept : unkept ≡ 0 → (after : List ℕ) (hash : ℕ) → hash ≡ hash_of (number_of r) → after ≡ with_place places slot at hash → (k : Bool) → k ≡ keeps_place slot at → (o : ℕ) → o ≡ cond k 0 at
       → Looked f at r places unkept s o after
   looked-kept z after hash w t k h o u = record { slot = slot; slot_is = S; is = e; table = rw (z, ← w) t; unkept-is = u ∙ rw (z, h) }
 
   pub looked-left : (unkept ≡ 0 → ⊥) → Looked f at r places unkept s unkept places
   looked-left z = let y = ne_eqb unkept 0 z in record { slot = slot; slot_is = S; is = e; table = rw y; unkept-is = rw y }
 
-module _ (f : List ℕ) (first at : ℕ) (before spans places : List ℕ) (unkept : ℕ) (t : Bool) (e : t ≡ sameNumber (row_at f before) (row_at f spans)) where
-  pub stands_same : (ltb first at && t) ≡ true → (g : Bool) → g ≡ sameHeader (row_at f spans) (row_at f before) → (s : Standing) → s ≡ cond g Same Differs
+module _ (f : List ℕ) (first at : ℕ) (before spans places : List ℕ) (unkept : ℕ) (t : Bool) (e : t ≡ same_number (row_at f before) (row_at f spans)) where
+  pub stands_same : (ltb first at && t) ≡ true → (g : Bool) → g ≡ same_header (row_at f spans) (row_at f before) → (s : Standing) → s ≡ cond g Same Differs
       → Stands f first at before spans places unkept s unkept places
   stands_same w g o s p = record {
     same = λ h. (p ∙ rw o, refl, refl);
@@ -115,7 +115,7 @@ line-here unkept after line k h = rw (ne_eqb after unkept h)
 
 pub with-is : (f : List ℕ) (first at : ℕ) (before spans places : List ℕ) (unkept line k returns count : ℕ) (s : Standing) (o : ℕ) (after : List ℕ)
     → Stands f first at before spans places unkept s o after
-    → (d r n m : ℕ) → d ≡ cond (isDiffers s) k 0 → r ≡ cond (eqb returns 0 && isBack s) k returns → n ≡ begun s → m ≡ cond (eqb o unkept) line k
+    → (d r n m : ℕ) → d ≡ cond (is_differs s) k 0 → r ≡ cond (eqb returns 0 && is_back s) k returns → n ≡ begun s → m ≡ cond (eqb o unkept) line k
     → WithRow f first at before spans places unkept line k returns count o m d r (count + n) after
 with-is f first at before spans places unkept line k returns count s o after S d r n m e b u w =
     record { standing = s; stands = S; differs = e; back = b; runs = ap (λ (x : ℕ). count + x) u; line-is = w }

@@ -11,7 +11,7 @@ use Rattle.rules.specs.Lists.{any, all}
 use Rattle.rules.proofs.Logic.{cases, or_assoc}
 use Rattle.rules.proofs.Lists.{all_first, any-cons, any-nil}
 use Rattle.csv_rules.specs.Quote.{FileLine}
-use Rattle.csv_rules.specs.Sheets.{sameNumber, Run, joinRun, runs, bytesIn}
+use Rattle.csv_rules.specs.Sheets.{same_number, Run, join_run, runs, bytes_in}
 
 -- ---- in the file's order
 -- the rows before, and then others
@@ -29,8 +29,8 @@ back-append (q ∷ seen) rest =
     back-append seen (q ∷ rest) ∙ sym (ap (λ (s : List FileLine). s ++ rest) (back-append seen (q ∷ [])) ∙ append_assoc (back seen []) (q ∷ []) rest)
 
 -- each has a byte at least
-pub few-sized : (seen : List FileLine) → all sized seen ≡ true → length seen ≤ bytesIn seen
-unfolding bytesIn
+pub few-sized : (seen : List FileLine) → all sized seen ≡ true → length seen ≤ bytes_in seen
+unfolding bytes_in
 few-sized [] h = omega arith
 few-sized (l ∷ seen) h = let w = all_first sized l seen h in omega (arith, ltb-true 0 l.size w.0, few-sized seen w.1)
 
@@ -67,32 +67,32 @@ any_append p (x ∷ a) b = rw (any-cons p x (a ++ b), any-cons p x a, any_append
 
 -- ---- runs
 -- whether a row goes on with the number of the row before
-unfoldable pub sameRun : List FileLine → FileLine → Bool
-sameRun [] r = false
-sameRun (q ∷ seen) r = sameNumber q.items r.items
+unfoldable pub same_run : List FileLine → FileLine → Bool
+same_run [] r = false
+same_run (q ∷ seen) r = same_number q.items r.items
 
 -- the runs that some rows begin
-unfoldable pub begunAfter : List FileLine → List FileLine → ℕ
-begunAfter seen [] = 0
-begunAfter seen (r ∷ rs) = cond (sameRun seen r) 0 1 + begunAfter (r ∷ seen) rs
+unfoldable pub begun_after : List FileLine → List FileLine → ℕ
+begun_after seen [] = 0
+begun_after seen (r ∷ rs) = cond (same_run seen r) 0 1 + begun_after (r ∷ seen) rs
 
-joined-more : (q r : FileLine) (us : List Run) → length (joinRun q (joinRun r us)) ≡ cond (sameNumber q.items r.items) 0 1 + length (joinRun r us)
-unfolding joinRun
-joined-more q r [] = cases (sameNumber q.items r.items) (λ e. rw (e, joinRun)) (λ e. rw (e, joinRun))
+joined-more : (q r : FileLine) (us : List Run) → length (join_run q (join_run r us)) ≡ cond (same_number q.items r.items) 0 1 + length (join_run r us)
+unfolding join_run
+joined-more q r [] = cases (same_number q.items r.items) (λ e. rw (e, join_run)) (λ e. rw (e, join_run))
 joined-more q r (u ∷ us) =
-    cases (sameNumber r.items u.row.items)
-    (λ f. rw (f, joinRun) (cases (sameNumber q.items r.items) (λ e. rw (e, joinRun) (omega arith)) (λ e. rw (e, joinRun) (omega arith))))
-    (λ f. rw (f, joinRun) (cases (sameNumber q.items r.items) (λ e. rw (e, joinRun) (omega arith)) (λ e. rw (e, joinRun) (omega arith))))
+    cases (same_number r.items u.row.items)
+    (λ f. rw (f, join_run) (cases (same_number q.items r.items) (λ e. rw (e, join_run) (omega arith)) (λ e. rw (e, join_run) (omega arith))))
+    (λ f. rw (f, join_run) (cases (same_number q.items r.items) (λ e. rw (e, join_run) (omega arith)) (λ e. rw (e, join_run) (omega arith))))
 
-runs_after : (rs : List FileLine) (q : FileLine) (seen : List FileLine) → length (runs (q ∷ rs)) ≡ 1 + begunAfter (q ∷ seen) rs
-unfolding runs joinRun begunAfter sameRun
+runs_after : (rs : List FileLine) (q : FileLine) (seen : List FileLine) → length (runs (q ∷ rs)) ≡ 1 + begun_after (q ∷ seen) rs
+unfolding runs join_run begun_after same_run
 runs_after [] q seen = refl
 runs_after (r ∷ rs) q seen =
     let e = joined-more q r (runs rs) in
     let h = runs_after rs r (q ∷ seen) in
     omega (arith, e, h)
 
-pub begun_all : (rows : List FileLine) → length (runs rows) ≡ begunAfter [] rows
-unfolding runs begunAfter sameRun
+pub begun_all : (rows : List FileLine) → length (runs rows) ≡ begun_after [] rows
+unfolding runs begun_after same_run
 begun_all [] = refl
 begun_all (q ∷ rs) = runs_after rs q []

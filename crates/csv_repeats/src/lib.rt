@@ -2,8 +2,8 @@
 ghost use Rattle.std.specs.Prelude.{◌≡◌, false, cond, ◌&&◌, ◌≤◌, ◌<◌, eqb, length};
 ghost use Rattle.csv_rows.specs.Rows.{Inside, row_at};
 ghost use Rattle.csv_repeats.specs.declared.Standing.TheVariants.{Same, Back, Differs};
-ghost use Rattle.csv_places.specs.Places.{itemsAt, RowThere, Places};
-ghost use Rattle.csv_repeats.specs.Looks.{sameHeader, lookedFor, HeldThere, Looked, Stands, WithRow, isDiffers, isBack, begun};
+ghost use Rattle.csv_places.specs.Places.{items_at, RowThere, Places};
+ghost use Rattle.csv_repeats.specs.Looks.{same_header, looked_for, HeldThere, Looked, Stands, WithRow, is_differs, is_back, begun};
 
 use csv_places::Slot;
 
@@ -48,7 +48,7 @@ fn coming_back(agrees: bool) -> Standing
 
 // 53, where a row stands so: its line.
 fn differs_at(s: Standing, line: usize) -> usize
-    ensures { result ≡ cond (isDiffers s) line 0 }
+    ensures { result ≡ cond (is_differs s) line 0 }
 {
     match s {
         Standing::Same => 0,
@@ -73,7 +73,7 @@ fn begins(s: Standing) -> usize
 
 // 54, where a row stands so.
 fn comes_back(s: Standing) -> bool
-    ensures { result ≡ isBack s }
+    ensures { result ≡ is_back s }
 {
     match s {
         Standing::Same => false,
@@ -85,7 +85,7 @@ fn comes_back(s: Standing) -> bool
 
 // The first line where a number returns: one that is named stays.
 fn first_back(returns: usize, s: Standing, line: usize) -> usize
-    ensures { result ≡ cond (eqb returns 0 && isBack s) line returns }
+    ensures { result ≡ cond (eqb returns 0 && is_back s) line returns }
 {
     if (returns == 0) & comes_back(s) {
         return line;
@@ -96,7 +96,7 @@ fn first_back(returns: usize, s: Standing, line: usize) -> usize
 // How a row stands to one with its number that begins at a place.
 fn found_at(file: &[u8], p: usize, spans: &[usize; 90]) -> Standing
     requires { RowThere file.now p × Inside file.now spans.now }
-    ensures { result ≡ cond (sameHeader (row_at file.now spans.now) (itemsAt file.now p)) Back Differs }
+    ensures { result ≡ cond (same_header (row_at file.now spans.now) (items_at file.now p)) Back Differs }
 {
     let t = csv_rows::row(file, p, true);
     let q = t.spans;
@@ -106,7 +106,7 @@ fn found_at(file: &[u8], p: usize, spans: &[usize; 90]) -> Standing
 // How a row stands whose number isn't that of the row before, by what is kept of it.
 fn looked_for(file: &[u8], spans: &[usize; 90], slot: Slot) -> Standing
     requires { Inside file.now spans.now × HeldThere file.now slot }
-    ensures { result ≡ lookedFor file.now (row_at file.now spans.now) slot }
+    ensures { result ≡ looked_for file.now (row_at file.now spans.now) slot }
 {
     match slot {
         Slot::Held(p) => found_at(file, p, spans),

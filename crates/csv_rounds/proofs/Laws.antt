@@ -11,36 +11,36 @@ use lib.Seq.{drop-drop}
 use Rattle.rules.specs.Lists.{all}
 use Rattle.rules.proofs.Logic.{cases, both, never}
 use Rattle.rules.proofs.Lists.{all_first}
-use Rattle.csv_rules.specs.Quote.{cut, FileLine, linesIn}
-use Rattle.csv_rules.specs.Sheets.{rowConverts}
-use Rattle.csv_rules.specs.Spot.{firstAfter, clashes, comesBack}
+use Rattle.csv_rules.specs.Quote.{cut, FileLine, lines_in}
+use Rattle.csv_rules.specs.Sheets.{row_converts}
+use Rattle.csv_rules.specs.Spot.{first_after, clashes, comes_back}
 use Rattle.csv_rules.proofs.Order.{all-parts}
 use Rattle.csv_rows.specs.Rows.{lines_from, Inside, RowIs}
 use Rattle.csv_rows.proofs.Laws.{row-lines, row-broken, rows_end}
 use Rattle.csv_places.specs.Places.{Places}
 use Rattle.csv_places.specs.Slots.{Nothing}
 use Rattle.csv_repeats.specs.Looks.{WithRow}
-use Rattle.csv_repeats.specs.Rounds.{firstLine, left, Partly}
+use Rattle.csv_repeats.specs.Rounds.{first_line, left, Partly}
 use Rattle.csv_repeats.proofs.Laws.{nowhere}
 use Rattle.csv_repeats.proofs.Firsts.{least-none, least_zero, least-over}
 use Rattle.csv_repeats.proofs.Going.{Going, going-starts, going-places, going-converts, going-ends, going-met, going_on, with-few}
 use Rattle.csv_rounds.specs.Settled.{Unsettled, Settled}
 
 -- ---- the first of two lines
-pub first-none : (a b : ℕ) → a ≡ 0 → b ≡ firstLine a b
-unfolding firstLine
+pub first-none : (a b : ℕ) → a ≡ 0 → b ≡ first_line a b
+unfolding first_line
 first-none a b h = rw (eq-eqb a 0 h)
 
 module _ (a b : ℕ) (z : a ≡ 0 → ⊥) (t : Bool) (e : t ≡ (not (eqb b 0) && ltb b a)) where
-  pub first-other : t ≡ true → b ≡ firstLine a b
-  unfolding firstLine
+  pub first-other : t ≡ true → b ≡ first_line a b
+  unfolding first_line
   first-other h =
       let q = both (not (eqb b 0)) (ltb b a) (sym e ∙ h) in
       let n : eqb b 0 ≡ false = cases (eqb b 0) (λ y. never (sym q.0 ∙ rw y)) (λ y. y) in
       rw (ne_eqb a 0 z, n, q.1)
 
-  pub first-own : t ≡ false → a ≡ firstLine a b
-  unfolding firstLine
+  pub first-own : t ≡ false → a ≡ first_line a b
+  unfolding first_line
   first-own h =
       rw (ne_eqb a 0 z)
       (cases (eqb b 0) (λ y. rw y) (λ y. let q : ltb b a ≡ false = sym (rw y at e) ∙ h in rw (y, q)))
@@ -122,14 +122,14 @@ module _ (f : List ℕ) (k : ℕ) (places before : List ℕ) (at passed unkept s
         pub round-less : length f - (at + size) < length f - at
         round-less = let m : 0 < size + 0 = rw b at T.moves in omega (arith, T.place)
 
-        pub round-on : all rowConverts (lines_from f 1) ≡ true → (o m d p c : ℕ) (after : List ℕ)
+        pub round-on : all row_converts (lines_from f 1) ≡ true → (o m d p c : ℕ) (after : List ℕ)
             → WithRow f 1 at before spans places unkept start (passed + 1) returns count o m d p c after
             → Rounding f k after spans (at + size) (passed + 1) o m d p c
         round-on v o m d p c after W =
             let G = P.going none in
             let y : 0 < size + 0 = rw b at T.moves in
             let ls = going-converts f 1 k places before at unkept start (passed + 1) returns count G v in
-            let w = (all_first rowConverts (record { items = T.items; size = size }) (lines_from f (at + size)) (rw (row-lines f at true spans size n good bad T b) at ls)).0 in
+            let w = (all_first row_converts (record { items = T.items; size = size }) (lines_from f (at + size)) (rw (row-lines f at true spans size n good bad T b) at ls)).0 in
             let z : at ≡ 0 → ⊥ = λ e. omega (arith, P.one) in
             record {
               lies = T.lies.inside;
@@ -143,7 +143,7 @@ module _ (f : List ℕ) (k : ℕ) (places before : List ℕ) (at passed unkept s
 -- ---- round after round
 -- the file from a place on
 rest_lines : (f s : List ℕ) (start at : ℕ) → s ≡ drop start f → lines_from s at ≡ lines_from f (start + at)
-rest_lines f s start at e = ap (λ (x : List ℕ). lines_from x at) e ∙ ap (λ (x : List ℕ). linesIn (cut x)) (drop-drop at start f)
+rest_lines f s start at e = ap (λ (x : List ℕ). lines_from x at) e ∙ ap (λ (x : List ℕ). lines_in (cut x)) (drop-drop at start f)
 
 rest-left : (f s : List ℕ) (start at : ℕ) → s ≡ drop start f → left s at ≡ left f (cond (eqb at 0) 0 (start + at))
 unfolding left
@@ -156,8 +156,8 @@ rest-size f s start e = ap length e ∙ length-drop start f
 
 -- those found by the first walk and the rows that it left, and what is found since
 pub record Settling (f : List ℕ) (differs₀ returns₀ unkept₀ line₀ differs returns unkept line : ℕ) : Type 0 where
-  pub clash : firstLine differs₀ (firstAfter clashes line₀ [] (left f unkept₀)) ≡ firstLine differs (firstAfter clashes line [] (left f unkept))
-  pub back : differs ≡ 0 → firstLine returns₀ (firstAfter comesBack line₀ [] (left f unkept₀)) ≡ firstLine returns (firstAfter comesBack line [] (left f unkept))
+  pub clash : first_line differs₀ (first_after clashes line₀ [] (left f unkept₀)) ≡ first_line differs (first_after clashes line [] (left f unkept))
+  pub back : differs ≡ 0 → first_line returns₀ (first_after comes_back line₀ [] (left f unkept₀)) ≡ first_line returns (first_after comes_back line [] (left f unkept))
   pub to-come : Unsettled f unkept line
 
 abbrev pub distance : List ℕ → ℕ → ℕ
@@ -168,7 +168,7 @@ settle-starts f differs returns unkept line U = record { clash = refl; back = λ
 
 module _ (f : List ℕ) (differs₀ returns₀ unkept₀ line₀ differs returns unkept line : ℕ) (S : Settling f differs₀ returns₀ unkept₀ line₀ differs returns unkept line) where
   pub settle-ends : unkept ≡ 0 → Settled f differs₀ returns₀ unkept₀ line₀ differs returns
-  unfolding left firstAfter
+  unfolding left first_after
   settle-ends z =
       let n : left f unkept ≡ [] = rw (eq-eqb unkept 0 z) in
       record {
@@ -194,8 +194,8 @@ module _ (f : List ℕ) (differs₀ returns₀ unkept₀ line₀ differs returns
       pub settle-room : length f < 18446744073709551616 → line + length s ≤ 18446744073709551617
       settle-room h = omega (arith, (S.to-come.few z).1, S.to-come.place z, rest-size f s (unkept - 1) e)
 
-      pub settle-converts : all rowConverts (lines_from s 1) ≡ true
-      settle-converts = ap (all rowConverts) (here-lines ∙ sym here-left) ∙ S.to-come.converts
+      pub settle-converts : all row_converts (lines_from s 1) ≡ true
+      settle-converts = ap (all row_converts) (here-lines ∙ sym here-left) ∙ S.to-come.converts
 
       module _ (d r o m : ℕ) (P : Partly s 1 line d r o m) where
         pub settle-inside : length f < 18446744073709551616 → (unkept - 1) + o < 18446744073709551616
@@ -211,23 +211,23 @@ module _ (f : List ℕ) (differs₀ returns₀ unkept₀ line₀ differs returns
               (λ q. absurd (h (v ∙ rw q)))
               (λ q. (eqb-false o 0 q, v ∙ rw q))
 
-          next-clash : firstAfter clashes line [] (left f unkept) ≡ firstLine d (firstAfter clashes m [] (left f u))
-          next-clash = ap (firstAfter clashes line []) (here-left ∙ sym here-lines) ∙ P.clash ∙ ap (λ (x : List FileLine). firstLine d (firstAfter clashes m [] x)) next-left
+          next-clash : first_after clashes line [] (left f unkept) ≡ first_line d (first_after clashes m [] (left f u))
+          next-clash = ap (first_after clashes line []) (here-left ∙ sym here-lines) ∙ P.clash ∙ ap (λ (x : List FileLine). first_line d (first_after clashes m [] x)) next-left
 
-          next-back : d ≡ 0 → firstAfter comesBack line [] (left f unkept) ≡ firstLine r (firstAfter comesBack m [] (left f u))
-          next-back h = ap (firstAfter comesBack line []) (here-left ∙ sym here-lines) ∙ P.back h ∙ ap (λ (x : List FileLine). firstLine r (firstAfter comesBack m [] x)) next-left
+          next-back : d ≡ 0 → first_after comes_back line [] (left f unkept) ≡ first_line r (first_after comes_back m [] (left f u))
+          next-back h = ap (first_after comes_back line []) (here-left ∙ sym here-lines) ∙ P.back h ∙ ap (λ (x : List FileLine). first_line r (first_after comes_back m [] x)) next-left
 
-          pub settle-on : (a b : ℕ) → a ≡ firstLine differs d → b ≡ firstLine returns r → Settling f differs₀ returns₀ unkept₀ line₀ a b u m
+          pub settle-on : (a b : ℕ) → a ≡ first_line differs d → b ≡ first_line returns r → Settling f differs₀ returns₀ unkept₀ line₀ a b u m
           settle-on a b x y = record {
-            clash = S.clash ∙ ap (firstLine differs) next-clash ∙ least-over differs d (firstAfter clashes m [] (left f u)) ∙ ap (λ (n : ℕ). firstLine n (firstAfter clashes m [] (left f u))) (sym x);
+            clash = S.clash ∙ ap (first_line differs) next-clash ∙ least-over differs d (first_after clashes m [] (left f u)) ∙ ap (λ (n : ℕ). first_line n (first_after clashes m [] (left f u))) (sym x);
             back = λ h.
                 let w = least_zero differs d (sym x ∙ h) in
-                S.back w.0 ∙ ap (firstLine returns) (next-back w.1) ∙ least-over returns r (firstAfter comesBack m [] (left f u))
-                ∙ ap (λ (n : ℕ). firstLine n (firstAfter comesBack m [] (left f u))) (sym y);
+                S.back w.0 ∙ ap (first_line returns) (next-back w.1) ∙ least-over returns r (first_after comes_back m [] (left f u))
+                ∙ ap (λ (n : ℕ). first_line n (first_after comes_back m [] (left f u))) (sym y);
             to-come = record {
               converts =
-                  let c : all rowConverts (P.kept ++ left s o) ≡ true = ap (all rowConverts) (sym P.parts) ∙ settle-converts in
-                  ap (all rowConverts) (sym next-left) ∙ (all-parts rowConverts P.kept (left s o) c).1;
+                  let c : all row_converts (P.kept ++ left s o) ≡ true = ap (all row_converts) (sym P.parts) ∙ settle-converts in
+                  ap (all row_converts) (sym next-left) ∙ (all-parts row_converts P.kept (left s o) c).1;
               place = λ h. let w = some_next h in omega (arith, w.1, (P.place w.0).1, rest-size f s (unkept - 1) e);
               few = λ h.
                   let w = some_next h in

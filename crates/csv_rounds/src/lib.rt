@@ -2,9 +2,9 @@
 // a table of its own.
 ghost use Rattle.std.specs.Prelude.{◌≡◌, true, cond, ◌+◌, ◌≤◌, ◌<◌, eqb, length};
 ghost use Rattle.rules.specs.Lists.{all};
-ghost use Rattle.csv_rules.specs.Sheets.{rowConverts};
+ghost use Rattle.csv_rules.specs.Sheets.{row_converts};
 ghost use Rattle.csv_rows.specs.Rows.{lines_from};
-ghost use Rattle.csv_repeats.specs.Rounds.{firstLine, Partly};
+ghost use Rattle.csv_repeats.specs.Rounds.{first_line, Partly};
 ghost use Rattle.csv_rounds.specs.Settled.{Unsettled, Settled};
 
 use csv_repeats::Repeated;
@@ -18,7 +18,7 @@ pub struct Met {
 
 // The first of two lines; 0 is none.
 fn first_of(a: usize, b: usize) -> usize
-    ensures { result ≡ firstLine a b }
+    ensures { result ≡ first_line a b }
 {
     if a == 0 {
         return b;
@@ -43,7 +43,7 @@ fn place_behind(n: usize, at: usize) -> usize
 // One round: the rows from the second byte on, the first of which is the line-th line of the file, as far as the table keeps their numbers. No row
 // begins at 0, which is no place in the table.
 fn round(rows: &[u8], line: usize) -> Repeated
-    requires { (0 < line) × (line + length rows.now ≤ 18446744073709551617) × all rowConverts (lines_from rows.now 1) ≡ true }
+    requires { (0 < line) × (line + length rows.now ≤ 18446744073709551617) × all row_converts (lines_from rows.now 1) ≡ true }
     ensures { Partly rows.now 1 line result.differs result.returns result.unkept result.line }
 {
     let mut places = csv_places::empty();

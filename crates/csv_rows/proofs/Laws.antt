@@ -11,31 +11,31 @@ use lib.Seq.{get_or-set_same, get_or-set_other, set_out}
 use Rattle.rules.specs.Lists.{nth, all}
 use Rattle.rules.proofs.Logic.{cases}
 use Rattle.rules.proofs.Lists.{here, over, nth-at, nth-more}
-use Rattle.csv_rules.specs.Quote.{Comma, Items, Lines, end, broken, line, more, linesAt, cut, isBroken, linesIn}
+use Rattle.csv_rules.specs.Quote.{Comma, Items, Lines, end, broken, line, more, lines_at, cut, is_broken, lines_in}
 use Rattle.csv_rules.specs.Quote as Quoting
 use Rattle.csv_rules.specs.Kanji.{convertible}
 use Rattle.csv_rules.specs.Written.{halved}
 use Rattle.csv_rows.specs.Plain.{PlainItem}
-use Rattle.csv_rows.specs.Rows.{putBefore, afterwards, notedItem, itemBytes, item_at, Inside, ItemAt, Spans, RowIs}
+use Rattle.csv_rows.specs.Rows.{put_before, afterwards, noted_item, item_bytes, item_at, Inside, ItemAt, Spans, RowIs}
 use Rattle.csv_rows.proofs.Items.{before-before, drop-same}
 
 -- ---- the places noted
-pub note-in : (a : List ℕ) (n s l : ℕ) → n < 45 → set (set a (2 * n) s) (2 * n + 1) l ≡ notedItem n s l a
-unfolding notedItem
+pub note-in : (a : List ℕ) (n s l : ℕ) → n < 45 → set (set a (2 * n) s) (2 * n + 1) l ≡ noted_item n s l a
+unfolding noted_item
 note-in a n s l h = rw (lt-ltb n 45 h)
 
-pub note-out : (a : List ℕ) (n s l : ℕ) → 45 ≤ n → a ≡ notedItem n s l a
-unfolding notedItem
+pub note-out : (a : List ℕ) (n s l : ℕ) → 45 ≤ n → a ≡ noted_item n s l a
+unfolding noted_item
 note-out a n s l h = rw (le-ltb n 45 h)
 
-abbrev twoSet : List ℕ → ℕ → ℕ → ℕ → List ℕ
-twoSet a n s l = set (set a (2 * n) s) (2 * n + 1) l
+abbrev two_set : List ℕ → ℕ → ℕ → ℕ → List ℕ
+two_set a n s l = set (set a (2 * n) s) (2 * n + 1) l
 
-two-length : (a : List ℕ) (n s l : ℕ) → length (twoSet a n s l) ≡ length a
+two-length : (a : List ℕ) (n s l : ℕ) → length (two_set a n s l) ≡ length a
 two-length a n s l = length-set (set a (2 * n) s) (2 * n + 1) l ∙ length-set a (2 * n) s
 
-noted-two : (a : List ℕ) (n s l : ℕ) → length a ≡ 90 → notedItem n s l a ≡ twoSet a n s l
-unfolding notedItem
+noted-two : (a : List ℕ) (n s l : ℕ) → length a ≡ 90 → noted_item n s l a ≡ two_set a n s l
+unfolding noted_item
 noted-two a n s l e =
     cases (ltb n 45) (λ t. rw t)
     (λ t.
@@ -45,18 +45,18 @@ noted-two a n s l e =
     rw t (sym (ap (λ (b : List ℕ). set b (2 * n + 1) l) x ∙ y)))
 
 module _ (a : List ℕ) (n s l : ℕ) where
-  start-same : 2 * n < length a → get_or (twoSet a n s l) (2 * n) 0 ≡ s
+  start-same : 2 * n < length a → get_or (two_set a n s l) (2 * n) 0 ≡ s
   start-same h = get_or-set_other (set a (2 * n) s) (2 * n + 1) (2 * n) l 0 (omega arith) ∙ get_or-set_same a (2 * n) s 0 h
 
-  len-same : 2 * n + 1 < length a → get_or (twoSet a n s l) (2 * n + 1) 0 ≡ l
+  len-same : 2 * n + 1 < length a → get_or (two_set a n s l) (2 * n + 1) 0 ≡ l
   len-same h = get_or-set_same (set a (2 * n) s) (2 * n + 1) l 0 (omega (arith, length-set a (2 * n) s))
 
   module _ (m : ℕ) (q : m ≡ n → ⊥) where
-    start-other : get_or (twoSet a n s l) (2 * m) 0 ≡ get_or a (2 * m) 0
+    start-other : get_or (two_set a n s l) (2 * m) 0 ≡ get_or a (2 * m) 0
     start-other =
         get_or-set_other (set a (2 * n) s) (2 * n + 1) (2 * m) l 0 (omega arith) ∙ get_or-set_other a (2 * n) (2 * m) s 0 (omega arith)
 
-    len-other : get_or (twoSet a n s l) (2 * m + 1) 0 ≡ get_or a (2 * m + 1) 0
+    len-other : get_or (two_set a n s l) (2 * m + 1) 0 ≡ get_or a (2 * m + 1) 0
     len-other =
         get_or-set_other (set a (2 * n) s) (2 * n + 1) (2 * m + 1) l 0 (omega arith) ∙ get_or-set_other a (2 * n) (2 * m + 1) s 0 (omega arith)
 
@@ -65,36 +65,36 @@ one-item w items m h zero e = absurd (h (omega arith))
 one-item w items m h (suc i) e = refl
 
 module _ (f a : List ℕ) (items : Items) (n s l : ℕ) (p : Spans f a items) (e : n ≡ length items) where
-  each_on : (m : ℕ) → m < 45 → item_at f (twoSet a n s l) m ≡ nth (items ++ (halved false (take l (drop s f)) ∷ [])) m
-  unfolding item_at itemBytes
+  each_on : (m : ℕ) → m < 45 → item_at f (two_set a n s l) m ≡ nth (items ++ (halved false (take l (drop s f)) ∷ [])) m
+  unfolding item_at item_bytes
   each_on m h =
       let w = halved false (take l (drop s f)) in
       cases (eqb m n)
       (λ t.
       let q : m ≡ n = eqb-true m n t in
       let k : 2 * n + 1 < length a = omega (arith, p.inside.size) in
-      let x : get_or (twoSet a n s l) (2 * m) 0 ≡ s = rw q (start-same a n s l (omega arith)) in
-      let y : get_or (twoSet a n s l) (2 * m + 1) 0 ≡ l = rw q (len-same a n s l k) in
+      let x : get_or (two_set a n s l) (2 * m) 0 ≡ s = rw q (start-same a n s l (omega arith)) in
+      let y : get_or (two_set a n s l) (2 * m + 1) 0 ≡ l = rw q (len-same a n s l k) in
       rw (x, y) (sym (ap (nth (items ++ (w ∷ []))) (q ∙ e) ∙ nth-at items w [])))
       (λ t.
       let q : m ≡ n → ⊥ = eqb-false m n t in
       rw (start-other a n s l m q, len-other a n s l m q)
       (p.each m h ∙ sym (nth-more items (w ∷ []) m (one-item w items m (λ z. q (z ∙ sym e))))))
 
-  inside_on : s + l ≤ length f → (m : ℕ) → m < 45 → get_or (twoSet a n s l) (2 * m) 0 + get_or (twoSet a n s l) (2 * m + 1) 0 ≤ length f
+  inside_on : s + l ≤ length f → (m : ℕ) → m < 45 → get_or (two_set a n s l) (2 * m) 0 + get_or (two_set a n s l) (2 * m + 1) 0 ≤ length f
   inside_on k m h =
       cases (eqb m n)
       (λ t.
       let q : m ≡ n = eqb-true m n t in
       let b : 2 * n + 1 < length a = omega (arith, p.inside.size) in
-      let x : get_or (twoSet a n s l) (2 * m) 0 ≡ s = rw q (start-same a n s l (omega arith)) in
-      let y : get_or (twoSet a n s l) (2 * m + 1) 0 ≡ l = rw q (len-same a n s l b) in
+      let x : get_or (two_set a n s l) (2 * m) 0 ≡ s = rw q (start-same a n s l (omega arith)) in
+      let y : get_or (two_set a n s l) (2 * m + 1) 0 ≡ l = rw q (len-same a n s l b) in
       rw (x, y) k)
       (λ t.
       let q : m ≡ n → ⊥ = eqb-false m n t in
       rw (start-other a n s l m q, len-other a n s l m q) (p.inside.inside m h))
 
-  spans_on : s + l ≤ length f → Spans f (twoSet a n s l) (items ++ (halved false (take l (drop s f)) ∷ []))
+  spans_on : s + l ≤ length f → Spans f (two_set a n s l) (items ++ (halved false (take l (drop s f)) ∷ []))
   spans_on k = record { inside = record { size = two-length a n s l ∙ p.inside.size; inside = inside_on k }; each = each_on }
 
 -- ---- an item's bytes
@@ -109,8 +109,8 @@ pub item_room : (f spans : List ℕ) (n : ℕ) → Inside f spans → n < 45 →
 item_room f spans n p h k = omega (arith, p.inside n h)
 
 pub item-is : (f spans : List ℕ) (n : ℕ)
-    → take ((get_or spans (2 * n) 0 + get_or spans (2 * n + 1) 0) - get_or spans (2 * n) 0) (drop (get_or spans (2 * n) 0) f) ≡ itemBytes f spans n
-unfolding itemBytes
+    → take ((get_or spans (2 * n) 0 + get_or spans (2 * n + 1) 0) - get_or spans (2 * n) 0) (drop (get_or spans (2 * n) 0) f) ≡ item_bytes f spans n
+unfolding item_bytes
 item-is f spans n = ap (λ (k : ℕ). take k (drop (get_or spans (2 * n) 0) f)) (part-is (get_or spans (2 * n) 0) (get_or spans (2 * n + 1) 0))
 
 pub known-converts : (known c : Bool) → known ≡ true → true ≡ (known || c)
@@ -123,7 +123,7 @@ judged-converts f s l known r h e = rw h (e ∙ ap (λ (k : ℕ). convertible (h
 -- ---- the row
 pub record Reading (f : List ℕ) (at : ℕ) (known : Bool) (spans : List ℕ) (size count : ℕ) (good goes bad : Bool) : Type 0 where
   pub items : Items
-  pub is : cut (drop at f) ≡ putBefore items size (afterwards goes bad (drop (at + size) f))
+  pub is : cut (drop at f) ≡ put_before items size (afterwards goes bad (drop (at + size) f))
   pub counted : count ≡ length items
   pub converts : good ≡ (known || all convertible items)
   pub lies : Spans f spans items
@@ -134,21 +134,21 @@ pub record Reading (f : List ℕ) (at : ℕ) (known : Bool) (spans : List ℕ) (
 add_none : (m : ℕ) → m ≡ m + 0
 add_none m = omega arith
 
-before-none : (g : Items → Items) (c : Lines) → more g c ≡ putBefore [] 0 (more g c)
-unfolding more putBefore
+before-none : (g : Items → Items) (c : Lines) → more g c ≡ put_before [] 0 (more g c)
+unfolding more put_before
 before-none g end = refl
 before-none g broken = refl
 before-none g (line is m ls) = ap (λ (k : ℕ). line (g is) k ls) (add_none (suc m))
 
-row-begins : (b : ℕ) (s : List ℕ) → cut (b ∷ s) ≡ putBefore [] 0 (linesAt Comma (b ∷ s))
-unfolding cut linesAt putBefore
-row-begins b s = cases (eqb b 0x22) (λ e. rw (e, linesAt) (before-none (λ is. is) (linesAt Quoting.Inside s))) (λ e. rw (e, linesAt))
+row-begins : (b : ℕ) (s : List ℕ) → cut (b ∷ s) ≡ put_before [] 0 (lines_at Comma (b ∷ s))
+unfolding cut lines_at put_before
+row-begins b s = cases (eqb b 0x22) (λ e. rw (e, lines_at) (before-none (λ is. is) (lines_at Quoting.Inside s))) (λ e. rw (e, lines_at))
 
 none-noted : (a : List ℕ) (n : ℕ) → a ≡ replicate 90 0 → n < 90 → get_or a n 0 ≡ 0
 none-noted a n e h = rw e (get_or-replicate 90 n 0 0 h)
 
 none_each : (f a : List ℕ) → a ≡ replicate 90 0 → (n : ℕ) → n < 45 → item_at f a n ≡ []
-unfolding item_at itemBytes halved
+unfolding item_at item_bytes halved
 none_each f a e n h = let y : get_or a (2 * n + 1) 0 ≡ 0 = none-noted a (2 * n + 1) e (omega arith) in rw y
 
 none_inside : (f a : List ℕ) → a ≡ replicate 90 0 → (n : ℕ) → n < 45 → get_or a (2 * n) 0 + get_or a (2 * n + 1) 0 ≤ length f
@@ -164,7 +164,7 @@ row-starts f a at known h e = record {
   items = [];
   is =
       ap cut (here 0 f at h) ∙ row-begins (get_or f at 0) (drop (at + 1) f)
-      ∙ ap (λ (s : List ℕ). putBefore [] 0 (linesAt Comma s)) (sym (here 0 f at h) ∙ sym (drop-same f at));
+      ∙ ap (λ (s : List ℕ). put_before [] 0 (lines_at Comma s)) (sym (here 0 f at h) ∙ sym (drop-same f at));
   counted = refl;
   converts = known-or known;
   lies = record { inside = record { size = rw e; inside = none_inside f a e }; each = none_each f a e };
@@ -173,8 +173,8 @@ row-starts f a at known h e = record {
   place = omega arith;
 }
 
-row-over : (is : Items) (n : ℕ) (s : List ℕ) (bad : Bool) → putBefore is n (afterwards false bad s) ≡ cond bad broken (line is n (cut s))
-unfolding putBefore afterwards
+row-over : (is : Items) (n : ℕ) (s : List ℕ) (bad : Bool) → put_before is n (afterwards false bad s) ≡ cond bad broken (line is n (cut s))
+unfolding put_before afterwards
 row-over is n s true = refl
 row-over is n s false = let q : 0 + n ≡ n = omega arith in rw (append-nil is, q)
 
@@ -211,7 +211,7 @@ module _ (f : List ℕ) (at : ℕ) (known : Bool) (a : List ℕ) (size count : �
       let k : 0 < (size + cond bad 1 0) + 0 = rw h at p.moves in
       record {
         items = p.items;
-        is = p.is ∙ ap (λ (g : Bool). putBefore p.items size (afterwards g bad (drop (at + size) f))) h ∙ row-over p.items size (drop (at + size) f) bad;
+        is = p.is ∙ ap (λ (g : Bool). put_before p.items size (afterwards g bad (drop (at + size) f))) h ∙ row-over p.items size (drop (at + size) f) bad;
         counted = p.counted;
         converts = p.converts;
         lies = p.lies;
@@ -230,18 +230,18 @@ module _ (f : List ℕ) (at : ℕ) (known : Bool) (a : List ℕ) (size count : �
     row-few l = omega (arith, row-half, p.place)
 
     module _ (s l m : ℕ) (g w : Bool) (t : ItemAt f (at + size) s l m g w) where
-      read-on : putBefore p.items size (afterwards goes bad (drop (at + size) f))
-          ≡ putBefore (p.items ++ (halved false (take l (drop s f)) ∷ [])) (size + m) (afterwards g w (drop (at + (size + m)) f))
+      read-on : put_before p.items size (afterwards goes bad (drop (at + size) f))
+          ≡ put_before (p.items ++ (halved false (take l (drop s f)) ∷ [])) (size + m) (afterwards g w (drop (at + (size + m)) f))
       unfolding afterwards
       read-on =
           let v = halved false (take l (drop s f)) in
           let x : m + size ≡ size + m = omega arith in
           let y : (at + size) + m ≡ at + (size + m) = omega arith in
-          ap (λ (o : Bool). putBefore p.items size (afterwards o bad (drop (at + size) f))) h
-          ∙ ap (putBefore p.items size) t.is
+          ap (λ (o : Bool). put_before p.items size (afterwards o bad (drop (at + size) f))) h
+          ∙ ap (put_before p.items size) t.is
           ∙ before-before p.items (v ∷ []) size m (afterwards g w (drop ((at + size) + m) f))
-          ∙ ap (λ (k : ℕ). putBefore (p.items ++ (v ∷ [])) k (afterwards g w (drop ((at + size) + m) f))) x
-          ∙ ap (λ (k : ℕ). putBefore (p.items ++ (v ∷ [])) (size + m) (afterwards g w (drop k f))) y
+          ∙ ap (λ (k : ℕ). put_before (p.items ++ (v ∷ [])) k (afterwards g w (drop ((at + size) + m) f))) x
+          ∙ ap (λ (k : ℕ). put_before (p.items ++ (v ∷ [])) (size + m) (afterwards g w (drop k f))) y
 
       pub row_room : length f < 18446744073709551616 → size + m < 18446744073709551616
       row_room k = omega (arith, t.place)
@@ -253,7 +253,7 @@ module _ (f : List ℕ) (at : ℕ) (known : Bool) (a : List ℕ) (size count : �
           (λ z. let k : 2 ≤ m + 0 = rw z at t.some in rw z (omega (arith, t.place)))
           (λ z. rw z (omega (arith, t.place))))
 
-      pub row_on : (x : List ℕ) (plain c : Bool) → x ≡ notedItem count s l a → PlainItem f s l plain
+      pub row_on : (x : List ℕ) (plain c : Bool) → x ≡ noted_item count s l a → PlainItem f s l plain
           → c ≡ ((known || plain) || convertible (halved false (take l (drop s f)))) → Reading f at known x (size + m) (count + 1) (good && c) g w
       row_on x plain c e d o = record {
         items = p.items ++ (halved false (take l (drop s f)) ∷ []);
@@ -276,18 +276,18 @@ module _ (f : List ℕ) (at : ℕ) (known : Bool) (spans : List ℕ) (size count
   row-bad : bad ≡ true → cut (drop at f) ≡ broken
   row-bad h = P.is ∙ ap (λ (b : Bool). cond b broken (line P.items size (cut (drop (at + size) f)))) h
 
-  pub row-lines : bad ≡ false → linesIn (cut (drop at f)) ≡ record { items = P.items; size = size } ∷ linesIn (cut (drop (at + size) f))
-  unfolding linesIn
-  row-lines h = ap linesIn (row_cut h)
+  pub row-lines : bad ≡ false → lines_in (cut (drop at f)) ≡ record { items = P.items; size = size } ∷ lines_in (cut (drop (at + size) f))
+  unfolding lines_in
+  row-lines h = ap lines_in (row_cut h)
 
-  pub row-unbroken : bad ≡ false → isBroken (cut (drop at f)) ≡ isBroken (cut (drop (at + size) f))
-  unfolding isBroken
-  row-unbroken h = ap isBroken (row_cut h)
+  pub row-unbroken : bad ≡ false → is_broken (cut (drop at f)) ≡ is_broken (cut (drop (at + size) f))
+  unfolding is_broken
+  row-unbroken h = ap is_broken (row_cut h)
 
-  pub row-broken : bad ≡ true → (linesIn (cut (drop at f)) ≡ []) × (isBroken (cut (drop at f)) ≡ true)
-  unfolding linesIn isBroken
-  row-broken h = (ap linesIn (row-bad h), ap isBroken (row-bad h))
+  pub row-broken : bad ≡ true → (lines_in (cut (drop at f)) ≡ []) × (is_broken (cut (drop at f)) ≡ true)
+  unfolding lines_in is_broken
+  row-broken h = (ap lines_in (row-bad h), ap is_broken (row-bad h))
 
-pub rows_end : (f : List ℕ) (at : ℕ) → length f ≤ at → (linesIn (cut (drop at f)) ≡ []) × (isBroken (cut (drop at f)) ≡ false)
-unfolding linesIn isBroken cut linesAt
-rows_end f at h = let e = over f at h in (ap (λ (s : List ℕ). linesIn (cut s)) e, ap (λ (s : List ℕ). isBroken (cut s)) e)
+pub rows_end : (f : List ℕ) (at : ℕ) → length f ≤ at → (lines_in (cut (drop at f)) ≡ []) × (is_broken (cut (drop at f)) ≡ false)
+unfolding lines_in is_broken cut lines_at
+rows_end f at h = let e = over f at h in (ap (λ (s : List ℕ). lines_in (cut s)) e, ap (λ (s : List ℕ). is_broken (cut s)) e)

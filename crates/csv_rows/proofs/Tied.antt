@@ -12,10 +12,10 @@ use Rattle.rules.specs.Lists.{nth, all}
 use Rattle.rules.proofs.Logic.{both}
 use Rattle.rules.proofs.Lists.{all_cons, all_first}
 use Rattle.csv_rules.specs.Quote.{Items}
-use Rattle.csv_rules.specs.Kanji.{charactersAt, characters, convertible}
-use Rattle.csv_rules.specs.Columns.{How, text, upToBlank, pastBlank, fifteen, blank, coded, typed, familyOf, given_of, fifteenOf, meaningOf, type_of, textAt, valueBy, Entry, columns, keys, number_of}
-use Rattle.csv_rules.specs.Raw.{rawBy, rawKeys}
-use Rattle.csv_rows.specs.Rows.{item_at, itemsFrom, row_at, Spans}
+use Rattle.csv_rules.specs.Kanji.{characters_at, characters, convertible}
+use Rattle.csv_rules.specs.Columns.{How, text, upToBlank, pastBlank, fifteen, blank, coded, typed, family_of, given_of, fifteen_of, meaning_of, type_of, text_at, value_by, Entry, columns, keys, number_of}
+use Rattle.csv_rules.specs.Raw.{raw_by, raw_keys}
+use Rattle.csv_rows.specs.Rows.{item_at, items_from, row_at, Spans}
 
 -- ---- every column of the table is one of the 45
 unfoldable reaches : How → ℕ → Bool
@@ -46,33 +46,33 @@ module _ (r q : Items) (s : (n : ℕ) → n < 45 → nth r n ≡ nth q n) where
   column-same : (n : ℕ) → leb n 45 ≡ true → nth r (n - 1) ≡ nth q (n - 1)
   column-same n h = s (n - 1) (omega (arith, leb-true n 45 h))
 
-  raw_same : (h : How) (n : ℕ) → reaches h n ≡ true → rawBy h r n ≡ rawBy h q n
-  unfolding rawBy reaches
+  raw_same : (h : How) (n : ℕ) → reaches h n ≡ true → raw_by h r n ≡ raw_by h q n
+  unfolding raw_by reaches
   raw_same text n k = column-same n k
-  raw_same upToBlank n k = ap familyOf (column-same n k)
+  raw_same upToBlank n k = ap family_of (column-same n k)
   raw_same pastBlank n k = ap given_of (column-same n k)
-  raw_same fifteen n k = ap fifteenOf (column-same n k)
+  raw_same fifteen n k = ap fifteen_of (column-same n k)
   raw_same blank n k = refl
-  raw_same (coded cs) n k = ap (meaningOf cs) (column-same n k)
+  raw_same (coded cs) n k = ap (meaning_of cs) (column-same n k)
   raw_same (typed v) n k =
       let w = both (leb v 45) (leb n 45) k in
       ap (λ (x : List ℕ). type_of x (nth r (n - 1))) (column-same v w.0) ∙ ap (type_of (nth q (v - 1))) (column-same n w.1)
 
-  text_same : (n : ℕ) → leb n 45 ≡ true → textAt r n ≡ textAt q n
-  unfolding textAt
+  text_same : (n : ℕ) → leb n 45 ≡ true → text_at r n ≡ text_at q n
+  unfolding text_at
   text_same n h = rw (column-same n h)
 
-  value_same : (h : How) (n : ℕ) → reaches h n ≡ true → valueBy h r n ≡ valueBy h q n
-  unfolding valueBy reaches
+  value_same : (h : How) (n : ℕ) → reaches h n ≡ true → value_by h r n ≡ value_by h q n
+  unfolding value_by reaches
   value_same text n k = text_same n k
-  value_same upToBlank n k = ap familyOf (text_same n k)
+  value_same upToBlank n k = ap family_of (text_same n k)
   value_same pastBlank n k = ap given_of (text_same n k)
-  value_same fifteen n k = ap fifteenOf (text_same n k)
+  value_same fifteen n k = ap fifteen_of (text_same n k)
   value_same blank n k = refl
-  value_same (coded cs) n k = ap (meaningOf cs) (text_same n k)
+  value_same (coded cs) n k = ap (meaning_of cs) (text_same n k)
   value_same (typed v) n k =
       let w = both (leb v 45) (leb n 45) k in
-      ap (λ (x : List ℕ). type_of x (textAt r n)) (text_same v w.0) ∙ ap (type_of (textAt q v)) (text_same n w.1)
+      ap (λ (x : List ℕ). type_of x (text_at r n)) (text_same v w.0) ∙ ap (type_of (text_at q v)) (text_same n w.1)
 
   map_same : (f : Items → How → ℕ → List ℕ) → ((h : How) (n : ℕ) → reaches h n ≡ true → f r h n ≡ f q h n)
       → (es : List Entry) → all reached es ≡ true
@@ -86,15 +86,15 @@ module _ (r q : Items) (s : (n : ℕ) → n < 45 → nth r n ≡ nth q n) where
 
   keys-same : (g : Name) → keys g r ≡ keys g q
   unfolding keys
-  keys-same g = map_same (λ row h n. valueBy h row n) value_same (columns g) (table-reaches g)
+  keys-same g = map_same (λ row h n. value_by h row n) value_same (columns g) (table-reaches g)
 
-  raw-keys-same : (g : Name) → rawKeys g r ≡ rawKeys g q
-  unfolding rawKeys
-  raw-keys-same g = map_same (λ row h n. rawBy h row n) raw_same (columns g) (table-reaches g)
+  raw-keys-same : (g : Name) → raw_keys g r ≡ raw_keys g q
+  unfolding raw_keys
+  raw-keys-same g = map_same (λ row h n. raw_by h row n) raw_same (columns g) (table-reaches g)
 
 -- ---- a row as it lies in the file
-items-from : (f spans : List ℕ) (k m n : ℕ) → n < m → nth (itemsFrom f spans k m) n ≡ item_at f spans (k + n)
-unfolding itemsFrom
+items-from : (f spans : List ℕ) (k m n : ℕ) → n < m → nth (items_from f spans k m) n ≡ item_at f spans (k + n)
+unfolding items_from
 items-from f spans k zero n h = absurd (omega arith)
 items-from f spans k (suc m) zero h = let e : k ≡ k + 0 = omega arith in ap (item_at f spans) e
 items-from f spans k (suc m) (suc n) h =
@@ -106,7 +106,7 @@ unfolding row_at
 row-item f spans n h = let e : 0 + n ≡ n = omega arith in items-from f spans 0 45 n h ∙ ap (item_at f spans) e
 
 convertible-none : convertible [] ≡ true
-unfolding convertible characters charactersAt all
+unfolding convertible characters characters_at all
 convertible-none = refl
 
 nth-converts : (items : Items) (n : ℕ) → all convertible items ≡ true → convertible (nth items n) ≡ true
@@ -115,11 +115,11 @@ nth-converts (x ∷ items) zero h = (all_first convertible x items h).0
 nth-converts (x ∷ items) (suc n) h = nth-converts items n (all_first convertible x items h).1
 
 from-converts : (f spans : List ℕ) → ((n : ℕ) → n < 45 → convertible (item_at f spans n) ≡ true)
-    → (k m : ℕ) → k + m ≤ 45 → all convertible (itemsFrom f spans k m) ≡ true
-unfolding itemsFrom all
+    → (k m : ℕ) → k + m ≤ 45 → all convertible (items_from f spans k m) ≡ true
+unfolding items_from all
 from-converts f spans c k zero h = refl
 from-converts f spans c k (suc m) h =
-    all_cons convertible (item_at f spans k) (itemsFrom f spans (suc k) m)
+    all_cons convertible (item_at f spans k) (items_from f spans (suc k) m)
     ∙ rw (c k (omega arith), from-converts f spans c (suc k) m (omega arith))
 
 module _ (f spans : List ℕ) (items : Items) (p : Spans f spans items) where
@@ -129,7 +129,7 @@ module _ (f spans : List ℕ) (items : Items) (p : Spans f spans items) where
   pub tied-keys : (g : Name) → keys g (row_at f spans) ≡ keys g items
   tied-keys g = keys-same (row_at f spans) items tied-item g
 
-  pub tied-raw : (g : Name) → rawKeys g (row_at f spans) ≡ rawKeys g items
+  pub tied-raw : (g : Name) → raw_keys g (row_at f spans) ≡ raw_keys g items
   tied-raw g = raw-keys-same (row_at f spans) items tied-item g
 
   pub tied-number : number_of (row_at f spans) ≡ number_of items

@@ -2,16 +2,16 @@
 use Rattle.std.specs.Prelude.{◌≡◌, Bool, true, false, ◌&&◌, List, [], ◌∷◌, ℕ, suc, ◌+◌, eqb, get_or, take, drop}
 use Rattle.csv_rules.specs.Kanji.{convertible}
 use Rattle.csv_rules.specs.Written.{halved}
-use Rattle.sjis.specs.Items.{isClear}
+use Rattle.sjis.specs.Items.{is_clear}
 
 -- how many such bytes stand first
-unfoldable pub plainAt : List ℕ → ℕ
-plainAt [] = 0
-plainAt (b ∷ s) = elim (isClear b) [ true ↦ suc (plainAt s) | false ↦ 0 ]
+unfoldable pub plain_at : List ℕ → ℕ
+plain_at [] = 0
+plain_at (b ∷ s) = elim (is_clear b) [ true ↦ suc (plain_at s) | false ↦ 0 ]
 
 -- a quote and a comma stand at p
-unfoldable pub commaAt : List ℕ → ℕ → Bool
-commaAt f p = eqb (get_or f p 0) 0x22 && eqb (get_or f (p + 1) 0) 0x2C
+unfoldable pub comma_at : List ℕ → ℕ → Bool
+comma_at f p = eqb (get_or f p 0) 0x22 && eqb (get_or f (p + 1) 0) 0x2C
 
 -- an item that is told plain converts
 pub record PlainItem (f : List ℕ) (start len : ℕ) (plain : Bool) : Type 0 where

@@ -1,56 +1,56 @@
 -- How the items of a row are found in the file, by the definitions' reader.
 use Rattle.std.specs.Prelude.{◌≡◌, Bool, true, false, cond, ◌||◌, List, [], ◌∷◌, ◌++◌, ℕ, zero, suc, ◌+◌, ◌*◌, ◌≤◌, ◌<◌, eqb, ltb, length, take, drop, get_or, set}
 use Rattle.rules.specs.Lists.{nth, all}
-use Rattle.csv_rules.specs.Quote.{Comma, Quote, Items, Lines, end, broken, line, linesAt, cut, FileLine, linesIn}
+use Rattle.csv_rules.specs.Quote.{Comma, Quote, Items, Lines, end, broken, line, lines_at, cut, FileLine, lines_in}
 use Rattle.csv_rules.specs.Written.{halved}
 use Rattle.csv_rules.specs.Kanji.{convertible}
 
 -- the lines from a place on
 abbrev pub lines_from : List ℕ → ℕ → List FileLine
-lines_from f at = linesIn (cut (drop at f))
+lines_from f at = lines_in (cut (drop at f))
 
 -- how many bytes stand before the quote that closes an item: all where none does; true: a quote has just been read
-unfoldable pub closingAt : Bool → List ℕ → ℕ
-closingAt false [] = 0
-closingAt true [] = 0
-closingAt false (b ∷ s) = elim (eqb b 0x22) [ true ↦ closingAt true s | false ↦ suc (closingAt false s) ]
-closingAt true (b ∷ s) = elim (eqb b 0x22) [ true ↦ suc (suc (closingAt false s)) | false ↦ 0 ]
+unfoldable pub closing_at : Bool → List ℕ → ℕ
+closing_at false [] = 0
+closing_at true [] = 0
+closing_at false (b ∷ s) = elim (eqb b 0x22) [ true ↦ closing_at true s | false ↦ suc (closing_at false s) ]
+closing_at true (b ∷ s) = elim (eqb b 0x22) [ true ↦ suc (suc (closing_at false s)) | false ↦ 0 ]
 
-unfoldable pub quoteFirst : List ℕ → Bool
-quoteFirst [] = false
-quoteFirst (b ∷ s) = eqb b 0x22
+unfoldable pub quote_first : List ℕ → Bool
+quote_first [] = false
+quote_first (b ∷ s) = eqb b 0x22
 
 -- lines whose first has these items, and n bytes, before what is read of it next
-unfoldable pub putBefore : Items → ℕ → Lines → Lines
-putBefore is n end = broken
-putBefore is n broken = broken
-putBefore is n (line js m ls) = line (is ++ js) (m + n) ls
+unfoldable pub put_before : Items → ℕ → Lines → Lines
+put_before is n end = broken
+put_before is n broken = broken
+put_before is n (line js m ls) = line (is ++ js) (m + n) ls
 
 -- what is read after an item: more items; else nothing good, or the other lines
 unfoldable pub afterwards : Bool → Bool → List ℕ → Lines
-afterwards true bad s = linesAt Comma s
+afterwards true bad s = lines_at Comma s
 afterwards false true s = broken
 afterwards false false s = line [] 0 (cut s)
 
 -- ---- where the first 45 items of a row lie: two numbers an item, where it begins and how many bytes it has
 -- the n-th item noted, where it is one of the 45
-unfoldable pub notedItem : ℕ → ℕ → ℕ → List ℕ → List ℕ
-notedItem n start len a = cond (ltb n 45) (set (set a (2 * n) start) (2 * n + 1) len) a
+unfoldable pub noted_item : ℕ → ℕ → ℕ → List ℕ → List ℕ
+noted_item n start len a = cond (ltb n 45) (set (set a (2 * n) start) (2 * n + 1) len) a
 
 -- the bytes of the n-th item, from 0, as they lie in the file f, and the item
-unfoldable pub itemBytes : List ℕ → List ℕ → ℕ → List ℕ
-itemBytes f spans n = take (get_or spans (2 * n + 1) 0) (drop (get_or spans (2 * n) 0) f)
+unfoldable pub item_bytes : List ℕ → List ℕ → ℕ → List ℕ
+item_bytes f spans n = take (get_or spans (2 * n + 1) 0) (drop (get_or spans (2 * n) 0) f)
 
 unfoldable pub item_at : List ℕ → List ℕ → ℕ → List ℕ
-item_at f spans n = halved false (itemBytes f spans n)
+item_at f spans n = halved false (item_bytes f spans n)
 
 -- the items of a row, from the k-th on, and all 45
-unfoldable pub itemsFrom : List ℕ → List ℕ → ℕ → ℕ → Items
-itemsFrom f spans k zero = []
-itemsFrom f spans k (suc n) = item_at f spans k ∷ itemsFrom f spans (suc k) n
+unfoldable pub items_from : List ℕ → List ℕ → ℕ → ℕ → Items
+items_from f spans k zero = []
+items_from f spans k (suc n) = item_at f spans k ∷ items_from f spans (suc k) n
 
 unfoldable pub row_at : List ℕ → List ℕ → Items
-row_at f spans = itemsFrom f spans 0 45
+row_at f spans = items_from f spans 0 45
 
 -- every item lies in the file
 pub record Inside (f spans : List ℕ) : Type 0 where
@@ -59,11 +59,11 @@ pub record Inside (f spans : List ℕ) : Type 0 where
 
 -- ---- what the code finds
 pub record BehindAt (f : List ℕ) (j size : ℕ) (goes bad : Bool) : Type 0 where
-  pub is : linesAt Quote (drop j f) ≡ putBefore ([] ∷ []) size (afterwards goes bad (drop (j + size) f))
+  pub is : lines_at Quote (drop j f) ≡ put_before ([] ∷ []) size (afterwards goes bad (drop (j + size) f))
   pub place : j + size ≤ length f
 
 pub record ItemAt (f : List ℕ) (i start len size : ℕ) (goes bad : Bool) : Type 0 where
-  pub is : linesAt Comma (drop i f) ≡ putBefore (halved false (take len (drop start f)) ∷ []) size (afterwards goes bad (drop (i + size) f))
+  pub is : lines_at Comma (drop i f) ≡ put_before (halved false (take len (drop start f)) ∷ []) size (afterwards goes bad (drop (i + size) f))
   pub inside : start + len ≤ length f
   pub some : 2 ≤ size + cond goes 0 2
   pub moves : 0 < size + cond bad 1 0

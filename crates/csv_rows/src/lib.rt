@@ -2,8 +2,8 @@
 ghost use Rattle.std.specs.Prelude.{◌≡◌, false, ◌||◌, ◌+◌, ◌≤◌, ◌<◌, length, get_or, take, drop};
 ghost use Rattle.csv_rules.specs.Kanji.{convertible};
 ghost use Rattle.csv_rules.specs.Written.{halved};
-ghost use Rattle.csv_rows.specs.Plain.{plainAt, commaAt, PlainItem};
-ghost use Rattle.csv_rows.specs.Rows.{closingAt, quoteFirst, notedItem, itemBytes, Inside, BehindAt, ItemAt, RowIs};
+ghost use Rattle.csv_rows.specs.Plain.{plain_at, comma_at, PlainItem};
+ghost use Rattle.csv_rows.specs.Rows.{closing_at, quote_first, noted_item, item_bytes, Inside, BehindAt, ItemAt, RowIs};
 
 // What stands behind an item's closing quote: its bytes; whether another item follows; whether the quoting is broken.
 #[derive(Drop)]
@@ -49,7 +49,7 @@ pub struct RowAt {
 // The place where the bytes end that each stand alone and aren't doubled in the file.
 fn plain_end(file: &[u8], from: usize) -> usize
     requires { from ≤ length file.now }
-    ensures value { result ≡ from + plainAt (drop from file.now) }
+    ensures value { result ≡ from + plain_at (drop from file.now) }
     ensures within { (from ≤ result) × (result ≤ length file.now) }
 {
     let mut i = from;
@@ -65,7 +65,7 @@ fn plain_end(file: &[u8], from: usize) -> usize
 // The place of the quote that closes the item whose bytes begin at a place; the file's end where none does.
 fn item_end(file: &[u8], from: usize) -> usize
     requires { from ≤ length file.now }
-    ensures value { result ≡ from + closingAt false (drop from file.now) }
+    ensures value { result ≡ from + closing_at false (drop from file.now) }
     ensures within { (from ≤ result) × (result ≤ length file.now) }
 {
     let mut i = from;
@@ -88,7 +88,7 @@ fn item_end(file: &[u8], from: usize) -> usize
 
 // What stands at a place behind a closing quote: a comma, CR LF or the end; anything else is broken.
 fn after_close(file: &[u8], j: usize) -> Behind
-    requires { (j ≤ length file.now) × (quoteFirst (drop j file.now) ≡ false) }
+    requires { (j ≤ length file.now) × (quote_first (drop j file.now) ≡ false) }
     ensures { BehindAt file.now j result.size result.goes result.bad }
 {
     if j >= file.len() {
@@ -130,7 +130,7 @@ fn after_close(file: &[u8], j: usize) -> Behind
 // Whether a quote and a comma stand at a place.
 fn comma_at(file: &[u8], p: usize) -> bool
     requires { p ≤ length file.now }
-    ensures { result ≡ commaAt file.now p }
+    ensures { result ≡ comma_at file.now p }
 {
     if file.len() - p < 2 {
         return false;
@@ -141,7 +141,7 @@ fn comma_at(file: &[u8], p: usize) -> bool
 
 // The item whose opening quote stands at a place, and whose bytes are plain up to p.
 fn item_past(file: &[u8], i: usize, p: usize) -> ItemFound
-    requires { (i < length file.now) × (get_or file.now i 0 ≡ 0x22) × (p ≡ (i + 1) + plainAt (drop (i + 1) file.now)) × (p ≤ length file.now) }
+    requires { (i < length file.now) × (get_or file.now i 0 ≡ 0x22) × (p ≡ (i + 1) + plain_at (drop (i + 1) file.now)) × (p ≤ length file.now) }
     ensures item_at { ItemAt file.now i result.start result.len result.size result.goes result.bad }
     ensures plain { PlainItem file.now result.start result.len result.plain }
 {
@@ -190,7 +190,7 @@ fn next_item(file: &[u8], i: usize) -> ItemFound
 
 // Notes where an item begins and how long it is, where it is one of the first 45.
 fn note(spans: &mut [usize; 90], n: usize, start: usize, len: usize) -> usize
-    ensures { spans.new ≡ notedItem n start len spans.old }
+    ensures { spans.new ≡ noted_item n start len spans.old }
 {
     if n < 45 {
         spans[2 * n] = start;
@@ -203,7 +203,7 @@ fn note(spans: &mut [usize; 90], n: usize, start: usize, len: usize) -> usize
 // The bytes of the n-th item, from 0, as they lie in the file.
 pub fn item<'a>(file: &'a [u8], spans: &[usize; 90], n: usize) -> &'a [u8]
     requires { Inside file.now spans.now × (n < 45) }
-    ensures { result.now ≡ itemBytes file.now spans.now n }
+    ensures { result.now ≡ item_bytes file.now spans.now n }
 {
     let start = spans[2 * n];
     let len = spans[2 * n + 1];

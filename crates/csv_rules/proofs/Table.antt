@@ -20,28 +20,28 @@ use Rattle.csv_rules.specs.declared.Counted.TheVariants.{Sheets, NotCounted}
 use Rattle.csv_rules.specs.declared.Made.{Made}
 use Rattle.csv_rules.specs.declared.Made.TheVariants.{Sheet, Unfit, Faulty}
 use Rattle.csv_rules.specs.declared.Next.{Next}
-use Rattle.csv_rules.specs.Answers.{faultNumber, toldCount, toldMade, SheetCall}
-use Rattle.csv_rules.specs.Sheets.{csvSheet, csvNext}
+use Rattle.csv_rules.specs.Answers.{fault_number, told_count, told_made, SheetCall}
+use Rattle.csv_rules.specs.Sheets.{csv_sheet, csv_next}
 use Rattle.csv_rules.specs.Columns.{columns, dropped}
-use Rattle.csv_rules.specs.Claims.{sameKeys, oneTo, eachOnce, uses, EveryKey, EveryColumn, CountedOnce, SheetOnce, NextOnce, SheetLeaves, NextLeaves}
+use Rattle.csv_rules.specs.Claims.{same_keys, one_to, each_once, uses, EveryKey, EveryColumn, CountedOnce, SheetOnce, NextOnce, SheetLeaves, NextLeaves}
 
 pub every-key : EveryKey
-unfolding rules columns sameKeys
+unfolding rules columns same_keys
 every-key = refl
 
 pub every-column : EveryColumn
-unfolding rules columns dropped oneTo eachOnce uses
+unfolding rules columns dropped one_to each_once uses
 every-column = refl
 
 -- ---- the request's numbers are its own
 unfoldable numbered : List FileFault → ℕ → FileFault
 numbered [] n = Returns
-numbered (f ∷ fs) n = elim (eqb (faultNumber f) n) [ true ↦ f | false ↦ numbered fs n ]
+numbered (f ∷ fs) n = elim (eqb (fault_number f) n) [ true ↦ f | false ↦ numbered fs n ]
 
 abbrev faults : List FileFault
 faults = Quoting ∷ Columns ∷ Unconverted ∷ HeaderDiffers ∷ Returns ∷ []
 
-fault-back : (f : FileFault) → numbered faults (faultNumber f) ≡ f
+fault-back : (f : FileFault) → numbered faults (fault_number f) ≡ f
 unfolding numbered
 fault-back Quoting = refl
 fault-back Columns = refl
@@ -49,7 +49,7 @@ fault-back Unconverted = refl
 fault-back HeaderDiffers = refl
 fault-back Returns = refl
 
-fault-unique : (f g : FileFault) → faultNumber f ≡ faultNumber g → f ≡ g
+fault-unique : (f g : FileFault) → fault_number f ≡ fault_number g → f ≡ g
 fault-unique f g e = sym (fault-back f) ∙ ap (numbered faults) e ∙ fault-back g
 
 low : (k : Kind) → number k ≤ 45
@@ -76,17 +76,17 @@ low LineValue = omega arith
 low Overflow = omega arith
 low Room = omega arith
 
-high : (f : FileFault) → 50 ≤ faultNumber f
+high : (f : FileFault) → 50 ≤ fault_number f
 high Quoting = omega arith
 high Columns = omega arith
 high Unconverted = omega arith
 high HeaderDiffers = omega arith
 high Returns = omega arith
 
-apart : {P : Type 0} (r : Refusal) (f : FileFault) → number r.kind ≡ faultNumber f → P
+apart : {P : Type 0} (r : Refusal) (f : FileFault) → number r.kind ≡ fault_number f → P
 apart r f e = absurd (omega (arith, low r.kind, high f, e))
 
-count-once : (a b : Counted) → toldCount a ≡ toldCount b → a ≡ b
+count-once : (a b : Counted) → told_count a ≡ told_count b → a ≡ b
 count-once (Sheets c) (Sheets d) h = cc
 count-once (Sheets c) (NotCounted f) h = cc
 count-once (NotCounted f) (Sheets c) h = cc
@@ -95,7 +95,7 @@ count-once (NotCounted f) (NotCounted g) h = ap NotCounted (fault-unique f g (cc
 pub counted-once : CountedOnce
 counted-once file a b p q = count-once a b (p ∙ sym q)
 
-pub made-once : (a b : Made) → toldMade a ≡ toldMade b → a ≡ b
+pub made-once : (a b : Made) → told_made a ≡ told_made b → a ≡ b
 made-once (Sheet n) (Sheet m) h = cc
 made-once (Sheet n) (Unfit s) h = cc
 made-once (Sheet n) (Faulty g) h = cc
@@ -110,14 +110,14 @@ call-once : (t : Told (List ℕ)) (before x y : List ℕ) (a b : Made) → Sheet
 call-once t before x y a b C D = (made-once a b (C.told ∙ sym D.told), C.buffer ∙ sym D.buffer)
 
 pub sheet-once : SheetOnce
-sheet-once file which g before x y a b C D = call-once (csvSheet file which g (length before)) before x y a b C D
+sheet-once file which g before x y a b C D = call-once (csv_sheet file which g (length before)) before x y a b C D
 
 abbrev next : Made → ℕ → Next
 next w n = record { made = w; place = n }
 
 pub next-once : NextOnce
 next-once file at g before x y a b C D =
-    let w = call-once (csvNext file at g (length before)) before x y a.made b.made C.call D.call in
+    let w = call-once (csv_next file at g (length before)) before x y a.made b.made C.call D.call in
     (ap (λ z. next z a.place) w.0 ∙ ap (next b.made) (C.place ∙ sym D.place), w.1)
 
 -- ---- what is no sheet leaves the buffer
@@ -128,7 +128,7 @@ call-leaves (gives w) before after (Faulty f) h C = not-given C.told
 call-leaves (refused n s f) before after r h C = C.buffer
 
 pub sheet-leaves : SheetLeaves
-sheet-leaves file which g before after r h C = call-leaves (csvSheet file which g (length before)) before after r h C
+sheet-leaves file which g before after r h C = call-leaves (csv_sheet file which g (length before)) before after r h C
 
 pub next-leaves : NextLeaves
-next-leaves file at g before after r h C = call-leaves (csvNext file at g (length before)) before after r.made h C.call
+next-leaves file at g before after r h C = call-leaves (csv_next file at g (length before)) before after r.made h C.call

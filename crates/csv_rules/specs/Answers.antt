@@ -12,30 +12,30 @@ use Rattle.csv_rules.specs.declared.Next.{Next}
 
 -- "Refusals: 50 quoting, 51 no version or heading line .., 52 a byte that can't be converted, 53 rows of a number that differ in a header key,
 -- 54 a number that returns after another"; they name no line
-abbrev pub faultNumber : FileFault → ℕ
-faultNumber Quoting = 50
-faultNumber Columns = 51
-faultNumber Unconverted = 52
-faultNumber HeaderDiffers = 53
-faultNumber Returns = 54
+abbrev pub fault_number : FileFault → ℕ
+fault_number Quoting = 50
+fault_number Columns = 51
+fault_number Unconverted = 52
+fault_number HeaderDiffers = 53
+fault_number Returns = 54
 
-abbrev pub toldFault : {A : Type 0} → FileFault → Told A
-toldFault f = refused (faultNumber f) 0 0
+abbrev pub told_fault : {A : Type 0} → FileFault → Told A
+told_fault f = refused (fault_number f) 0 0
 
-abbrev pub toldCount : Counted → Told CsvSheets
-toldCount (Sheets c) = gives c
-toldCount (NotCounted f) = toldFault f
+abbrev pub told_count : Counted → Told CsvSheets
+told_count (Sheets c) = gives c
+told_count (NotCounted f) = told_fault f
 
 -- how many bytes the sheet has
-abbrev pub toldMade : Made → Told ℕ
-toldMade (Sheet n) = gives n
-toldMade (Unfit r) = refusal r
-toldMade (Faulty f) = toldFault f
+abbrev pub told_made : Made → Told ℕ
+told_made (Sheet n) = gives n
+told_made (Unfit r) = refusal r
+told_made (Faulty f) = told_fault f
 
 -- a call that gives t, a sheet or a refusal: what it answers, r, and what it leaves, after, of a lent buffer that held before. What it says it
 -- wrote lies in the buffer.
 pub record SheetCall (t : Told (List ℕ)) (before : List ℕ) (r : Made) (after : List ℕ) : Type 0 where
-  pub told : toldMade r ≡ length_of t
+  pub told : told_made r ≡ length_of t
   pub buffer : after ≡ over t before
   pub within : (n : ℕ) → r ≡ Sheet n → n ≤ length before
 

@@ -20,37 +20,37 @@ pub data How : Type 0 where
   typed : ℕ → How
 
 -- 004, PID-5: the name is cut at the first half-width blank (20, which no pair has); without one, all of it is the family name
-unfoldable pub familyOf : List ℕ → List ℕ
-familyOf v = nth (split 0x20 v) 0
+unfoldable pub family_of : List ℕ → List ℕ
+family_of v = nth (split 0x20 v) 0
 
 unfoldable pub given_of : List ℕ → List ℕ
-given_of v = drop (suc (length (familyOf v))) v
+given_of v = drop (suc (length (family_of v))) v
 
 -- 004, OBR-2: "15 digits, leading zeros"; what isn't 1 to 15 digits stays, for the sheet's rule to judge
-unfoldable pub fifteenOf : List ℕ → List ℕ
-fifteenOf v = cond (filled v && (leb (length v) 15 && all digit v)) (replicate (15 - length v) 48 ++ v) v
+unfoldable pub fifteen_of : List ℕ → List ℕ
+fifteen_of v = cond (filled v && (leb (length v) 15 && all digit v)) (replicate (15 - length v) 48 ++ v) v
 
 -- a code's meaning; what is no code stays, for the sheet's rule to judge
-unfoldable pub meaningOf : List (String × String) → List ℕ → List ℕ
-meaningOf [] v = v
-meaningOf (c ∷ cs) v = elim (same v (bytes c.0)) [ true ↦ bytes c.1 | false ↦ meaningOf cs v ]
+unfoldable pub meaning_of : List (String × String) → List ℕ → List ℕ
+meaning_of [] v = v
+meaning_of (c ∷ cs) v = elim (same v (bytes c.0)) [ true ↦ bytes c.1 | false ↦ meaning_of cs v ]
 
 -- 004, OBX-2: a form other than B ("no result") makes SN; without one a number (01's NM) is NM, any other value ST
 unfoldable pub type_of : List ℕ → List ℕ → List ℕ
 type_of value form = cond (empty form || same form (bytes "B")) (cond (fits true numeric value) (bytes "NM") (bytes "ST")) (bytes "SN")
 
 -- the text of column n; columns past a row's end are blank
-unfoldable pub textAt : Items → ℕ → List ℕ
-textAt row n = converted (nth row (n - 1))
+unfoldable pub text_at : Items → ℕ → List ℕ
+text_at row n = converted (nth row (n - 1))
 
-unfoldable pub valueBy : How → Items → ℕ → List ℕ
-valueBy text row n = textAt row n
-valueBy upToBlank row n = familyOf (textAt row n)
-valueBy pastBlank row n = given_of (textAt row n)
-valueBy fifteen row n = fifteenOf (textAt row n)
-valueBy blank row n = []
-valueBy (coded cs) row n = meaningOf cs (textAt row n)
-valueBy (typed v) row n = type_of (textAt row v) (textAt row n)
+unfoldable pub value_by : How → Items → ℕ → List ℕ
+value_by text row n = text_at row n
+value_by upToBlank row n = family_of (text_at row n)
+value_by pastBlank row n = given_of (text_at row n)
+value_by fifteen row n = fifteen_of (text_at row n)
+value_by blank row n = []
+value_by (coded cs) row n = meaning_of cs (text_at row n)
+value_by (typed v) row n = type_of (text_at row v) (text_at row n)
 
 -- ---- the table
 -- a line's key, the column that feeds it, the column's name in 004, and how
@@ -106,7 +106,7 @@ columns Other = []
 
 -- the values of a group's lines, from a row
 unfoldable pub keys : Name → Items → List (List ℕ)
-keys g row = map (λ (e : Entry). valueBy e.how row e.column) (columns g)
+keys g row = map (λ (e : Entry). value_by e.how row e.column) (columns g)
 
 -- "All rows with one result number (column 7)": 検査結果通番, compared as it stands in the file
 unfoldable pub number_of : Items → List ℕ

@@ -14,8 +14,8 @@ unfoldable pub counts : List ℕ → Bool
 counts v = filled v && (all digit v && leb 7 (numeral 0 v))
 
 -- a version line, a heading line, which is no row, and the rows
-unfoldable pub wellCounted : List FileLine → Bool
-wellCounted [] = false
-wellCounted (version ∷ ls) =
+unfoldable pub well_counted : List FileLine → Bool
+well_counted [] = false
+well_counted (version ∷ ls) =
     let n = nth version.items 1 in
     elim ls [ [] ↦ false | heading ∷ rows ↦ counts n && all (λ (r : FileLine). eqb (length r.items) (numeral 0 n)) rows ]

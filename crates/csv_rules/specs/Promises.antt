@@ -4,20 +4,20 @@ use Rattle.std.specs.Prelude.{◌≡◌, List, ℕ, length}
 use Rattle.csv_rules.specs.declared.Counted.{Counted}
 use Rattle.csv_rules.specs.declared.Made.{Made}
 use Rattle.csv_rules.specs.declared.Next.{Next}
-use Rattle.csv_rules.specs.Answers.{toldCount, SheetCall, NextCall}
-use Rattle.csv_rules.specs.Sheets.{Given, csvCount, csvSheet, csvNext, placeAfter}
-use Rattle.csv_rules.specs.Spot.{csvSpot}
+use Rattle.csv_rules.specs.Answers.{told_count, SheetCall, NextCall}
+use Rattle.csv_rules.specs.Sheets.{Given, csv_count, csv_sheet, csv_next, place_after}
+use Rattle.csv_rules.specs.Spot.{csv_spot}
 
 -- csv_count; csv_spot
 abbrev pub SheetsCounted : List ℕ → Counted → Type 0
-SheetsCounted file r = toldCount r ≡ csvCount file
+SheetsCounted file r = told_count r ≡ csv_count file
 
 abbrev pub LineTold : List ℕ → ℕ → Type 0
-LineTold file r = r ≡ csvSpot file
+LineTold file r = r ≡ csv_spot file
 
 -- csv_sheet; csv_next: what they answer, and what they leave of a buffer that held `before`
 abbrev pub CsvSheetWritten : List ℕ → ℕ → Given → List ℕ → Made → List ℕ → Type 0
-CsvSheetWritten file which g before r after = SheetCall (csvSheet file which g (length before)) before r after
+CsvSheetWritten file which g before r after = SheetCall (csv_sheet file which g (length before)) before r after
 
 abbrev pub NextSheetWritten : List ℕ → ℕ → Given → List ℕ → Next → List ℕ → Type 0
-NextSheetWritten file at g before r after = NextCall (csvNext file at g (length before)) (placeAfter file at) before r after
+NextSheetWritten file at g before r after = NextCall (csv_next file at g (length before)) (place_after file at) before r after

@@ -24,40 +24,40 @@ more f (line is n ls) = line (f is) (suc n) ls
 pub data Stand : Type 0 where
   Begins Comma Inside Quote Cr : Stand
 
-unfoldable pub linesAt : Stand → List ℕ → Lines
-linesAt Begins [] = end
-linesAt Comma [] = broken
-linesAt Inside [] = broken
-linesAt Quote [] = line ([] ∷ []) 0 end
-linesAt Cr [] = broken
-linesAt Begins (b ∷ s) = elim (eqb b 0x22) [ true ↦ more (λ is. is) (linesAt Inside s) | false ↦ broken ]
-linesAt Comma (b ∷ s) = elim (eqb b 0x22) [ true ↦ more (λ is. is) (linesAt Inside s) | false ↦ broken ]
-linesAt Inside (b ∷ s) = elim (eqb b 0x22) [ true ↦ more (λ is. is) (linesAt Quote s) | false ↦ more (onto b) (linesAt Inside s) ]
-linesAt Quote (b ∷ s) =
+unfoldable pub lines_at : Stand → List ℕ → Lines
+lines_at Begins [] = end
+lines_at Comma [] = broken
+lines_at Inside [] = broken
+lines_at Quote [] = line ([] ∷ []) 0 end
+lines_at Cr [] = broken
+lines_at Begins (b ∷ s) = elim (eqb b 0x22) [ true ↦ more (λ is. is) (lines_at Inside s) | false ↦ broken ]
+lines_at Comma (b ∷ s) = elim (eqb b 0x22) [ true ↦ more (λ is. is) (lines_at Inside s) | false ↦ broken ]
+lines_at Inside (b ∷ s) = elim (eqb b 0x22) [ true ↦ more (λ is. is) (lines_at Quote s) | false ↦ more (onto b) (lines_at Inside s) ]
+lines_at Quote (b ∷ s) =
     elim (eqb b 0x22) [
-      | true ↦ more (onto b) (linesAt Inside s)
+      | true ↦ more (onto b) (lines_at Inside s)
       | false ↦ elim (eqb b 0x2C) [
-        | true ↦ more (λ is. [] ∷ is) (linesAt Comma s)
-        | false ↦ elim (eqb b 0x0D) [ true ↦ more (λ is. is) (linesAt Cr s) | false ↦ broken ]
+        | true ↦ more (λ is. [] ∷ is) (lines_at Comma s)
+        | false ↦ elim (eqb b 0x0D) [ true ↦ more (λ is. is) (lines_at Cr s) | false ↦ broken ]
       ]
     ]
-linesAt Cr (b ∷ s) = elim (eqb b 0x0A) [ true ↦ line ([] ∷ []) 1 (linesAt Begins s) | false ↦ broken ]
+lines_at Cr (b ∷ s) = elim (eqb b 0x0A) [ true ↦ line ([] ∷ []) 1 (lines_at Begins s) | false ↦ broken ]
 
 unfoldable pub cut : List ℕ → Lines
-cut file = linesAt Begins file
+cut file = lines_at Begins file
 
 -- 50
-unfoldable pub isBroken : Lines → Bool
-isBroken end = false
-isBroken broken = true
-isBroken (line is n ls) = isBroken ls
+unfoldable pub is_broken : Lines → Bool
+is_broken end = false
+is_broken broken = true
+is_broken (line is n ls) = is_broken ls
 
 -- a line: its items, and its bytes counted
 pub record FileLine : Type 0 where
   pub items : Items
   pub size : ℕ
 
-unfoldable pub linesIn : Lines → List FileLine
-linesIn end = []
-linesIn broken = []
-linesIn (line is n ls) = record { items = is; size = n } ∷ linesIn ls
+unfoldable pub lines_in : Lines → List FileLine
+lines_in end = []
+lines_in broken = []
+lines_in (line is n ls) = record { items = is; size = n } ∷ lines_in ls

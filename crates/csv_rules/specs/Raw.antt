@@ -4,21 +4,21 @@ use Rattle.std.specs.Prelude.{Bool, List, [], map, ℕ, ◌-◌}
 use Rattle.rules.specs.declared.Name.{Name}
 use Rattle.rules.specs.Lists.{nth}
 use Rattle.csv_rules.specs.Quote.{Items}
-use Rattle.csv_rules.specs.Columns.{How, text, upToBlank, pastBlank, fifteen, blank, coded, typed, familyOf, given_of, fifteenOf, meaningOf, type_of, Entry, columns}
-use Rattle.csv_rules.specs.Sheets.{sameTexts}
+use Rattle.csv_rules.specs.Columns.{How, text, upToBlank, pastBlank, fifteen, blank, coded, typed, family_of, given_of, fifteen_of, meaning_of, type_of, Entry, columns}
+use Rattle.csv_rules.specs.Sheets.{same_texts}
 
-unfoldable pub rawBy : How → Items → ℕ → List ℕ
-rawBy text row n = nth row (n - 1)
-rawBy upToBlank row n = familyOf (nth row (n - 1))
-rawBy pastBlank row n = given_of (nth row (n - 1))
-rawBy fifteen row n = fifteenOf (nth row (n - 1))
-rawBy blank row n = []
-rawBy (coded cs) row n = meaningOf cs (nth row (n - 1))
-rawBy (typed v) row n = type_of (nth row (v - 1)) (nth row (n - 1))
+unfoldable pub raw_by : How → Items → ℕ → List ℕ
+raw_by text row n = nth row (n - 1)
+raw_by upToBlank row n = family_of (nth row (n - 1))
+raw_by pastBlank row n = given_of (nth row (n - 1))
+raw_by fifteen row n = fifteen_of (nth row (n - 1))
+raw_by blank row n = []
+raw_by (coded cs) row n = meaning_of cs (nth row (n - 1))
+raw_by (typed v) row n = type_of (nth row (v - 1)) (nth row (n - 1))
 
 -- the raw values of a group's lines
-unfoldable pub rawKeys : Name → Items → List (List ℕ)
-rawKeys g row = map (λ (e : Entry). rawBy e.how row e.column) (columns g)
+unfoldable pub raw_keys : Name → Items → List (List ℕ)
+raw_keys g row = map (λ (e : Entry). raw_by e.how row e.column) (columns g)
 
-abbrev pub rawAgree : Name → Items → Items → Bool
-rawAgree g r q = sameTexts (rawKeys g r) (rawKeys g q)
+abbrev pub raw_agree : Name → Items → Items → Bool
+raw_agree g r q = same_texts (raw_keys g r) (raw_keys g q)

@@ -6,29 +6,29 @@ use Rattle.rules.specs.Told.{Told, gives, refused, refuse◌if◌else◌, ◌>>=
 use Rattle.rules.specs.Lists.{same, all, any}
 use Rattle.rules.specs.Fetch.{ordinal}
 use Rattle.rules.specs.Row.{Row, header, row_of}
-use Rattle.rules.specs.Sheet.{sheetOf, readSheet}
+use Rattle.rules.specs.Sheet.{sheet_of, read_sheet}
 use Rattle.csv_rules.specs.declared.CsvSheets.{CsvSheets}
-use Rattle.csv_rules.specs.Quote.{Items, cut, isBroken, FileLine, linesIn}
-use Rattle.csv_rules.specs.Count.{wellCounted}
+use Rattle.csv_rules.specs.Quote.{Items, cut, is_broken, FileLine, lines_in}
+use Rattle.csv_rules.specs.Count.{well_counted}
 use Rattle.csv_rules.specs.Kanji.{convertible}
 use Rattle.csv_rules.specs.Columns.{keys, number_of}
 
 -- ---- comparing rows, by their keys
-unfoldable pub sameTexts : List (List ℕ) → List (List ℕ) → Bool
-sameTexts [] [] = true
-sameTexts [] (w ∷ ws) = false
-sameTexts (v ∷ vs) [] = false
-sameTexts (v ∷ vs) (w ∷ ws) = same v w && sameTexts vs ws
+unfoldable pub same_texts : List (List ℕ) → List (List ℕ) → Bool
+same_texts [] [] = true
+same_texts [] (w ∷ ws) = false
+same_texts (v ∷ vs) [] = false
+same_texts (v ∷ vs) (w ∷ ws) = same v w && same_texts vs ws
 
 abbrev pub agree : Name → Items → Items → Bool
-agree g r q = sameTexts (keys g r) (keys g q)
+agree g r q = same_texts (keys g r) (keys g q)
 
-abbrev pub sameNumber : Items → Items → Bool
-sameNumber r q = same (number_of r) (number_of q)
+abbrev pub same_number : Items → Items → Bool
+same_number r q = same (number_of r) (number_of q)
 
 -- 53 "rows of a number that differ in a header key": two rows, wherever they stand
 abbrev pub clash : Items → FileLine → Bool
-clash r q = sameNumber r q.items && not (agree Pid r q.items && agree Pv1 r q.items)
+clash r q = same_number r q.items && not (agree Pid r q.items && agree Pv1 r q.items)
 
 unfoldable pub differ : List FileLine → Bool
 differ [] = false
@@ -40,38 +40,38 @@ pub record Run : Type 0 where
   pub row : FileLine
   pub others : List FileLine
 
-abbrev pub runLines : Run → List FileLine
-runLines u = u.row ∷ u.others
+abbrev pub run_lines : Run → List FileLine
+run_lines u = u.row ∷ u.others
 
-unfoldable pub joinRun : FileLine → List Run → List Run
-joinRun r [] = record { row = r; others = [] } ∷ []
-joinRun r (u ∷ us) =
-    elim (sameNumber r.items u.row.items) [
+unfoldable pub join_run : FileLine → List Run → List Run
+join_run r [] = record { row = r; others = [] } ∷ []
+join_run r (u ∷ us) =
+    elim (same_number r.items u.row.items) [
       | true ↦ record { row = r; others = u.row ∷ u.others } ∷ us
       | false ↦ record { row = r; others = [] } ∷ u ∷ us
     ]
 
 unfoldable pub runs : List FileLine → List Run
 runs [] = []
-runs (r ∷ rs) = joinRun r (runs rs)
+runs (r ∷ rs) = join_run r (runs rs)
 
 -- 54 "a number that returns after another": two runs with one number
 unfoldable pub returns : List Run → Bool
 returns [] = false
-returns (u ∷ us) = any (λ (w : Run). sameNumber u.row.items w.row.items) us || returns us
+returns (u ∷ us) = any (λ (w : Run). same_number u.row.items w.row.items) us || returns us
 
 -- 52, of every item: version line, heading line and dropped columns too
-abbrev pub rowConverts : FileLine → Bool
-rowConverts l = all convertible l.items
+abbrev pub row_converts : FileLine → Bool
+row_converts l = all convertible l.items
 
 -- 50 to 54, "in that order, each over the whole file"; else the runs
-unfoldable pub csvTold : List ℕ → Told (List Run)
-csvTold file =
-    let ls = linesIn (cut file) in
+unfoldable pub csv_told : List ℕ → Told (List Run)
+csv_told file =
+    let ls = lines_in (cut file) in
     let rows = drop 2 ls in
-    refuse 50 if isBroken (cut file) else
-    refuse 51 if not (wellCounted ls) else
-    refuse 52 if not (all rowConverts ls) else
+    refuse 50 if is_broken (cut file) else
+    refuse 51 if not (well_counted ls) else
+    refuse 52 if not (all row_converts ls) else
     refuse 53 if differ rows else
     refuse 54 if returns (runs rows) else
     gives (runs rows)
@@ -94,52 +94,52 @@ below q (r ∷ rs) =
     let order = specimen && agree Obr q r.items in
     cond specimen [] (row_in Spm r.items) ++ (cond order [] (row_in Obr r.items) ++ (row_in Obx r.items ++ below r.items rs))
 
-unfoldable pub sheetRows : Given → Run → List Row
-sheetRows g u =
+unfoldable pub sheet_rows : Given → Run → List Row
+sheet_rows g u =
     let r = u.row.items in
     header g.mode g.sent g.control ∷ (row_in Pid r ++ (row_in Pv1 r ++ (row_in Spm r ++ (row_in Obr r ++ (row_in Obx r ++ below r u.others)))))
 
 -- "then the sheet's own": what reading it refuses, 40 to 43; 45 "lent buffer too short"
-unfoldable pub runTold : Given → Run → ℕ → Told (List ℕ)
-runTold g u room =
-    let s = sheetOf (sheetRows g u) in
-    readSheet s >>
+unfoldable pub run_told : Given → Run → ℕ → Told (List ℕ)
+run_told g u room =
+    let s = sheet_of (sheet_rows g u) in
+    read_sheet s >>
     refuse 45 if ltb room (length s) else
     gives s
 
 -- ---- the calls
-unfoldable pub bytesIn : List FileLine → ℕ
-bytesIn [] = 0
-bytesIn (l ∷ ls) = l.size + bytesIn ls
+unfoldable pub bytes_in : List FileLine → ℕ
+bytes_in [] = 0
+bytes_in (l ∷ ls) = l.size + bytes_in ls
 
 -- where the first row stands
-unfoldable pub firstRow : List ℕ → ℕ
-firstRow file = bytesIn (take 2 (linesIn (cut file)))
+unfoldable pub first_row : List ℕ → ℕ
+first_row file = bytes_in (take 2 (lines_in (cut file)))
 
 -- how many sheets there are, and where the first row stands
-unfoldable pub csvCount : List ℕ → Told CsvSheets
-csvCount file = csvTold file >>= λ us. gives (record { count = length us; first = firstRow file })
+unfoldable pub csv_count : List ℕ → Told CsvSheets
+csv_count file = csv_told file >>= λ us. gives (record { count = length us; first = first_row file })
 
 -- the which-th sheet; 30 where there is none
-unfoldable pub csvSheet : List ℕ → ℕ → Given → ℕ → Told (List ℕ)
-csvSheet file which g room = csvTold file >>= λ us. ordinal us which >>= λ u. runTold g u room
+unfoldable pub csv_sheet : List ℕ → ℕ → Given → ℕ → Told (List ℕ)
+csv_sheet file which g room = csv_told file >>= λ us. ordinal us which >>= λ u. run_told g u room
 
 -- ---- sheet after sheet: what begins at a place, of any bytes. The lines from there on, as far as they are well quoted, and the first run of
 -- them: 50 where the line at the place is broken, 30 where there is none; 52 and 53 of the run's own rows. (No column count is known here.)
-unfoldable pub firstTold : Bool → List Run → Told Run
-firstTold bad [] = refuse 50 if bad else refused 30 0 0
-firstTold bad (u ∷ us) = refuse 52 if not (all rowConverts (runLines u)) else refuse 53 if differ (runLines u) else gives u
+unfoldable pub first_told : Bool → List Run → Told Run
+first_told bad [] = refuse 50 if bad else refused 30 0 0
+first_told bad (u ∷ us) = refuse 52 if not (all row_converts (run_lines u)) else refuse 53 if differ (run_lines u) else gives u
 
-unfoldable pub runsFrom : List ℕ → ℕ → List Run
-runsFrom file at = runs (linesIn (cut (drop at file)))
+unfoldable pub runs_from : List ℕ → ℕ → List Run
+runs_from file at = runs (lines_in (cut (drop at file)))
 
-unfoldable pub csvNext : List ℕ → ℕ → Given → ℕ → Told (List ℕ)
-csvNext file at g room = firstTold (isBroken (cut (drop at file))) (runsFrom file at) >>= λ u. runTold g u room
+unfoldable pub csv_next : List ℕ → ℕ → Given → ℕ → Told (List ℕ)
+csv_next file at g room = first_told (is_broken (cut (drop at file))) (runs_from file at) >>= λ u. run_told g u room
 
 -- the place behind the run; the end of the file where there is none
-unfoldable pub behindRun : ℕ → ℕ → List Run → ℕ
-behindRun end at [] = end
-behindRun end at (u ∷ us) = at + bytesIn (runLines u)
+unfoldable pub behind_run : ℕ → ℕ → List Run → ℕ
+behind_run end at [] = end
+behind_run end at (u ∷ us) = at + bytes_in (run_lines u)
 
-unfoldable pub placeAfter : List ℕ → ℕ → ℕ
-placeAfter file at = behindRun (length file) at (runsFrom file at)
+unfoldable pub place_after : List ℕ → ℕ → ℕ
+place_after file at = behind_run (length file) at (runs_from file at)

@@ -5,26 +5,26 @@ use Rattle.rules.specs.Lists.{join}
 use Rattle.csv_rules.specs.Quote.{Items}
 
 -- an item's bytes with quotes doubled, and its closing quote
-unfoldable pub quotesDoubled : List ℕ → List ℕ
-quotesDoubled [] = 0x22 ∷ []
-quotesDoubled (b ∷ s) = elim (eqb b 0x22) [ true ↦ 0x22 ∷ 0x22 ∷ quotesDoubled s | false ↦ b ∷ quotesDoubled s ]
+unfoldable pub quotes_doubled : List ℕ → List ℕ
+quotes_doubled [] = 0x22 ∷ []
+quotes_doubled (b ∷ s) = elim (eqb b 0x22) [ true ↦ 0x22 ∷ 0x22 ∷ quotes_doubled s | false ↦ b ∷ quotes_doubled s ]
 
 unfoldable pub quoted : List ℕ → List ℕ
-quoted s = 0x22 ∷ quotesDoubled s
+quoted s = 0x22 ∷ quotes_doubled s
 
-unfoldable pub quotedLine : Items → List ℕ
-quotedLine is = join 0x2C (map quoted is)
+unfoldable pub quoted_line : Items → List ℕ
+quoted_line is = join 0x2C (map quoted is)
 
 -- some lines spell a file: each has an item, each ends in CR LF, "the last may lack it"
 pub data Spells : List Items → List ℕ → Type 0 where
   nothing : Spells [] []
-  unended : (i : List ℕ) (is : Items) → Spells ((i ∷ is) ∷ []) (quotedLine (i ∷ is))
-  ended : (i : List ℕ) (is : Items) (ls : List Items) (s : List ℕ) → Spells ls s → Spells ((i ∷ is) ∷ ls) (quotedLine (i ∷ is) ++ (0x0D ∷ 0x0A ∷ s))
+  unended : (i : List ℕ) (is : Items) → Spells ((i ∷ is) ∷ []) (quoted_line (i ∷ is))
+  ended : (i : List ℕ) (is : Items) (ls : List Items) (s : List ℕ) → Spells ls s → Spells ((i ∷ is) ∷ ls) (quoted_line (i ∷ is) ++ (0x0D ∷ 0x0A ∷ s))
 
 -- the file of some lines, each ended
-unfoldable pub fileText : List Items → List ℕ
-fileText [] = []
-fileText (l ∷ ls) = quotedLine l ++ (0x0D ∷ 0x0A ∷ fileText ls)
+unfoldable pub file_text : List Items → List ℕ
+file_text [] = []
+file_text (l ∷ ls) = quoted_line l ++ (0x0D ∷ 0x0A ∷ file_text ls)
 
 -- an item's bytes from how they lie in the file: of two quotes the second is left out; true: a quote has just been read
 unfoldable pub halved : Bool → List ℕ → List ℕ

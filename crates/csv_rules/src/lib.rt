@@ -1,6 +1,6 @@
 // The types of the answers about a commercial centre's file (Req 01).
 ghost use Rattle.std.specs.Prelude.{◌≡◌};
-ghost use Rattle.csv_rules.specs.Answers.{faultNumber};
+ghost use Rattle.csv_rules.specs.Answers.{fault_number};
 
 use rules::Refusal;
 
@@ -44,7 +44,7 @@ pub struct Next {
 
 // The request's number of a fault.
 pub fn fault_number(fault: FileFault) -> usize
-    ensures { result ≡ faultNumber fault }
+    ensures { result ≡ fault_number fault }
 {
     match fault {
         FileFault::Quoting => 50,

@@ -6,20 +6,20 @@ use Prim.Native.Nat.{ℕ, ◌+◌, ◌≤◌, ◌<◌}
 use native.Mathlib.Omega.{arith}
 use lib.ListN.{length}
 use Rattle.rules.specs.Lists.{all, ended}
-use Rattle.rules.specs.Sheet.{row_lines, sheetOf}
+use Rattle.rules.specs.Sheet.{row_lines, sheet_of}
 use Rattle.rules.proofs.Logic.{cases, both, never}
 use Rattle.rules.proofs.Lists.{all_first}
 use Rattle.csv_rules.specs.Quote.{Items, FileLine}
 use Rattle.csv_rules.specs.Kanji.{convertible}
-use Rattle.csv_rules.specs.Sheets.{Run, rowConverts, Given, below, sheetRows}
+use Rattle.csv_rules.specs.Sheets.{Run, row_converts, Given, below, sheet_rows}
 use Rattle.reach.proofs.Laws.{adds_none}
 use Rattle.csv_rows.specs.Rows.{Inside, Spans, RowIs, row_at}
 use Rattle.csv_rows.proofs.Tied.{tied-keys, tied-converts}
-use Rattle.csv_lines.specs.Lines.{AddsLines, headerLines, first_lines, nextLines}
+use Rattle.csv_lines.specs.Lines.{AddsLines, header_lines, first_lines, next_lines}
 use Rattle.csv_lines.proofs.Groups.{lines_then}
 use Rattle.csv_lines.proofs.Rows.{rows_are, next-are, first-same, next-same}
 use Rattle.csv_runs.specs.Next.{Joins, NextIs}
-use Rattle.csv_runs.specs.Sheet.{RowReady, sheetAt, PutIs}
+use Rattle.csv_runs.specs.Sheet.{RowReady, sheet_at, PutIs}
 use Rattle.csv_runs.proofs.Laws.{none-there, Read, one-read, run_is, run-found, none_more, one_more}
 
 -- ---- lines where they are asked for
@@ -54,20 +54,20 @@ unfolding last_of
 last_snoc q r [] = refl
 last_snoc q r (p ∷ rs) = last_snoc p r rs
 
-last-converts : (q : FileLine) (rs : List FileLine) → all rowConverts (q ∷ rs) ≡ true → rowConverts (last_of q rs) ≡ true
+last-converts : (q : FileLine) (rs : List FileLine) → all row_converts (q ∷ rs) ≡ true → row_converts (last_of q rs) ≡ true
 unfolding last_of
-last-converts q [] h = (all_first rowConverts q [] h).0
-last-converts q (r ∷ rs) h = last-converts r rs (all_first rowConverts q (r ∷ rs) h).1
+last-converts q [] h = (all_first row_converts q [] h).0
+last-converts q (r ∷ rs) h = last-converts r rs (all_first row_converts q (r ∷ rs) h).1
 
 one_below : (q r : FileLine) (rs : List FileLine)
-    → row_lines (below q.items (rs ++ (r ∷ []))) ≡ row_lines (below q.items rs) ++ nextLines (last_of q rs).items r.items
+    → row_lines (below q.items (rs ++ (r ∷ []))) ≡ row_lines (below q.items rs) ++ next_lines (last_of q rs).items r.items
 unfolding row_lines below last_of
-one_below q r [] = next-are q.items r [] ∙ append-nil (nextLines q.items r.items)
+one_below q r [] = next-are q.items r [] ∙ append-nil (next_lines q.items r.items)
 one_below q r (p ∷ rs) =
     next-are q.items p (rs ++ (r ∷ []))
-    ∙ ap (λ (ls : List (List ℕ)). nextLines q.items p.items ++ ls) (one_below p r rs)
-    ∙ sym (append_assoc (nextLines q.items p.items) (row_lines (below p.items rs)) (nextLines (last_of p rs).items r.items))
-    ∙ ap (λ (ls : List (List ℕ)). ls ++ nextLines (last_of p rs).items r.items) (sym (next-are q.items p rs))
+    ∙ ap (λ (ls : List (List ℕ)). next_lines q.items p.items ++ ls) (one_below p r rs)
+    ∙ sym (append_assoc (next_lines q.items p.items) (row_lines (below p.items rs)) (next_lines (last_of p rs).items r.items))
+    ∙ ap (λ (ls : List (List ℕ)). ls ++ next_lines (last_of p rs).items r.items) (sym (next-are q.items p rs))
 
 -- ---- no run
 pub no-sheet : (f : List ℕ) (at : ℕ) (spans : List ℕ) (size count : ℕ) (good bad : Bool) (g : Given) (x : List ℕ)
@@ -133,9 +133,9 @@ module _ (f : List ℕ) (at : ℕ) (spans : List ℕ) (good₀ : Bool) (x₀ : L
 
   -- one turn
   module _ (next : List ℕ) (m : ℕ) (g d j : Bool) (t : NextIs f (row_at f spans) (at + size) next m g d j) (h : goes ≡ true)
-      (y : List ℕ) (r : ℕ) (a : AddsLines k x (cond (j && (good && g)) (nextLines (row_at f before) (row_at f next)) []) r y) where
+      (y : List ℕ) (r : ℕ) (a : AddsLines k x (cond (j && (good && g)) (next_lines (row_at f before) (row_at f next)) []) r y) where
     abbrev more : List (List ℕ)
-    more = nextLines (row_at f before) (row_at f next)
+    more = next_lines (row_at f before) (row_at f next)
 
     put_one : j ≡ true → Joins f (row_at f spans) (at + size) next m g d → Putting f at spans good₀ x₀ k₀ y (size + m) (good && g) (differs || d) j next r
     put_one z J =
@@ -176,14 +176,14 @@ module _ (f : List ℕ) (at : ℕ) (spans : List ℕ) (good₀ : Bool) (x₀ : L
     put_on = cases j (λ z. put_one z (t.joined z)) put-none-more
 
   -- the whole sheet
-  module _ (mode sent control w : List ℕ) (a : AddsLines 0 w (headerLines mode sent control ++ cond good₀ (first_lines (row_at f spans)) []) k₀ x₀) where
+  module _ (mode sent control w : List ℕ) (a : AddsLines 0 w (header_lines mode sent control ++ cond good₀ (first_lines (row_at f spans)) []) k₀ x₀) where
     abbrev given : Given
     given = record { mode = mode; sent = sent; control = control }
 
-    sheet-lines : good ≡ true → row_lines (sheetRows given run) ≡ (headerLines mode sent control ++ cond good₀ (first_lines (row_at f spans)) []) ++ P.done
+    sheet-lines : good ≡ true → row_lines (sheet_rows given run) ≡ (header_lines mode sent control ++ cond good₀ (first_lines (row_at f spans)) []) ++ P.done
     sheet-lines o =
         let T = tied-keys f spans P.first.items P.read.lies in
-        let H = headerLines mode sent control in
+        let H = header_lines mode sent control in
         rows_are given run
         ∙ ap (λ (ls : List (List ℕ)). H ++ (ls ++ row_lines (below P.first.items P.others))) (sym (first-same (row_at f spans) P.first.items T))
         ∙ ap (λ (ls : List (List ℕ)). H ++ (first_lines (row_at f spans) ++ ls)) (sym (P.text o))
@@ -191,12 +191,12 @@ module _ (f : List ℕ) (at : ℕ) (spans : List ℕ) (good₀ : Bool) (x₀ : L
         ∙ ap (λ (c : Bool). (H ++ cond c (first_lines (row_at f spans)) []) ++ P.done) (sym (P.kept o))
 
     pub put-over : goes ≡ false → PutIs f at given w size k good differs false x
-    unfolding sheetAt sheetOf
+    unfolding sheet_at sheet_of
     put-over z =
         let whole = lines_then a P.adds in
         record {
           run = run-found f at spans size good differs goes P.first P.others P.read z;
-          sheet = λ c o. rw (run_is f at spans size good differs goes P.first P.others P.read z, sheetAt, sheet-lines o) whole.adds;
+          sheet = λ c o. rw (run_is f at spans size good differs goes P.first P.others P.read z, sheet_at, sheet-lines o) whole.adds;
           same = whole.adds.same;
           inside = whole.adds.inside;
         }

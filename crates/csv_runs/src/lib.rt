@@ -1,7 +1,7 @@
 // The run of rows that begins at a place of the commercial centre's file (Req 01), and its sheet.
 ghost use Rattle.std.specs.Prelude.{cond, [], ◌++◌, ◌≤◌, ◌<◌, length};
 ghost use Rattle.csv_rows.specs.Rows.{Inside, row_at};
-ghost use Rattle.csv_lines.specs.Lines.{AddsLines, headerLines, first_lines, nextLines};
+ghost use Rattle.csv_lines.specs.Lines.{AddsLines, header_lines, first_lines, next_lines};
 ghost use Rattle.csv_runs.specs.Next.{NextIs};
 ghost use Rattle.csv_runs.specs.Runs.{RunIs};
 ghost use Rattle.csv_runs.specs.Sheet.{RowReady, PutIs};
@@ -118,7 +118,7 @@ fn put_first(
     asked: bool,
 ) -> usize
     requires { RowReady file.now spans.now asked }
-    ensures { AddsLines 0 out.old (headerLines mode.now sent.now control.now ++ cond asked (first_lines (row_at file.now spans.now)) []) result out.new }
+    ensures { AddsLines 0 out.old (header_lines mode.now sent.now control.now ++ cond asked (first_lines (row_at file.now spans.now)) []) result out.new }
 {
     let at = csv_lines::header(out, 0, mode, sent, control);
     if asked {
@@ -137,7 +137,7 @@ fn put_next(
     asked: bool,
 ) -> usize
     requires { (at ≤ length out.old) × RowReady file.now before.now asked × RowReady file.now spans.now asked }
-    ensures { AddsLines at out.old (cond asked (nextLines (row_at file.now before.now) (row_at file.now spans.now)) []) result out.new }
+    ensures { AddsLines at out.old (cond asked (next_lines (row_at file.now before.now) (row_at file.now spans.now)) []) result out.new }
 {
     if asked {
         return csv_lines::next_row(out, at, file, before, spans);

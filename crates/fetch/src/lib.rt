@@ -5,7 +5,7 @@ ghost use Rattle.rules.specs.Frame.{is, known};
 ghost use Rattle.rules.specs.Proper.{Proper};
 ghost use Rattle.rules.specs.Fetch.{span_of, stretch, known_of};
 ghost use Rattle.rules.specs.Promises.{Located, PartGiven, StretchGiven};
-ghost use Rattle.fetch.specs.Place.{PlaceFound, partIn, stretchOf};
+ghost use Rattle.fetch.specs.Place.{PlaceFound, part_in, stretch_of};
 
 use rules::{Answer, Delims, Fetched, Found, Kind, KnownSegment, Name, Refusal, Span};
 
@@ -110,7 +110,7 @@ fn undivided(start: usize, len: usize, component: usize) -> Span
 // A component of the first repetition of the n-th piece of a segment.
 fn component_of(m: &[u8], d: Delims, s: KnownSegment, n: usize, component: usize) -> Span
     requires { (1 ≤ component) × (s.start + s.len ≤ length m.now) × Proper d }
-    ensures value { result ≡ stretchOf d s.start (met (take s.len (drop s.start m.now))) n component }
+    ensures value { result ≡ stretch_of d s.start (met (take s.len (drop s.start m.now))) n component }
     ensures within { result.start + result.len ≤ length m.now }
 {
     let start = s.start;
@@ -129,7 +129,7 @@ fn component_of(m: &[u8], d: Delims, s: KnownSegment, n: usize, component: usize
 // A component of the first repetition of a field, by its place in the field.
 fn part_in(f: &[u8], d: Delims, component: usize) -> Span
     requires { (1 ≤ component) × Proper d }
-    ensures value { result ≡ partIn d (met f.now) component }
+    ensures value { result ≡ part_in d (met f.now) component }
     ensures within { result.start + result.len ≤ length f.now }
 {
     let first = pieces::reach(f, d.repetition, 0);

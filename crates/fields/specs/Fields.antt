@@ -6,14 +6,14 @@ use Rattle.rules.specs.Lists.{has}
 use Rattle.rules.specs.Shift.{met, byte_of}
 use Rattle.rules.specs.Places.{Field, reads, closed, charset, names, ◌must◌, ◌may◌}
 use Rattle.rules.specs.Places as Table
-use Rattle.rules.specs.View.{firstRepetition, seenIn}
-use Rattle.rules.specs.Judge.{judgeAll, namesFault}
+use Rattle.rules.specs.View.{first_repetition, seen_in}
+use Rattle.rules.specs.Judge.{judge_all, names_fault}
 use Rattle.bytes.specs.Bytes.{until, is_byte}
-use Rattle.scan.specs.Scan.{ends, afterSep, onward}
-use Rattle.value.specs.Rules.{ruleOf, faultNo, fineOf}
+use Rattle.scan.specs.Scan.{ends, after_sep, onward}
+use Rattle.value.specs.Rules.{rule_of, fault_no, fine_of}
 use Rattle.judge.specs.Judge.{Small}
 use Rattle.components.specs.Components.{Smalls}
-use Rattle.closed.specs.Closed.{charsetFault}
+use Rattle.closed.specs.Closed.{charset_fault}
 use Rattle.value.specs.declared.Place.{Place}
 use Rattle.value.specs.declared.Place.TheVariants.{Unread, Must, May}
 use Rattle.fields.specs.declared.Form.{Form}
@@ -23,17 +23,17 @@ use Rattle.fields.specs.declared.SegmentRead.{SegmentRead}
 
 -- ---- one field
 -- the entries of the table, from component c on
-unfoldable pub entriesFrom : ℕ → List Place → List Table.Place
-entriesFrom c [] = []
-entriesFrom c (Unread ∷ ps) = entriesFrom (suc c) ps
-entriesFrom c (Must r ∷ ps) = (c must ruleOf r) ∷ entriesFrom (suc c) ps
-entriesFrom c (May r ∷ ps) = (c may ruleOf r) ∷ entriesFrom (suc c) ps
+unfoldable pub entries_from : ℕ → List Place → List Table.Place
+entries_from c [] = []
+entries_from c (Unread ∷ ps) = entries_from (suc c) ps
+entries_from c (Must r ∷ ps) = (c must rule_of r) ∷ entries_from (suc c) ps
+entries_from c (May r ∷ ps) = (c may rule_of r) ∷ entries_from (suc c) ps
 
-unfoldable pub entryFor : ℕ → Form → Field
-entryFor n (One a) = reads n (entriesFrom 1 (a ∷ []))
-entryFor n (Three a b c) = reads n (entriesFrom 1 (a ∷ b ∷ c ∷ []))
-entryFor n Charset = closed n charset
-entryFor n Names = closed n names
+unfoldable pub entry_for : ℕ → Form → Field
+entry_for n (One a) = reads n (entries_from 1 (a ∷ []))
+entry_for n (Three a b c) = reads n (entries_from 1 (a ∷ b ∷ c ∷ []))
+entry_for n Charset = closed n charset
+entry_for n Names = closed n names
 
 unfoldable pub SmallForm : Form → Type 0
 unfolding Smalls Small
@@ -43,21 +43,21 @@ SmallForm Charset = Unit {0}
 SmallForm Names = Unit {0}
 
 -- the fault of a field f by its form
-unfoldable pub entriesFault : Delims → List Table.Place → List ℕ → ℕ
-entriesFault d ps f = 22 when has d.repetition f then judgeAll d (map (seenIn d (firstRepetition d f)) ps)
+unfoldable pub entries_fault : Delims → List Table.Place → List ℕ → ℕ
+entries_fault d ps f = 22 when has d.repetition f then judge_all d (map (seen_in d (first_repetition d f)) ps)
 
-unfoldable pub formFault : Delims → Form → List ℕ → ℕ
-formFault d (One a) f = entriesFault d (entriesFrom 1 (a ∷ [])) f
-formFault d (Three a b c) f = entriesFault d (entriesFrom 1 (a ∷ b ∷ c ∷ [])) f
-formFault d Charset f = charsetFault d f
-formFault d Names f = namesFault d f
+unfoldable pub form_fault : Delims → Form → List ℕ → ℕ
+form_fault d (One a) f = entries_fault d (entries_from 1 (a ∷ [])) f
+form_fault d (Three a b c) f = entries_fault d (entries_from 1 (a ∷ b ∷ c ∷ [])) f
+form_fault d Charset f = charset_fault d f
+form_fault d Names f = names_fault d f
 
 -- the first component of the field at the start of m, where it is read
-unfoldable pub formHead : Delims → Form → List ℕ → List ℕ
-formHead d (One a) m = until (ends d) m
-formHead d (Three a b c) m = until (ends d) m
-formHead d Charset m = []
-formHead d Names m = []
+unfoldable pub form_head : Delims → Form → List ℕ → List ℕ
+form_head d (One a) m = until (ends d) m
+form_head d (Three a b c) m = until (ends d) m
+form_head d Charset m = []
+form_head d Names m = []
 
 -- the field at the start of t
 pub record ReadOf (d : Delims) (own : List ℕ → ℕ) (first : List ℕ → List ℕ) (t : List ℕ) (fault head len : ℕ) : Type 0 where
@@ -67,7 +67,7 @@ pub record ReadOf (d : Delims) (own : List ℕ → ℕ) (first : List ℕ → Li
 
 -- ---- a segment s, field by field
 pub record Begins (n : ℕ) (w : Walk) : Type 0 where
-  pub fine : fineOf w.fault ≡ true
+  pub fine : fine_of w.fault ≡ true
   pub field : w.field ≡ n
   pub part : w.start + w.head ≡ 0
   pub at : w.at ≡ 0
@@ -80,25 +80,25 @@ pub record Ready (s : List ℕ) (n : ℕ) (w : Walk) : Type 0 where
 
 -- field n, from which m goes on, is judged
 pub record JudgedField (d : Delims) (s : List ℕ) (n : ℕ) (own : List ℕ → ℕ) (first : List ℕ → List ℕ) (m : List ℕ) (w : Walk) : Type 0 where
-  pub told : faultNo w.fault ≡ own (until (is_byte d.field) m)
+  pub told : fault_no w.fault ≡ own (until (is_byte d.field) m)
   pub numbered : w.field ≡ n
   pub raw : map byte_of (first m) ≡ take w.head (drop w.start s)
-  pub rest : afterSep d.field (met (drop w.at s)) ≡ afterSep d.field m
+  pub rest : after_sep d.field (met (drop w.at s)) ≡ after_sep d.field m
 
 -- from w on to field n; a fault that is found ends the segment
 pub record Went (d : Delims) (s : List ℕ) (n : ℕ) (own : List ℕ → ℕ) (first : List ℕ → List ℕ) (w r : Walk) : Type 0 where
-  pub ended : fineOf w.fault ≡ false → r ≡ w
-  pub judged : fineOf w.fault ≡ true → JudgedField d s n own first (onward d.field (n - w.field) (met (drop w.at s))) r
+  pub ended : fine_of w.fault ≡ false → r ≡ w
+  pub judged : fine_of w.fault ≡ true → JudgedField d s n own first (onward d.field (n - w.field) (met (drop w.at s))) r
 
 -- the same for a field of the table
 pub record To (d : Delims) (s : List ℕ) (n : ℕ) (form : Form) (w r : Walk) : Type 0 where
-  pub went : Went d s n (formFault d form) (formHead d form) w r
+  pub went : Went d s n (form_fault d form) (form_head d form) w r
   pub upto : r.field ≤ n
   pub part : r.start + r.head ≤ length s
   pub low : r.at ≤ length s
 
 -- the end of a segment, at w: the number of its first fault
 pub record EndOf (w : Walk) (fault : ℕ) (r : SegmentRead) : Type 0 where
-  pub told : faultNo r.fault ≡ fault
+  pub told : fault_no r.fault ≡ fault
   pub field : r.field ≡ w.field
   pub none : r.at + r.len ≡ 0

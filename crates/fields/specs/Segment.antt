@@ -6,18 +6,18 @@ use Rattle.rules.specs.Told.{◌>>◌}
 use Rattle.rules.specs.Shift.{met}
 use Rattle.rules.specs.Frame.{Known}
 use Rattle.rules.specs.Places.{Field}
-use Rattle.rules.specs.View.{piece_of, part_of, Segment, segmentOf}
-use Rattle.rules.specs.Check.{Context, faultTold, partsTold}
-use Rattle.scan.specs.Scan.{afterSep, onward}
-use Rattle.value.specs.Rules.{faultNo, fineOf}
+use Rattle.rules.specs.View.{piece_of, part_of, Segment, segment_of}
+use Rattle.rules.specs.Check.{Context, fault_told, parts_told}
+use Rattle.scan.specs.Scan.{after_sep, onward}
+use Rattle.value.specs.Rules.{fault_no, fine_of}
 use Rattle.fields.specs.declared.Walk.{Walk}
 
 -- a known segment of a name, by its bytes as they are met
-abbrev pub asKnown : Name → List ℕ → Known
-asKnown n body = record { name = n; start = 0; body = body }
+abbrev pub as_known : Name → List ℕ → Known
+as_known n body = record { name = n; start = 0; body = body }
 
 abbrev pub segment : Name → Delims → List ℕ → Segment
-segment n d s = segmentOf d (asKnown n (met s))
+segment n d s = segment_of d (as_known n (met s))
 
 -- what the segments before say, where the last OBR-2 is `order`
 abbrev pub said : List ℕ → Context
@@ -25,11 +25,11 @@ said order = record { order = order }
 
 -- where w stands: the fault that was found is the answer, or what is told of the fields that are left
 pub record Walked (n : Name) (d : Delims) (x : Context) (s : List ℕ) (left : List Field) (w : Walk) : Type 0 where
-  pub told : (i : ℕ) → partsTold d x i (segment n d s) (segment n d s).parts
-      ≡ (faultTold i w.field (faultNo w.fault) >> partsTold d x i (segment n d s) (map (part_of d (asKnown n (met s))) left))
+  pub told : (i : ℕ) → parts_told d x i (segment n d s) (segment n d s).parts
+      ≡ (fault_told i w.field (fault_no w.fault) >> parts_told d x i (segment n d s) (map (part_of d (as_known n (met s))) left))
   pub lead : (f : ℕ) → w.field ≤ f → piece_of n f ≡ piece_of n w.field + (f - w.field)
-  pub rest : fineOf w.fault ≡ true → afterSep d.field (met (drop w.at s)) ≡ onward d.field (suc (piece_of n w.field)) (met s)
+  pub rest : fine_of w.fault ≡ true → after_sep d.field (met (drop w.at s)) ≡ onward d.field (suc (piece_of n w.field)) (met s)
 
 -- the fault at a field is what the table tells of the segment, whatever its ordinal
 pub record FoundIn (n : Name) (d : Delims) (x : Context) (body : List ℕ) (field fault : ℕ) : Type 0 where
-  pub told : (i : ℕ) → faultTold i field fault ≡ partsTold d x i (segmentOf d (asKnown n body)) (segmentOf d (asKnown n body)).parts
+  pub told : (i : ℕ) → fault_told i field fault ≡ parts_told d x i (segment_of d (as_known n body)) (segment_of d (as_known n body)).parts

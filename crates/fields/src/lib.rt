@@ -4,8 +4,8 @@ ghost use Rattle.rules.specs.Told.{◌then◌, ◌when◌};
 ghost use Rattle.rules.specs.Shift.{met};
 ghost use Rattle.rules.specs.Proper.{Proper};
 ghost use Rattle.scan.specs.Scan.{onward};
-ghost use Rattle.value.specs.Rules.{faultNo};
-ghost use Rattle.fields.specs.Fields.{formFault, formHead, SmallForm, ReadOf, Begins, Ready, To, EndOf};
+ghost use Rattle.value.specs.Rules.{fault_no};
+ghost use Rattle.fields.specs.Fields.{form_fault, form_head, SmallForm, ReadOf, Begins, Ready, To, EndOf};
 
 use closed::ClosedRead;
 use components::{Components, one, three};
@@ -25,7 +25,7 @@ pub enum Form {
 
 // 22, or a fault after it.
 fn repeated(repeats: bool, f: Fault) -> Fault
-    ensures { faultNo result ≡ (22 when repeats then faultNo f) }
+    ensures { fault_no result ≡ (22 when repeats then fault_no f) }
 {
     if repeats {
         return Fault::Repeated;
@@ -42,7 +42,7 @@ struct Read {
 }
 
 fn divided(c: Components) -> Read
-    ensures { (faultNo result.fault ≡ (22 when c.repeats then faultNo c.fault)) × (result.head ≡ c.head) × (result.len ≡ c.len) }
+    ensures { (fault_no result.fault ≡ (22 when c.repeats then fault_no c.fault)) × (result.head ≡ c.head) × (result.len ≡ c.len) }
 {
     let f = c.fault;
     Read {
@@ -65,7 +65,7 @@ fn undivided(c: ClosedRead) -> Read
 
 fn judge_field(t: &[u8], d: Delims, form: Form) -> Read
     requires { Proper d × SmallForm form }
-    ensures read_of { ReadOf d (formFault d form) (formHead d form) t.now (faultNo result.fault) result.head result.len }
+    ensures read_of { ReadOf d (form_fault d form) (form_head d form) t.now (fault_no result.fault) result.head result.len }
     ensures within { (result.len ≤ length t.now) × (result.head ≤ length t.now) }
 {
     match form {
@@ -161,7 +161,7 @@ pub struct SegmentRead {
 }
 
 pub fn ended(w: Walk) -> SegmentRead
-    ensures { EndOf w (faultNo w.fault) result }
+    ensures { EndOf w (fault_no w.fault) result }
 {
     let fault = w.fault;
     SegmentRead {
@@ -174,7 +174,7 @@ pub fn ended(w: Walk) -> SegmentRead
 
 // "then 26 or 27 after that field": where nothing was found wrong before, f unless something holds.
 pub fn ended_unless(w: Walk, holds: bool, f: Fault) -> SegmentRead
-    ensures { EndOf w (faultNo w.fault then (faultNo f when not holds)) result }
+    ensures { EndOf w (fault_no w.fault then (fault_no f when not holds)) result }
 {
     let fault = w.fault;
     if value::fine(fault) & !holds {

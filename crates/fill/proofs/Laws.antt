@@ -11,16 +11,16 @@ use lib.Dec.{eqb}
 use lib.ListN.{length, take, drop, length-append}
 use lib.Seq.{take_all, length-take-le}
 use Rattle.rules.specs.declared.Delims.{Delims}
-use Rattle.rules.specs.Lists.{ended, orEmpty}
+use Rattle.rules.specs.Lists.{ended, or_empty}
 use Rattle.rules.specs.Shift.{met, byte_of}
 use Rattle.rules.specs.Escape.{plain, unescape}
 use Rattle.rules.specs.Judge.{plain_of}
-use Rattle.rules.proofs.Logic.{optionCases, both}
+use Rattle.rules.proofs.Logic.{option_cases, both}
 use Rattle.rules.proofs.Lists.{over, rest-is}
 use Rattle.rules.proofs.Split.{ended-append}
 use Rattle.rules.proofs.Modes.{length-met}
 use Rattle.bytes.specs.Bytes.{until}
-use Rattle.scan.specs.Scan.{ends, plainText, CutOf}
+use Rattle.scan.specs.Scan.{ends, plain_text, CutOf}
 use Rattle.scan.proofs.Laws.{take-until}
 use Rattle.judge.proofs.Laws.{clean_at}
 use Rattle.unescape.proofs.Laws.{value-short}
@@ -30,7 +30,7 @@ use Rattle.unescape.specs.declared.Unescaped.TheVariants.{Got, Faulty, Over}
 use Rattle.writer.specs.Over.{Wrote}
 use Rattle.writer.specs.Over as W
 use Rattle.writer.proofs.Laws.{tail_none}
-use Rattle.fill.specs.Fill.{lesser, Filled, fillAt, FilledAt, Lined}
+use Rattle.fill.specs.Fill.{lesser, Filled, fill_at, FilledAt, Lined}
 
 -- ---- the lesser of two numbers
 pub least_first : (a b : ℕ) → a < b → a ≡ lesser a b
@@ -53,7 +53,7 @@ fill-over (x ∷ s) [] = refl
 fill-over (x ∷ s) (o ∷ old) = ap (λ (l : List ℕ). x ∷ l) (fill-over s old)
 
 pub put-fills : (s old x : List ℕ) (n k : ℕ) → n ≡ lesser (length s) (length old) → (n ≤ length s) × (n ≤ length old) → Wrote k x (take n s) old → Filled (length s) x s old
-unfolding W.overFront
+unfolding W.over_front
 put-fills s old x n k e h w = record {
   ends = refl;
   is = w.is ∙ rw (length-take-le n s h.0, e) (fill-over s old);
@@ -65,8 +65,8 @@ prefix-room s old n h = omega (arith, length-take-le n s h.0, h.1)
 -- ---- a value is no longer than its component
 module _ (d : Delims) (raw : List ℕ) where
   plain-short : length (plain_of d (met raw)) ≤ length raw
-  unfolding orEmpty
-  plain-short = optionCases (unescape d (met raw)) (λ v e. rw e (value-short d raw v e)) (λ e. rw e (omega arith))
+  unfolding or_empty
+  plain-short = option_cases (unescape d (met raw)) (λ v e. rw e (value-short d raw v e)) (λ e. rw e (omega arith))
 
   -- a component that is the whole text and has no escapes is its own value
   module _ (n : ℕ) (q : Bool) (c : CutOf d raw n q) (h : (q && eqb n (length raw)) ≡ true) where
@@ -77,9 +77,9 @@ module _ (d : Delims) (raw : List ℕ) where
     clean-whole = sym (take-until (ends d) (met raw)) ∙ take_all (length (until (ends d) (met raw))) (met raw) (omega (arith, c.long, clean-long, length-met raw))
 
     pub clean-plain : plain_of d (met raw) ≡ raw
-    unfolding orEmpty unescape
+    unfolding or_empty unescape
     clean-plain =
-        let a : plainText d (met raw) ≡ true = ap (plainText d) (sym clean-whole) ∙ sym c.plain ∙ (both q (eqb n (length raw)) h).0 in
+        let a : plain_text d (met raw) ≡ true = ap (plain_text d) (sym clean-whole) ∙ sym c.plain ∙ (both q (eqb n (length raw)) h).0 in
         let v : map byte_of (met raw) ≡ raw = ap (map byte_of) (sym clean-whole) ∙ c.raw ∙ take_all n raw (omega (arith, clean-long)) in
         rw (clean_at d (met raw) a, v)
 
@@ -91,14 +91,14 @@ module _ (d : Delims) (raw : List ℕ) where
     value-clean n q c h f = rw (clean-plain n q c h) f
 
     pub value-got : (u : Unescaped) (n : ℕ) (buf : List ℕ) → u ≡ Got n → Fits u (unescape d (met raw)) buf → Filled r x (take n buf) out → Filled r x (plain_of d (met raw)) out
-    unfolding orEmpty
+    unfolding or_empty
     value-got u n buf e h f = let w : Whole n (unescape d (met raw)) buf = subst (λ (z : Unescaped). Fits z (unescape d (met raw)) buf) e h in rw w.is f
 
   pub got-short : (out x : List ℕ) (r : ℕ) (u : Unescaped) (n : ℕ) (buf : List ℕ) → u ≡ Got n → Fits u (unescape d (met raw)) buf → Filled r x (take n buf) out → r ≤ length raw
   got-short out x r u n buf e h f = value-within out x r (value-got out x r u n buf e h f)
 
   pub value-faulty : (out : List ℕ) (u : Unescaped) (buf : List ℕ) → u ≡ Faulty → Fits u (unescape d (met raw)) buf → Filled 0 out (plain_of d (met raw)) out
-  unfolding orEmpty fill
+  unfolding or_empty fill
   value-faulty out u buf e h = let w : unescape d (met raw) ≡ none = subst (λ (z : Unescaped). Fits z (unescape d (met raw)) buf) e h in rw w (record { ends = refl; is = refl })
 
   pub value-over : (out : List ℕ) (u : Unescaped) (n : ℕ) (buf : List ℕ) → u ≡ Over n → Fits u (unescape d (met raw)) buf → length buf ≡ 4096 → length raw ≤ 4096 → Filled 0 out (plain_of d (met raw)) out
@@ -127,11 +127,11 @@ fill_more (x ∷ w) b (o ∷ old) = ap (λ (l : List ℕ). x ∷ l) (fill_more w
 -- the buffer once what is left of it from a place on, which was lent to a routine, is back
 pub back : (x y b : List ℕ) (at f r : ℕ) → f ≡ lesser at (length x) → Filled r y b (take (length x - f) (drop f x))
     → FilledAt at x b (at + r) (take f x ++ (y ++ drop (length x - f) (drop f x)))
-unfolding fillAt
+unfolding fill_at
 back x y b at f r e q = record { ends = omega (arith, q.ends); is = rw (q.is, rest-is, tail_none, append-nil, e) }
 
-pub add_twice : (at : ℕ) (b c x : List ℕ) → fillAt (at + length b) c (fillAt at b x) ≡ fillAt at (b ++ c) x
-unfolding fillAt lesser
+pub add_twice : (at : ℕ) (b c x : List ℕ) → fill_at (at + length b) c (fill_at at b x) ≡ fill_at at (b ++ c) x
+unfolding fill_at lesser
 add_twice zero b c x = rw (zero-add, length-fill b x) (fill_more b c x)
 add_twice (suc at) b c [] = rw (fill-nil b, suc-add) (rw (fill-nil c, fill-nil (b ++ c)))
 add_twice (suc at) b c (o ∷ x) = rw suc-add (ap (λ (l : List ℕ). o ∷ l) (add_twice at b c x))

@@ -17,12 +17,12 @@ pub record Filled (r : ℕ) (x w old : List ℕ) : Type 0 where
   pub is : x ≡ fill w old
 
 -- a text b over x from at on, as far as x reaches: it ends at r, and leaves y
-unfoldable pub fillAt : ℕ → List ℕ → List ℕ → List ℕ
-fillAt at b x = take (lesser at (length x)) x ++ fill b (drop (lesser at (length x)) x)
+unfoldable pub fill_at : ℕ → List ℕ → List ℕ → List ℕ
+fill_at at b x = take (lesser at (length x)) x ++ fill b (drop (lesser at (length x)) x)
 
 pub record FilledAt (at : ℕ) (x b : List ℕ) (r : ℕ) (y : List ℕ) : Type 0 where
   pub ends : r ≡ at + length b
-  pub is : y ≡ fillAt at b x
+  pub is : y ≡ fill_at at b x
 
 -- lines, each ended by 0A
 pub record Lined (at : ℕ) (x : List ℕ) (ls : List (List ℕ)) (r : ℕ) (y : List ℕ) : Type 0 where

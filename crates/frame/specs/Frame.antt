@@ -6,11 +6,11 @@ use Rattle.rules.specs.declared.Name.{Name}
 use Rattle.rules.specs.declared.Name.TheVariants.{Spm, Obr, Obx, Other}
 use Rattle.rules.specs.Told.{Told, gives, refused, refusal, refuse◌if◌else◌, ◌>>◌, ◌>>=◌, ◌then◌, ◌when◌}
 use Rattle.rules.specs.Shift.{keeps}
-use Rattle.rules.specs.Frame.{delimsOf, nameOk, name_of, segments, segmentsOk, is, start, past, mayFollow, mayEnd, orderFault}
+use Rattle.rules.specs.Frame.{delims_of, name_ok, name_of, segments, segments_ok, is, start, past, may_follow, may_end, order_fault}
 use Rattle.rules.specs.Proper.{Proper}
 use Rattle.rules.specs.View.{view}
-use Rattle.rules.specs.Check.{frameTold, names_of, countsTold}
-use Rattle.order.specs.Order.{reachedOf, codeReached}
+use Rattle.rules.specs.Check.{frame_told, names_of, counts_told}
+use Rattle.order.specs.Order.{reached_of, code_reached}
 use Rattle.frame.specs.declared.Opened.{Opened}
 use Rattle.frame.specs.declared.Framed.{Framed}
 use Rattle.frame.specs.declared.Framed.TheVariants.{Open, Not}
@@ -19,67 +19,67 @@ use Rattle.frame.specs.declared.all_segments.SegmentsPassed.{SegmentsPassed}
 use Rattle.frame.specs.declared.all_segments.SegmentsPassed.TheVariants.{Whole, Bad}
 
 -- "At most 32,768 bytes."
-abbrev pub mostBytes : ℕ
-mostBytes = 32768
+abbrev pub most_bytes : ℕ
+most_bytes = 32768
 
 -- ---- the frame
-abbrev pub framedTold : Framed → Told Opened
-framedTold (Open o) = gives o
-framedTold (Not r) = refusal r
+abbrev pub framed_told : Framed → Told Opened
+framed_told (Open o) = gives o
+framed_told (Not r) = refusal r
 
 -- 10 to 14, then 15 by the known names; then the delimiters and the counts
 unfoldable pub frame_of : List ℕ → Told Opened
 frame_of m =
-    let at = orderFault start 1 (names_of (view m)) in
-    frameTold m
-    >> cond (eqb at 0) (countsTold (names_of (view m)) >>= λ c. gives (record { delims = delimsOf m; counts = c })) (refused 15 at 0)
+    let at = order_fault start 1 (names_of (view m)) in
+    frame_told m
+    >> cond (eqb at 0) (counts_told (names_of (view m)) >>= λ c. gives (record { delims = delims_of m; counts = c })) (refused 15 at 0)
 
 -- what holds of a message that passes
 pub record Sound (m : List ℕ) (d : Delims) : Type 0 where
-  pub delims : d ≡ delimsOf m
+  pub delims : d ≡ delims_of m
   pub proper : Proper d
-  pub short : length m ≤ mostBytes
+  pub short : length m ≤ most_bytes
   pub shifts : keeps 0x0D m ≡ true
-  pub whole : segmentsOk d.field m ≡ true
+  pub whole : segments_ok d.field m ≡ true
 
 -- ---- the pass
 -- 13, of one segment
-abbrev pub goodOf : ℕ → List ℕ → Bool
-goodOf bar s = leb (length s) 4096 && nameOk bar s
+abbrev pub good_of : ℕ → List ℕ → Bool
+good_of bar s = leb (length s) 4096 && name_ok bar s
 
-abbrev pub nothingSeen : Seen
-nothingSeen = record { segments = 0; known = 0; reached = codeReached start; fault = 0; counts = record { spm = 0; obr = 0; obx = 0 } }
+abbrev pub nothing_seen : Seen
+nothing_seen = record { segments = 0; known = 0; reached = code_reached start; fault = 0; counts = record { spm = 0; obr = 0; obx = 0 } }
 
 unfoldable pub tallied : Counts → Name → Counts
 tallied c n = record { spm = c.spm + (1 when is Spm n); obr = c.obr + (1 when is Obr n); obx = c.obx + (1 when is Obx n) }
 
 -- one segment more, of the name n
-unfoldable pub countedOf : Seen → Name → Seen
-countedOf v n =
+unfoldable pub counted_of : Seen → Name → Seen
+counted_of v n =
     let at = v.known + 1 in
-    let reached = reachedOf v.reached in
+    let reached = reached_of v.reached in
     cond (is n Other)
     (record { segments = v.segments + 1; known = v.known; reached = v.reached; fault = v.fault; counts = v.counts })
     (record {
       segments = v.segments + 1;
       known = at;
-      reached = codeReached (past reached n);
-      fault = v.fault then (at when not (mayFollow reached n));
+      reached = code_reached (past reached n);
+      fault = v.fault then (at when not (may_follow reached n));
       counts = tallied v.counts n;
     })
 
-unfoldable pub seenAfter : Seen → List (List ℕ) → Seen
-seenAfter v [] = v
-seenAfter v (s ∷ ss) = seenAfter (countedOf v (name_of s)) ss
+unfoldable pub seen_after : Seen → List (List ℕ) → Seen
+seen_after v [] = v
+seen_after v (s ∷ ss) = seen_after (counted_of v (name_of s)) ss
 
 -- the rest r of a message, after what is seen
-unfoldable pub passFrom : Seen → ℕ → List ℕ → SegmentsPassed
-passFrom v bar r = cond (segmentsOk bar r) (Whole (seenAfter v (segments r))) Bad
+unfoldable pub pass_from : Seen → ℕ → List ℕ → SegmentsPassed
+pass_from v bar r = cond (segments_ok bar r) (Whole (seen_after v (segments r))) Bad
 
 -- 14 and 15, when all is seen
 unfoldable pub closing : Delims → Seen → Told Opened
 closing d v =
-    let at = v.fault then (v.known + 1 when not (mayEnd (reachedOf v.reached))) in
+    let at = v.fault then (v.known + 1 when not (may_end (reached_of v.reached))) in
     refuse 14 if ltb 512 v.segments else
     cond (eqb at 0) (gives (record { delims = d; counts = v.counts })) (refused 15 at 0)
 

@@ -1,7 +1,7 @@
 // One pass over the segments: each is judged by itself, and counted by its name.
 ghost use Rattle.std.specs.Prelude.{◌≡◌, not, ◌≤◌, length};
 ghost use Rattle.rules.specs.Told.{◌then◌, ◌when◌};
-ghost use Rattle.frame.specs.Frame.{mostBytes, goodOf, tallied, countedOf, nothingSeen, passFrom, Within};
+ghost use Rattle.frame.specs.Frame.{most_bytes, good_of, tallied, counted_of, nothing_seen, pass_from, Within};
 
 use order::Reached;
 use rules::{Counts, Name};
@@ -24,9 +24,9 @@ pub enum SegmentsPassed {
 
 // 13. All segments in turn; the rest of the message after each is passed on.
 pub fn pass(m: &[u8], field: u8) -> SegmentsPassed
-    requires { length m.now ≤ mostBytes }
-    ensures value { result ≡ passFrom nothingSeen field m.now }
-    ensures within { (v : Seen) → result ≡ SegmentsPassed.Whole v → Within mostBytes v }
+    requires { length m.now ≤ most_bytes }
+    ensures value { result ≡ pass_from nothing_seen field m.now }
+    ensures within { (v : Seen) → result ≡ SegmentsPassed.Whole v → Within most_bytes v }
 {
     let mut seen = nothing_seen();
     let mut at = 0;
@@ -47,7 +47,7 @@ pub fn pass(m: &[u8], field: u8) -> SegmentsPassed
 }
 
 fn nothing_seen() -> Seen
-    ensures { result ≡ nothingSeen }
+    ensures { result ≡ nothing_seen }
 {
     Seen {
         segments: 0,
@@ -64,7 +64,7 @@ fn nothing_seen() -> Seen
 
 // 13, of one segment without its 0D.
 pub fn good(s: &[u8], field: u8) -> bool
-    ensures { result ≡ goodOf field s.now }
+    ensures { result ≡ good_of field s.now }
 {
     if 4096 < s.len() {
         return false;
@@ -83,8 +83,8 @@ pub fn good(s: &[u8], field: u8) -> bool
 
 // One segment more, of this name.
 fn counted(seen: Seen, name: Name) -> Seen
-    requires { Within mostBytes seen }
-    ensures { result ≡ countedOf seen name }
+    requires { Within most_bytes seen }
+    ensures { result ≡ counted_of seen name }
 {
     let segments = seen.segments + 1;
     let reached = seen.reached;
@@ -125,7 +125,7 @@ pub fn first_fault(fault: usize, fine: bool, at: usize) -> usize
 
 // The counts with this name.
 fn tally(c: Counts, name: Name) -> Counts
-    requires { (c.spm ≤ mostBytes) × (c.obr ≤ mostBytes) × (c.obx ≤ mostBytes) }
+    requires { (c.spm ≤ most_bytes) × (c.obr ≤ most_bytes) × (c.obx ≤ most_bytes) }
     ensures { result ≡ tallied c name }
 {
     Counts {

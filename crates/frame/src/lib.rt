@@ -1,6 +1,6 @@
 // The frame of a message: checks 10 to 15 in their order, its delimiters and its counts.
 ghost use Rattle.std.specs.Prelude.{◌≡◌};
-ghost use Rattle.frame.specs.Frame.{mostBytes, framedTold, frame_of, closing, Within, Sound};
+ghost use Rattle.frame.specs.Frame.{most_bytes, framed_told, frame_of, closing, Within, Sound};
 
 use crate::all_segments::{Seen, SegmentsPassed};
 use rules::{Counts, Delims, Kind, Refusal};
@@ -22,7 +22,7 @@ pub enum Framed {
 
 // Checks 10 to 15.
 pub fn frame(m: &[u8]) -> Framed
-    ensures result_value { framedTold result ≡ frame_of m.now }
+    ensures result_value { framed_told result ≡ frame_of m.now }
     ensures sound { (o : Opened) → result ≡ Framed.Open o → Sound m.now o.delims }
 {
     if 32768 < m.len() {
@@ -43,8 +43,8 @@ pub fn frame(m: &[u8]) -> Framed
 
 // 14 and 15, after the last segment.
 fn close(seen: Seen, d: Delims) -> Framed
-    requires { Within mostBytes seen }
-    ensures { framedTold result ≡ closing d seen }
+    requires { Within most_bytes seen }
+    ensures { framed_told result ≡ closing d seen }
 {
     if 512 < seen.segments {
         return refused(Kind::TooMany, 0);

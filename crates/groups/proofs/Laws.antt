@@ -9,33 +9,33 @@ use lib.Dec.{eqb}
 use lib.ListN.{length, take, drop}
 use Rattle.rules.specs.declared.Name.{Name}
 use Rattle.rules.specs.declared.Name.TheVariants.{Msh, Pid, Pv1, Spm, Obr, Obx}
-use Rattle.rules.specs.Lists.{bytes, empty, filled, nth, same, split, isOneOf, any, onto}
-use Rattle.rules.specs.Value.{Rule, fault, fits, holds, tooLong, words, text}
-use Rattle.rules.specs.Places.{Four, valueRules, entry_of, entryIn, places}
+use Rattle.rules.specs.Lists.{bytes, empty, filled, nth, same, split, is_one_of, any, onto}
+use Rattle.rules.specs.Value.{Rule, fault, fits, holds, too_long, words, text}
+use Rattle.rules.specs.Places.{Four, value_rules, entry_of, entry_in, places}
 use Rattle.rules.specs.Judge.{beside, unjoined, agrees}
-use Rattle.rules.specs.Row.{Line, line, lines, fourAt, kanaFits, joined}
+use Rattle.rules.specs.Row.{Line, line, lines, four_at, kana_fits, joined}
 use Rattle.rules.specs.Sheet.{key_of}
 use Rattle.rules.proofs.Logic.{and-true, and-false, cases, never}
 use Rattle.rules.proofs.Lists.{same-eq, empty-zero, filled-some}
-use Rattle.rules.proofs.Names.{inNames}
+use Rattle.rules.proofs.Names.{in_names}
 use Rattle.value.specs.declared.Words.TheVariants.{Modes, Sexes, Classes, Types, Flags, Statuses}
 use Rattle.value.specs.declared.Place.TheVariants.{Must, May}
 use Rattle.value.specs.declared.Rule.TheVariants.{Time, Date, Text, Digits, Capitals, OneOf}
 use Rattle.value.specs.declared.Parts.{Parts}
-use Rattle.value.specs.Rules.{ruleOf, rulesOf, text_of}
+use Rattle.value.specs.Rules.{rule_of, rules_of, text_of}
 use Rattle.lines.specs.declared.Verdict.{Verdict}
 use Rattle.lines.specs.declared.Verdict.TheVariants.{Fine}
-use Rattle.lines.specs.Lines.{and_then, lineAs, line_at}
-use Rattle.groups.specs.Groups.{valuesFrom, fourOf, parts_of, statusOf, VerdictOn}
+use Rattle.lines.specs.Lines.{and_then, line_as, line_at}
+use Rattle.groups.specs.Groups.{values_from, four_of, parts_of, status_of, VerdictOn}
 use Rattle.groups.proofs.Reading.{on_none, on-more}
 
 -- ---- "version is 1"
 version-one : (fits true (text 1) (49 ∷ []) && same (49 ∷ []) (49 ∷ [])) ≡ fits true (words "1") (49 ∷ [])
-unfolding fault empty tooLong holds isOneOf split bytes onto any same
+unfolding fault empty too_long holds is_one_of split bytes onto any same
 version-one = refl
 
 version-is : (v : List ℕ) → (fits true (text 1) v && same v (49 ∷ [])) ≡ fits true (words "1") v
-unfolding fault empty tooLong holds isOneOf split bytes onto any
+unfolding fault empty too_long holds is_one_of split bytes onto any
 version-is [] = refl
 version-is (b ∷ v) =
     cases (same (b ∷ v) (49 ∷ []))
@@ -49,21 +49,21 @@ blank s =
     (λ e. e ∙ sym (empty-zero s (eqb-true (length s) 0 e)))
     (λ e. e ∙ sym (filled-some s (λ z. never (sym (eq-eqb (length s) 0 z) ∙ e))))
 
-pub kana-fits : (a b : List ℕ) → (not (eqb (length a) 0) || eqb (length b) 0) ≡ kanaFits a b
+pub kana-fits : (a b : List ℕ) → (not (eqb (length a) 0) || eqb (length b) 0) ≡ kana_fits a b
 kana-fits a b = rw (blank a, blank b)
 
 -- the four parts of OBX-5, by which are filled
 module _ (c v j s : List ℕ) (q : Bool)
     (e : (k : Four (List ℕ)) → not (eqb (length c) 0) ≡ filled k.compare → not (eqb (length j) 0) ≡ filled k.join → not (eqb (length s) 0) ≡ filled k.second → q ≡ beside k) where
-  beside-is : q ≡ beside (fourOf c v j s)
-  beside-is = e (fourOf c v j s) (ap not (blank c)) (ap not (blank j)) (ap not (blank s))
+  beside-is : q ≡ beside (four_of c v j s)
+  beside-is = e (four_of c v j s) (ap not (blank c)) (ap not (blank j)) (ap not (blank s))
 
   pub joined_is : (u : Bool) → ((k : Four (List ℕ)) → not (eqb (length j) 0) ≡ filled k.join → not (eqb (length s) 0) ≡ filled k.second → u ≡ unjoined k)
-      → (not u && (not (eqb (length v) 0) || not q)) ≡ joined (fourOf c v j s)
-  joined_is u f = rw (beside-is, f (fourOf c v j s) (ap not (blank j)) (ap not (blank s)), blank v)
+      → (not u && (not (eqb (length v) 0) || not q)) ≡ joined (four_of c v j s)
+  joined_is u f = rw (beside-is, f (four_of c v j s) (ap not (blank j)) (ap not (blank s)), blank v)
 
-  pub agrees-is : (t : List ℕ) (r : Bool) → ((k : Four (List ℕ)) → not (eqb (length v) 0) ≡ filled k.value → q ≡ beside k → r ≡ agrees t k) → r ≡ agrees t (fourOf c v j s)
-  agrees-is t r h = h (fourOf c v j s) (ap not (blank v)) beside-is
+  pub agrees-is : (t : List ℕ) (r : Bool) → ((k : Four (List ℕ)) → not (eqb (length v) 0) ≡ filled k.value → q ≡ beside k → r ≡ agrees t k) → r ≡ agrees t (four_of c v j s)
+  agrees-is t r h = h (four_of c v j s) (ap not (blank v)) beside-is
 
 -- ---- the keys
 abbrev version= : List ℕ
@@ -147,7 +147,7 @@ status= = 115 ∷ 116 ∷ 97 ∷ 116 ∷ 117 ∷ 115 ∷ 61 ∷ []
 -- ---- the groups
 -- to unfold this name is to unfold the table of lines
 unfoldable pub table : Unit {0}
-unfolding valuesFrom lines line entry_of entryIn places key_of bytes ruleOf rulesOf text_of fourAt
+unfolding values_from lines line entry_of entry_in places key_of bytes rule_of rules_of text_of four_at
 table = tt
 
 -- a line more, where the code tells in its own way that the value holds; and where its rule is all that it must meet
@@ -156,12 +156,12 @@ module _ (ls : List Line) (l : Line) (ts : List (List ℕ)) (before r : Verdict)
   v = drop (length (key_of l)) (nth ts (length ls))
 
   abbrev right : Bool
-  right = l.holds (valuesFrom ls 0 ts ++ (v ∷ [])) v
+  right = l.holds (values_from ls 0 ts ++ (v ∷ [])) v
 
-  goes : good ≡ right → r ≡ and_then before (lineAs (length ls) key good (nth ts (length ls))) → VerdictOn (ls ++ (l ∷ [])) ts r
+  goes : good ≡ right → r ≡ and_then before (line_as (length ls) key good (nth ts (length ls))) → VerdictOn (ls ++ (l ∷ [])) ts r
   goes f h = on-more ls l ts before r p (h ∙ rw (e, f))
 
-  plain : good ≡ right → r ≡ and_then before (lineAs (length ls) key (good && true) (nth ts (length ls))) → VerdictOn (ls ++ (l ∷ [])) ts r
+  plain : good ≡ right → r ≡ and_then before (line_as (length ls) key (good && true) (nth ts (length ls))) → VerdictOn (ls ++ (l ∷ [])) ts r
   plain f h = on-more ls l ts before r p (h ∙ rw (e, and-true good, f))
 
 module _ (ts : List (List ℕ)) where
@@ -230,7 +230,7 @@ module _ (ts : List (List ℕ)) where
       plain _ _ ts v1 r type= _ p1 refl refl e2
 
   -- the four parts
-  pub parts_is : (kind : List ℕ) (also : Bool) (rules : Parts) → kind ≡ at 2 5 → also ≡ joined (parts_of ts) → rulesOf rules ≡ valueRules kind
+  pub parts_is : (kind : List ℕ) (also : Bool) (rules : Parts) → kind ≡ at 2 5 → also ≡ joined (parts_of ts) → rules_of rules ≡ value_rules kind
       → (v2 v3 v4 v5 r : Verdict) → VerdictOn (take 3 (lines Obx)) ts v2
       → v3 ≡ and_then v2 (line_at 3 compare= (May rules.compare) true ts)
       → v4 ≡ and_then v3 (line_at 4 value= (May rules.value) true ts)
@@ -238,25 +238,25 @@ module _ (ts : List (List ℕ)) where
       → r ≡ and_then v5 (line_at 6 second= (May rules.second) also ts) → VerdictOn (take 7 (lines Obx)) ts r
   unfolding table
   parts_is kind also rules ek ea er v2 v3 v4 v5 r p e3 e4 e5 e6 =
-      let own : rulesOf rules ≡ valueRules (at 2 5) = er ∙ ap valueRules ek in
+      let own : rules_of rules ≡ value_rules (at 2 5) = er ∙ ap value_rules ek in
       let p3 = goes _ _ ts v2 v3 compare= _ p refl (ap (λ (f : Four Rule). fits false f.compare (at 3 8) && true) own) e3 in
       let p4 = goes _ _ ts v3 v4 value= _ p3 refl (ap (λ (f : Four Rule). fits false f.value (at 4 6) && true) own) e4 in
       let p5 = goes _ _ ts v4 v5 join= _ p4 refl (ap (λ (f : Four Rule). fits false f.join (at 5 5) && true) own) e5 in
-      goes _ _ ts v5 r second= _ p5 refl (ap (λ (f : Four Rule). fits false f.second (at 6 7) && also) own ∙ ap (λ (b : Bool). fits false (valueRules (at 2 5)).second (at 6 7) && b) ea) e6
+      goes _ _ ts v5 r second= _ p5 refl (ap (λ (f : Four Rule). fits false f.second (at 6 7) && also) own ∙ ap (λ (b : Bool). fits false (value_rules (at 2 5)).second (at 6 7) && b) ea) e6
 
   module _ (c v j s : List ℕ) (ec : c ≡ at 3 8) (ev : v ≡ at 4 6) (ej : j ≡ at 5 5) (es : s ≡ at 6 7) where
-    four : fourOf c v j s ≡ parts_of ts
+    four : four_of c v j s ≡ parts_of ts
     unfolding table
     four = rw (ec, ev, ej, es)
 
-    pub parts-joined : (also : Bool) → also ≡ joined (fourOf c v j s) → also ≡ joined (parts_of ts)
+    pub parts-joined : (also : Bool) → also ≡ joined (four_of c v j s) → also ≡ joined (parts_of ts)
     parts-joined also e = e ∙ ap joined four
 
-    pub status-agrees : (t : List ℕ) (met : Bool) → t ≡ at 9 7 → met ≡ agrees t (fourOf c v j s) → met ≡ agrees (statusOf ts) (parts_of ts)
+    pub status-agrees : (t : List ℕ) (met : Bool) → t ≡ at 9 7 → met ≡ agrees t (four_of c v j s) → met ≡ agrees (status_of ts) (parts_of ts)
     unfolding table
     status-agrees t met e f = f ∙ ap (agrees t) four ∙ ap (λ (u : List ℕ). agrees u (parts_of ts)) e
 
-  pub standing-is : (met : Bool) → met ≡ agrees (statusOf ts) (parts_of ts) → (v6 v7 v8 r : Verdict) → VerdictOn (take 7 (lines Obx)) ts v6
+  pub standing-is : (met : Bool) → met ≡ agrees (status_of ts) (parts_of ts) → (v6 v7 v8 r : Verdict) → VerdictOn (take 7 (lines Obx)) ts v6
       → v7 ≡ and_then v6 (line_at 7 unit= (May (Text 20)) true ts)
       → v8 ≡ and_then v7 (line_at 8 flag= (May (OneOf Flags)) true ts)
       → r ≡ and_then v8 (line_at 9 status= (Must (OneOf Statuses)) met ts) → VerdictOn (lines Obx) ts r
@@ -264,7 +264,7 @@ module _ (ts : List (List ℕ)) where
   standing-is met e v6 v7 v8 r p e7 e8 e9 =
       let p7 = plain _ _ ts v6 v7 unit= _ p refl refl e7 in
       let p8 = plain _ _ ts v7 v8 flag= _ p7 refl refl e8 in
-      goes _ _ ts v8 r status= _ p8 refl (ap (λ (b : Bool). fits true (ruleOf (OneOf Statuses)) (at 9 7) && b) e) e9
+      goes _ _ ts v8 r status= _ p8 refl (ap (λ (b : Bool). fits true (rule_of (OneOf Statuses)) (at 9 7) && b) e) e9
 
 -- ---- a group by its name
 pub group-is : (n x : Name) (ts : List (List ℕ)) (r : Verdict) → n ≡ x → VerdictOn (lines x) ts r → VerdictOn (lines n) ts r
@@ -279,4 +279,4 @@ count-is n x r e h = h ∙ ap (λ (m : Name). length (lines m)) (sym e)
 -- no group has more than ten lines
 pub lines-few : (g : Name) → length (lines g) ≤ 10
 unfolding lines
-lines-few g = inNames (λ g. length (lines g) ≤ 10) (omega arith) (omega arith) (omega arith) (omega arith) (omega arith) (omega arith) (omega arith) (omega arith) g
+lines-few g = in_names (λ g. length (lines g) ≤ 10) (omega arith) (omega arith) (omega arith) (omega arith) (omega arith) (omega arith) (omega arith) (omega arith) g

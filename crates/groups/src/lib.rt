@@ -5,7 +5,7 @@ ghost use Rattle.rules.specs.Row as Row;
 ghost use Rattle.rules.specs.Row.{lines};
 ghost use Rattle.rules.specs.Sheet.{lines_of};
 ghost use Rattle.lines.specs.Lines.{Cut};
-ghost use Rattle.groups.specs.Groups.{fourOf, parts_of, statusOf, VerdictOn};
+ghost use Rattle.groups.specs.Groups.{four_of, parts_of, status_of, VerdictOn};
 
 use lines::{Verdict, keys};
 use rules::Name;
@@ -35,7 +35,7 @@ fn header(s: &[u8], at: &[usize; 11]) -> Verdict
 
 // "A blank kanafamily needs a blank kanagiven".
 fn kana_fits(family: &[u8], given: &[u8]) -> bool
-    ensures { result ≡ Row.kanaFits family.now given.now }
+    ensures { result ≡ Row.kana_fits family.now given.now }
 {
     (family.len() != 0) | (given.len() == 0)
 }
@@ -101,7 +101,7 @@ fn order(s: &[u8], at: &[usize; 11]) -> Verdict
 
 // "a missing joiner, and an SN whose value is blank beside a filled compare, join or second"
 fn joined(compare: &[u8], value: &[u8], join: &[u8], second: &[u8]) -> bool
-    ensures { result ≡ Row.joined (fourOf compare.now value.now join.now second.now) }
+    ensures { result ≡ Row.joined (four_of compare.now value.now join.now second.now) }
 {
     let beside = value::beside(compare.len() != 0, join.len() != 0, second.len() != 0);
     let unjoined = value::unjoined(join.len() != 0, second.len() != 0);
@@ -110,7 +110,7 @@ fn joined(compare: &[u8], value: &[u8], join: &[u8], second: &[u8]) -> bool
 
 // "Status F, P or C needs a value (for SN its first number); I or X needs OBX-5 empty in every component."
 fn agrees(status: &[u8], compare: &[u8], value: &[u8], join: &[u8], second: &[u8]) -> bool
-    ensures { result ≡ Judge.agrees status.now (fourOf compare.now value.now join.now second.now) }
+    ensures { result ≡ Judge.agrees status.now (four_of compare.now value.now join.now second.now) }
 {
     let beside = value::beside(compare.len() != 0, join.len() != 0, second.len() != 0);
     value::agrees(status, value.len() != 0, beside)
@@ -144,7 +144,7 @@ fn parts(before: Verdict, s: &[u8], at: &[usize; 11], also: bool) -> Verdict
 
 // Unit, flag and status, the last three.
 fn standing(before: Verdict, s: &[u8], at: &[usize; 11], met: bool) -> Verdict
-    requires { Cut 10 s.now at.now × VerdictOn (take 7 (lines Name.Obx)) (lines_of s.now) before × (met ≡ Judge.agrees (statusOf (lines_of s.now)) (parts_of (lines_of s.now))) }
+    requires { Cut 10 s.now at.now × VerdictOn (take 7 (lines Name.Obx)) (lines_of s.now) before × (met ≡ Judge.agrees (status_of (lines_of s.now)) (parts_of (lines_of s.now))) }
     ensures { VerdictOn (lines Name.Obx) (lines_of s.now) result }
 {
     let unit = lines::line(before, s, at, 7, &keys::UNIT, table::UNIT);

@@ -1,7 +1,7 @@
 // 11. "The first nine bytes are `MSH`, five different delimiters and the first of these again."
 ghost use Rattle.std.specs.Prelude.{◌≡◌, ◌≤◌, length};
 ghost use Rattle.rules.specs.Lists.{has, distinct};
-ghost use Rattle.rules.specs.Frame.{delimsOf, delimsOk, fiveOf, headerOk};
+ghost use Rattle.rules.specs.Frame.{delims_of, delims_ok, five_of, header_ok};
 
 use rules::Delims;
 
@@ -9,7 +9,7 @@ use rules::Delims;
 const DELIMITERS: [u8; 12] = *b"!#%&*;?@\\^|~";
 
 pub fn is_header(m: &[u8]) -> bool
-    ensures { result ≡ headerOk m.now }
+    ensures { result ≡ header_ok m.now }
 {
     if m.len() < 9 {
         return false;
@@ -21,7 +21,7 @@ pub fn is_header(m: &[u8]) -> bool
 // "In order they are field, component, repetition, escape, subcomponent."
 pub fn delims(m: &[u8]) -> Delims
     requires { 9 ≤ length m.now }
-    ensures { result ≡ delimsOf m.now }
+    ensures { result ≡ delims_of m.now }
 {
     Delims {
         field: m[3],
@@ -34,7 +34,7 @@ pub fn delims(m: &[u8]) -> Delims
 
 // "five different delimiters"
 fn delims_ok(d: Delims) -> bool
-    ensures { result ≡ delimsOk d }
+    ensures { result ≡ delims_ok d }
 {
     has_byte(&DELIMITERS, d.field)
         & has_byte(&DELIMITERS, d.component)
@@ -45,7 +45,7 @@ fn delims_ok(d: Delims) -> bool
 }
 
 fn different(d: Delims) -> bool
-    ensures { result ≡ distinct (fiveOf d) }
+    ensures { result ≡ distinct (five_of d) }
 {
     (d.component != d.field)
         & (d.repetition != d.field)

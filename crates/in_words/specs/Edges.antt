@@ -7,8 +7,8 @@ use Rattle.rules.specs.declared.Name.{Name}
 use Rattle.rules.specs.declared.Name.TheVariants.{Msh, Pid, Spm, Obr, Obx, Other}
 use Rattle.rules.specs.Lists.{bytes}
 use Rattle.rules.specs.All.{rules}
-use Rattle.words.specs.Words.{breachWords, words_of, breachIn, breachOf, readBreach, saying}
-use Rattle.in_words.specs.Line.{once, ofSegment, fieldText, spotText, placeText, refusalInWords}
+use Rattle.words.specs.Words.{breach_words, words_of, breach_in, breach_of, read_breach, saying}
+use Rattle.in_words.specs.Line.{once, of_segment, field_text, spot_text, place_text, refusal_in_words}
 
 -- a refusal's kind, segment (or line) and field; the segment's name; the spot's line and byte; and the line without its 0A
 pub data Edge : Type 0 where
@@ -16,7 +16,7 @@ pub data Edge : Type 0 where
 
 unfoldable pub Right : Edge → Type 0
 Right (edge k i f n l b s) =
-    refusalInWords (record { kind = k; segment = i; field = f }) n (record { line = l; byte = b }) ≡ bytes s ++ (0x0A ∷ [])
+    refusal_in_words (record { kind = k; segment = i; field = f }) n (record { line = l; byte = b }) ≡ bytes s ++ (0x0A ∷ [])
 
 unfoldable pub Every : List Edge → Type 0
 Every [] = Unit {0}
@@ -43,5 +43,5 @@ table =
     ∷ []
 
 pub edges : Every table
-unfolding rules breachWords words_of Right Every table breachIn breachOf readBreach saying once ofSegment fieldText spotText placeText refusalInWords
+unfolding rules breach_words words_of Right Every table breach_in breach_of read_breach saying once of_segment field_text spot_text place_text refusal_in_words
 edges = (refl, (refl, (refl, (refl, (refl, (refl, (refl, (refl, (refl, (refl, (refl, (refl, (refl, (refl, (refl, (refl, tt))))))))))))))))

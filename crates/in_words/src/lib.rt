@@ -4,7 +4,7 @@ ghost use Rattle.rules.specs.Frame.{spelling};
 ghost use Rattle.bytes.specs.Bytes.{until, is_byte};
 ghost use Rattle.writer.specs.Over.{Wrote, Put};
 ghost use Rattle.printed.specs.Printed.{Front};
-ghost use Rattle.in_words.specs.Line.{once, fieldText, spotText, placeText, refusalInWords, faultInWords};
+ghost use Rattle.in_words.specs.Line.{once, field_text, spot_text, place_text, refusal_in_words, fault_in_words};
 
 use csv_rules::FileFault;
 use rules::{Name, Refusal};
@@ -13,7 +13,7 @@ use words::Where;
 
 // A refusal in words, one line: `name` is that of the segment that it names (Other where it names none), `spot` the place in the text.
 pub fn of_refusal(out: &mut [u8; 192], refusal: Refusal, name: Name, spot: Spot) -> usize
-    ensures wrote { Wrote result out.new (refusalInWords refusal name spot) out.old }
+    ensures wrote { Wrote result out.new (refusal_in_words refusal name spot) out.old }
     ensures within { Front result out.new }
 {
     let kind = refusal.kind;
@@ -27,7 +27,7 @@ pub fn of_refusal(out: &mut [u8; 192], refusal: Refusal, name: Name, spot: Spot)
 
 // A file's fault in words, with the line where it is met.
 pub fn of_fault(out: &mut [u8; 192], fault: FileFault, line: usize) -> usize
-    ensures wrote { Wrote result out.new (faultInWords fault line) out.old }
+    ensures wrote { Wrote result out.new (fault_in_words fault line) out.old }
     ensures within { Front result out.new }
 {
     let k = printed::numbered(out, b"line ", line, b": ");
@@ -48,7 +48,7 @@ fn put_to_bar(out: &mut [u8], at: usize, text: &[u8]) -> usize
 
 fn place_said(out: &mut [u8], place: Where, refusal: Refusal, name: Name, spot: Spot) -> usize
     requires { 58 ≤ length out.old }
-    ensures wrote { Wrote result out.new (placeText place refusal name spot) out.old }
+    ensures wrote { Wrote result out.new (place_text place refusal name spot) out.old }
     ensures within { result ≤ 58 }
 {
     let segment = refusal.segment;
@@ -64,7 +64,7 @@ fn place_said(out: &mut [u8], place: Where, refusal: Refusal, name: Name, spot: 
 
 fn spot_said(out: &mut [u8], spot: Spot) -> usize
     requires { 58 ≤ length out.old }
-    ensures wrote { Wrote result out.new (spotText spot) out.old }
+    ensures wrote { Wrote result out.new (spot_text spot) out.old }
     ensures within { result ≤ 58 }
 {
     let line = spot.line;
@@ -76,7 +76,7 @@ fn spot_said(out: &mut [u8], spot: Spot) -> usize
 // A field by its segment's name, and by its segment too where a message may have several of the name.
 fn field_said(out: &mut [u8], name: Name, field: usize, segment: usize) -> usize
     requires { 58 ≤ length out.old }
-    ensures wrote { Wrote result out.new (fieldText name field segment) out.old }
+    ensures wrote { Wrote result out.new (field_text name field segment) out.old }
     ensures within { result ≤ 58 }
 {
     let own = spelled(name);

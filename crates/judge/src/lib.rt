@@ -2,9 +2,9 @@
 ghost use Rattle.std.specs.Prelude.{◌≡◌};
 ghost use Rattle.rules.specs.Shift.{met};
 ghost use Rattle.rules.specs.Escape.{unescape};
-ghost use Rattle.rules.specs.Judge.{faultOr23};
+ghost use Rattle.rules.specs.Judge.{fault_or23};
 ghost use Rattle.rules.specs.Judge as J;
-ghost use Rattle.value.specs.Rules.{ruleOf, faultNo};
+ghost use Rattle.value.specs.Rules.{rule_of, fault_no};
 ghost use Rattle.judge.specs.Judge.{Small, Clean};
 
 use rules::Delims;
@@ -14,7 +14,7 @@ use value::{Fault, Rule};
 // A component with escapes: 23, 20, 24, 25.
 fn judge_escaped(raw: &[u8], d: Delims, required: bool, rule: Rule) -> Fault
     requires { Small rule }
-    ensures { faultNo result ≡ faultOr23 required (ruleOf rule) (unescape d (met raw.now)) }
+    ensures { fault_no result ≡ fault_or23 required (rule_of rule) (unescape d (met raw.now)) }
 {
     let mut buf = [0u8; 256];
     match unescape::unescape_into(raw, d, &mut buf) {
@@ -32,7 +32,7 @@ fn judge_escaped(raw: &[u8], d: Delims, required: bool, rule: Rule) -> Fault
 // A read component.
 pub fn judge(raw: &[u8], d: Delims, required: bool, rule: Rule) -> Fault
     requires { Small rule }
-    ensures { faultNo result ≡ J.judge d required (ruleOf rule) (met raw.now) }
+    ensures { fault_no result ≡ J.judge d required (rule_of rule) (met raw.now) }
 {
     if bytes::equal(raw, b"\"\"") {
         return Fault::Null;
@@ -42,7 +42,7 @@ pub fn judge(raw: &[u8], d: Delims, required: bool, rule: Rule) -> Fault
 
 // One that has neither escape byte nor subcomponent separator is judged where it lies.
 pub fn judge_clean(raw: &[u8], required: bool, rule: Rule) -> Fault
-    ensures { (d : Delims) → Clean d raw.now → faultNo result ≡ J.judge d required (ruleOf rule) (met raw.now) }
+    ensures { (d : Delims) → Clean d raw.now → fault_no result ≡ J.judge d required (rule_of rule) (met raw.now) }
 {
     if bytes::equal(raw, b"\"\"") {
         return Fault::Null;

@@ -11,14 +11,14 @@ use lib.ListN.{length}
 use Rattle.rules.specs.declared.Delims.{Delims}
 use Rattle.rules.specs.Told.{◌then◌, ◌when◌}
 use Rattle.rules.specs.Lists.{bytes, empty, same, all, has, split}
-use Rattle.rules.specs.Value.{Rule, tooLong, holds, fault}
+use Rattle.rules.specs.Value.{Rule, too_long, holds, fault}
 use Rattle.rules.specs.Escape.{unescape}
-use Rattle.rules.specs.Places.{Place, Four, nameRule, valueRules}
-use Rattle.rules.specs.View.{componentOf, seenIn}
-use Rattle.rules.specs.Judge.{faultOr23, judge, judgeAll, kanji, kana, nameFault, markedFault, namesFault, isSN, rawFour, beside, unjoined, partsFault, valueFault}
+use Rattle.rules.specs.Places.{Place, Four, name_rule, value_rules}
+use Rattle.rules.specs.View.{component_of, seen_in}
+use Rattle.rules.specs.Judge.{fault_or23, judge, judge_all, kanji, kana, name_fault, marked_fault, names_fault, is_sn, raw_four, beside, unjoined, parts_fault, value_fault}
 use Rattle.rules.proofs.Logic.{cases, and_assoc}
 use Rattle.rules.proofs.Lists.{all_cons}
-use Rattle.kept.specs.Kept.{valueOk, componentOk, personNameOk, namesOk, obx5Ok}
+use Rattle.kept.specs.Kept.{value_ok, component_ok, person_name_ok, names_ok, obx5_ok}
 
 -- no fault
 abbrev pub clear : ℕ → Bool
@@ -43,63 +43,63 @@ pub clear-unless : (n : ℕ) (t : Bool) → clear (suc n when not t) ≡ t
 clear-unless n t = clear-when n (not t) ∙ not-not t
 
 -- ---- a value, a component
-value-clear : (q : Bool) (r : Rule) (v : List ℕ) → clear (fault q r v) ≡ valueOk q r v
-unfolding fault valueOk
+value-clear : (q : Bool) (r : Rule) (v : List ℕ) → clear (fault q r v) ≡ value_ok q r v
+unfolding fault value_ok
 value-clear q r v =
     cases (empty v)
     (λ e. rw e (clear-when 19 q))
-    (λ e. rw (e, clear-then (24 when tooLong r v) (25 when not (holds r v)), clear-when 23 (tooLong r v), clear-unless 24 (holds r v)))
+    (λ e. rw (e, clear-then (24 when too_long r v) (25 when not (holds r v)), clear-when 23 (too_long r v), clear-unless 24 (holds r v)))
 
-pub component-clear : (d : Delims) (q : Bool) (r : Rule) (raw : List ℕ) → clear (judge d q r raw) ≡ componentOk d q r raw
-unfolding judge componentOk
+pub component-clear : (d : Delims) (q : Bool) (r : Rule) (raw : List ℕ) → clear (judge d q r raw) ≡ component_ok d q r raw
+unfolding judge component_ok
 component-clear d q r raw =
-    clear-then (21 when same raw (bytes "\"\"")) (faultOr23 q r (unescape d raw))
+    clear-then (21 when same raw (bytes "\"\"")) (fault_or23 q r (unescape d raw))
     ∙ rw (clear-when 20 (same raw (bytes "\"\""))) (ap (λ (t : Bool). not (same raw (bytes "\"\"")) && t) (opened (unescape d raw)))
   where
-    opened : (o : Option (List ℕ)) → clear (faultOr23 q r o) ≡ elim o [ none ↦ false | some v ↦ valueOk q r v ]
-    opened none = unfold faultOr23 in refl
-    opened (some v) = unfold faultOr23 in value-clear q r v
+    opened : (o : Option (List ℕ)) → clear (fault_or23 q r o) ≡ elim o [ none ↦ false | some v ↦ value_ok q r v ]
+    opened none = unfold fault_or23 in refl
+    opened (some v) = unfold fault_or23 in value-clear q r v
 
 pub components-clear : (d : Delims) (r : List ℕ) (ps : List Place)
-    → clear (judgeAll d (map (seenIn d r) ps)) ≡ all (λ (p : Place). componentOk d p.required p.rule (componentOf d r p.component)) ps
-unfolding judgeAll seenIn all
+    → clear (judge_all d (map (seen_in d r) ps)) ≡ all (λ (p : Place). component_ok d p.required p.rule (component_of d r p.component)) ps
+unfolding judge_all seen_in all
 components-clear d r [] = refl
 components-clear d r (p ∷ ps) =
-    let t : Place → Bool = λ p. componentOk d p.required p.rule (componentOf d r p.component) in
-    clear-then (judge d p.required p.rule (componentOf d r p.component)) (judgeAll d (map (seenIn d r) ps))
-    ∙ rw (component-clear d p.required p.rule (componentOf d r p.component), components-clear d r ps) (sym (all_cons t p ps))
+    let t : Place → Bool = λ p. component_ok d p.required p.rule (component_of d r p.component) in
+    clear-then (judge d p.required p.rule (component_of d r p.component)) (judge_all d (map (seen_in d r) ps))
+    ∙ rw (component-clear d p.required p.rule (component_of d r p.component), components-clear d r ps) (sym (all_cons t p ps))
 
 -- ---- PID-5
-name-clear : (d : Delims) (r : List ℕ) → clear (nameFault d r) ≡ personNameOk d r
-unfolding nameFault personNameOk
+name-clear : (d : Delims) (r : List ℕ) → clear (name_fault d r) ≡ person_name_ok d r
+unfolding name_fault person_name_ok
 name-clear d r =
-    clear-then (judge d true nameRule (componentOf d r 1)) (judge d false nameRule (componentOf d r 2))
-    ∙ rw (component-clear d true nameRule (componentOf d r 1), component-clear d false nameRule (componentOf d r 2))
+    clear-then (judge d true name_rule (component_of d r 1)) (judge d false name_rule (component_of d r 2))
+    ∙ rw (component-clear d true name_rule (component_of d r 1), component-clear d false name_rule (component_of d r 2))
 
-kanji-clear : (d : Delims) (o : Option (List ℕ)) → clear (markedFault d 20 o) ≡ elim o [ none ↦ false | some r ↦ personNameOk d r ]
-unfolding markedFault
+kanji-clear : (d : Delims) (o : Option (List ℕ)) → clear (marked_fault d 20 o) ≡ elim o [ none ↦ false | some r ↦ person_name_ok d r ]
+unfolding marked_fault
 kanji-clear d none = refl
 kanji-clear d (some r) = name-clear d r
 
-kana-clear : (d : Delims) (o : Option (List ℕ)) → clear (markedFault d 0 o) ≡ elim o [ none ↦ true | some r ↦ personNameOk d r ]
-unfolding markedFault
+kana-clear : (d : Delims) (o : Option (List ℕ)) → clear (marked_fault d 0 o) ≡ elim o [ none ↦ true | some r ↦ person_name_ok d r ]
+unfolding marked_fault
 kana-clear d none = refl
 kana-clear d (some r) = name-clear d r
 
-pub names-clear : (d : Delims) (raw : List ℕ) → clear (namesFault d raw) ≡ namesOk d raw
-unfolding namesFault namesOk
+pub names-clear : (d : Delims) (raw : List ℕ) → clear (names_fault d raw) ≡ names_ok d raw
+unfolding names_fault names_ok
 names-clear d raw =
-    clear-then (markedFault d 20 (kanji d raw)) (markedFault d 0 (kana d raw)) ∙ rw (kanji-clear d (kanji d raw), kana-clear d (kana d raw))
+    clear-then (marked_fault d 20 (kanji d raw)) (marked_fault d 0 (kana d raw)) ∙ rw (kanji-clear d (kanji d raw), kana-clear d (kana d raw))
 
 -- ---- OBX-5
 at-most : (n k : ℕ) → not (ltb n k) ≡ leb k n
 at-most n k = cases (ltb n k) (λ e. rw (e, lt-leb k n (ltb-true n k e))) (λ e. rw (e, le-leb k n (ltb-false n k e)))
 
 parts-clear : (d : Delims) (r : Four Rule) (c : Four (List ℕ))
-    → clear (partsFault d r c)
-    ≡ (componentOk d false r.compare c.compare && (componentOk d (beside c) r.value c.value
-    && (componentOk d false r.join c.join && (componentOk d false r.second c.second && not (unjoined c)))))
-unfolding partsFault
+    → clear (parts_fault d r c)
+    ≡ (component_ok d false r.compare c.compare && (component_ok d (beside c) r.value c.value
+    && (component_ok d false r.join c.join && (component_ok d false r.second c.second && not (unjoined c)))))
+unfolding parts_fault
 parts-clear d r c =
     rw (
       clear-then (judge d false r.compare c.compare) _,
@@ -113,17 +113,17 @@ parts-clear d r c =
       clear-when 24 (unjoined c),
     )
 
-pub obx5-clear : (d : Delims) (type raw : List ℕ) → clear (valueFault d type raw) ≡ obx5Ok d type raw
-unfolding valueFault obx5Ok
+pub obx5-clear : (d : Delims) (type raw : List ℕ) → clear (value_fault d type raw) ≡ obx5_ok d type raw
+unfolding value_fault obx5_ok
 obx5-clear d type raw =
-    let c = rawFour d type raw in
-    let r = valueRules type in
+    let c = raw_four d type raw in
+    let r = value_rules type in
     rw (
       clear-then (22 when has d.repetition raw) _,
       clear-when 21 (has d.repetition raw),
-      clear-then (23 when ltb (cond (isSN type) 4 1) (length (split d.component raw))) _,
-      clear-when 22 (ltb (cond (isSN type) 4 1) (length (split d.component raw))),
-      at-most (cond (isSN type) 4 1) (length (split d.component raw)),
+      clear-then (23 when ltb (cond (is_sn type) 4 1) (length (split d.component raw))) _,
+      clear-when 22 (ltb (cond (is_sn type) 4 1) (length (split d.component raw))),
+      at-most (cond (is_sn type) 4 1) (length (split d.component raw)),
       parts-clear d r c,
     )
     (simp and_assoc)

@@ -3,22 +3,22 @@ use mathlib.Core.Path.{◌≡◌, refl, sym, ◌∙◌}
 use native.Mathlib.Omega.{arith}
 use Rattle.rules.specs.Told.{gives, accepted}
 use Rattle.rules.specs.Lists.{bytes}
-use Rattle.rules.specs.WholeCase.{wholeMessage, sexQ, theCase, whole-accepted, sexQ-refused}
+use Rattle.rules.specs.WholeCase.{whole_message, sex_q, the_case, whole-accepted, sex_q-refused}
 use Rattle.rules.proofs.Logic.{not-given}
 use Rattle.kept.specs.Kept.{Kept}
-use Rattle.kept.specs.Given.{countsGiven, partShown, Fetches}
+use Rattle.kept.specs.Given.{counts_given, part_shown, Fetches}
 use Rattle.kept.proofs.Given as Given
 
-pub whole-kept : Kept wholeMessage
-whole-kept = ((Given.accepted wholeMessage).0 _ whole-accepted).0
+pub whole-kept : Kept whole_message
+whole-kept = ((Given.accepted whole_message).0 _ whole-accepted).0
 
-pub whole-counts : gives (countsGiven wholeMessage) ≡ accepted 1 1 2
-whole-counts = sym ((Given.accepted wholeMessage).1 whole-kept) ∙ whole-accepted
+pub whole-counts : gives (counts_given whole_message) ≡ accepted 1 1 2
+whole-counts = sym ((Given.accepted whole_message).1 whole-kept) ∙ whole-accepted
 
-pub sexQ-not-kept : Kept sexQ → ⊥
-sexQ-not-kept K = not-given (sym sexQ-refused ∙ (Given.accepted sexQ).1 K)
+pub sex_q-not-kept : Kept sex_q → ⊥
+sex_q-not-kept K = not-given (sym sex_q-refused ∙ (Given.accepted sex_q).1 K)
 
 -- PID-3
-pub whole-patient : Fetches wholeMessage 2 3 1 (bytes "P7")
-unfolding theCase partShown
-whole-patient = Given.parts-given wholeMessage whole-kept 1 3 1 _ refl (omega arith) (omega arith)
+pub whole-patient : Fetches whole_message 2 3 1 (bytes "P7")
+unfolding the_case part_shown
+whole-patient = Given.parts-given whole_message whole-kept 1 3 1 _ refl (omega arith) (omega arith)

@@ -9,12 +9,12 @@ use Rattle.rules.specs.declared.Name.{Name}
 use Rattle.rules.specs.declared.Name.TheVariants.{Other}
 use Rattle.rules.specs.declared.Fetched.TheVariants.{At}
 use Rattle.rules.specs.Told.{gives, refused, ◌when◌}
-use Rattle.rules.specs.Lists.{split, allButLast}
+use Rattle.rules.specs.Lists.{split, all_but_last}
 use Rattle.rules.specs.Shift.{met}
-use Rattle.rules.specs.Frame.{segments, name_of, Known, knownFrom, known}
+use Rattle.rules.specs.Frame.{segments, name_of, Known, known_from, known}
 use Rattle.rules.specs.Frame as Frame
 use Rattle.rules.specs.Fetch.{ordinal}
-use Rattle.rules.proofs.Logic.{cases, zeroCases}
+use Rattle.rules.proofs.Logic.{cases, zero_cases}
 use Rattle.rules.proofs.Lists.{over, rest-is, rest-inside, rest_end}
 use Rattle.bytes.specs.Bytes.{until, is_byte}
 use Rattle.bytes.proofs.Laws.{split-last}
@@ -23,13 +23,13 @@ use Rattle.rules.specs.declared.KnownSegment.{KnownSegment}
 use Rattle.rules.specs.declared.Found.{Found}
 use Rattle.rules.specs.declared.Found.TheVariants as Found
 
-known-other : (at : ℕ) (s : List ℕ) (ss : List (List ℕ)) → Frame.is (name_of s) Other ≡ true → knownFrom at (s ∷ ss) ≡ knownFrom (at + suc (length s)) ss
-unfolding knownFrom
+known-other : (at : ℕ) (s : List ℕ) (ss : List (List ℕ)) → Frame.is (name_of s) Other ≡ true → known_from at (s ∷ ss) ≡ known_from (at + suc (length s)) ss
+unfolding known_from
 known-other at s ss e = rw e
 
 known-here : (at : ℕ) (s : List ℕ) (ss : List (List ℕ)) → Frame.is (name_of s) Other ≡ false
-    → knownFrom at (s ∷ ss) ≡ (record { name = name_of s; start = at; body = met s }) ∷ knownFrom (at + suc (length s)) ss
-unfolding knownFrom
+    → known_from at (s ∷ ss) ≡ (record { name = name_of s; start = at; body = met s }) ∷ known_from (at + suc (length s)) ss
+unfolding known_from
 known-here at s ss e = rw e
 
 ordinal-none : (n : ℕ) → ordinal {A = Known} [] (suc n) ≡ refused 30 0 0
@@ -46,7 +46,7 @@ ordinal-later k ks n = refl
 
 -- before the known segment of the ordinal o, `left` others are still to come from `at` on
 pub record Seeking (m : List ℕ) (o left at : ℕ) : Type 0 where
-  pub same : ordinal (known m) o ≡ ordinal (knownFrom at (segments (drop at m))) (suc left)
+  pub same : ordinal (known m) o ≡ ordinal (known_from at (segments (drop at m))) (suc left)
 
 pub segment-zero : (m : List ℕ) (o : ℕ) → o ≡ 0 → refused 30 0 0 ≡ ordinal (known m) o
 unfolding ordinal
@@ -54,18 +54,18 @@ segment-zero m o e = rw e
 
 pub segment-starts : (m : List ℕ) (o : ℕ) → (o ≡ 0 → ⊥) → Seeking m o (o - 1) 0
 unfolding known
-segment-starts m o h = zeroCases o (λ e. absurd (h e)) (λ k e. let z : o ≡ suc (o - 1) = omega arith in record { same = ap (ordinal (knownFrom 0 (segments m))) z })
+segment-starts m o h = zero_cases o (λ e. absurd (h e)) (λ k e. let z : o ≡ suc (o - 1) = omega arith in record { same = ap (ordinal (known_from 0 (segments m))) z })
 
 pub segment-over : (m : List ℕ) (o left at : ℕ) → Seeking m o left at → length m ≤ at → refused 30 0 0 ≡ ordinal (known m) o
-unfolding segments split allButLast knownFrom
-segment-over m o left at inv h = sym (inv.same ∙ ap (λ l. ordinal (knownFrom at (segments l)) (suc left)) (over m at h) ∙ ordinal-none left)
+unfolding segments split all_but_last known_from
+segment-over m o left at inv h = sym (inv.same ∙ ap (λ l. ordinal (known_from at (segments l)) (suc left)) (over m at h) ∙ ordinal-none left)
 
 module _ (m : List ℕ) (o left at n : ℕ) (inv : Seeking m o left at) (en : n ≡ length (until (is_byte 0x0D) (take (length m - at) (drop at m)))) where
   pub segment-open : n ≡ length (take (length m - at) (drop at m)) → refused 30 0 0 ≡ ordinal (known m) o
-  unfolding segments allButLast knownFrom
+  unfolding segments all_but_last known_from
   segment-open h =
       let z : split 0x0D (drop at m) ≡ drop at m ∷ [] = split-last 0x0D (drop at m) (sym (there m at n en) ∙ h ∙ ap length (rest-is m at)) in
-      sym (inv.same ∙ ap (λ ps. ordinal (knownFrom at (allButLast ps)) (suc left)) z ∙ ordinal-none left)
+      sym (inv.same ∙ ap (λ ps. ordinal (known_from at (all_but_last ps)) (suc left)) z ∙ ordinal-none left)
 
   module _ (k : n ≤ length (take (length m - at) (drop at m))) (ne : n ≡ length (take (length m - at) (drop at m)) → ⊥) where
     inside : n < length (drop at m)
@@ -87,7 +87,7 @@ module _ (m : List ℕ) (o left at n : ℕ) (inv : Seeking m o left at) (en : n 
           (λ e. let z : hit ≡ 1 = ehit ∙ rw e in absurd (omega arith))
           (λ e. let z : hit ≡ 0 = ehit ∙ rw e in let l : left ≡ 0 = omega arith in
           sym (inv.same ∙ rw (l, next, known-here at (take n (drop at m)) (segments (drop (at + (n + 1)) m)) (rw named e), named)
-          (ordinal-first (record { name = name; start = at; body = met (take n (drop at m)) }) (knownFrom (at + suc (length (take n (drop at m)))) (segments (drop (at + (n + 1)) m))))))
+          (ordinal-first (record { name = name; start = at; body = met (take n (drop at m)) }) (known_from (at + suc (length (take n (drop at m)))) (segments (drop (at + (n + 1)) m))))))
 
       pub segment-on : 1 - hit ≤ left → Seeking m o (left - (1 - hit)) (at + (n + 1))
       segment-on h =
@@ -96,8 +96,8 @@ module _ (m : List ℕ) (o left at n : ℕ) (inv : Seeking m o left at) (en : n 
           (λ e. let z : hit ≡ 1 = ehit ∙ rw e in let l : left - (1 - hit) ≡ left = omega arith in
           record { same = inv.same ∙ rw (l, next, known-other at (take n (drop at m)) rest (rw named e), long) })
           (λ e. let z : hit ≡ 0 = ehit ∙ rw e in
-          zeroCases left (λ q. absurd (omega arith)) (λ j q. let l : left - (1 - hit) ≡ j = omega arith in
-          record { same = inv.same ∙ rw (l, q, next, known-here at (take n (drop at m)) rest (rw named e), long) (ordinal-later (record { name = name_of (take n (drop at m)); start = at; body = met (take n (drop at m)) }) (knownFrom (at + (n + 1)) rest) j) }))
+          zero_cases left (λ q. absurd (omega arith)) (λ j q. let l : left - (1 - hit) ≡ j = omega arith in
+          record { same = inv.same ∙ rw (l, q, next, known-here at (take n (drop at m)) rest (rw named e), long) (ordinal-later (record { name = name_of (take n (drop at m)); start = at; body = met (take n (drop at m)) }) (known_from (at + (n + 1)) rest) j) }))
 
 -- the bounds
 pub found_in : (n : ℕ) (x : Found) (s : KnownSegment) → ((y : KnownSegment) → x ≡ Found.At y → y.start + y.len ≤ n) → x ≡ Found.At s → s.start + s.len ≤ n

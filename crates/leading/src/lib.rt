@@ -4,7 +4,7 @@ ghost use Rattle.rules.specs.declared.Name.TheVariants.{Msh, Pid, Pv1};
 ghost use Rattle.rules.specs.Shift.{met};
 ghost use Rattle.rules.specs.Proper.{Proper};
 ghost use Rattle.rules.specs.Check.{Context};
-ghost use Rattle.value.specs.Rules.{faultNo};
+ghost use Rattle.value.specs.Rules.{fault_no};
 ghost use Rattle.fields.specs.Segment.{FoundIn};
 
 use fields::Form::{Charset, Names, One, Three};
@@ -15,7 +15,7 @@ use value::table;
 // In MSH the first separator is itself field 1: it is where the walk begins.
 pub fn msh(s: &[u8], d: Delims) -> SegmentRead
     requires { Proper d }
-    ensures found_in { (x : Context) → FoundIn Msh d x (met s.now) result.field (faultNo result.fault) }
+    ensures found_in { (x : Context) → FoundIn Msh d x (met s.now) result.field (fault_no result.fault) }
     ensures none { result.at + result.len ≡ 0 }
 {
     let w = begin(1);
@@ -31,7 +31,7 @@ pub fn msh(s: &[u8], d: Delims) -> SegmentRead
 
 pub fn pid(s: &[u8], d: Delims) -> SegmentRead
     requires { Proper d }
-    ensures found_in { (x : Context) → FoundIn Pid d x (met s.now) result.field (faultNo result.fault) }
+    ensures found_in { (x : Context) → FoundIn Pid d x (met s.now) result.field (fault_no result.fault) }
     ensures none { result.at + result.len ≡ 0 }
 {
     let w = begin(0);
@@ -44,7 +44,7 @@ pub fn pid(s: &[u8], d: Delims) -> SegmentRead
 
 pub fn pv1(s: &[u8], d: Delims) -> SegmentRead
     requires { Proper d }
-    ensures found_in { (x : Context) → FoundIn Pv1 d x (met s.now) result.field (faultNo result.fault) }
+    ensures found_in { (x : Context) → FoundIn Pv1 d x (met s.now) result.field (fault_no result.fault) }
     ensures none { result.at + result.len ≡ 0 }
 {
     let w = begin(0);

@@ -8,34 +8,34 @@ use borrow.Author.Tests.{eq-eqb, ne_eqb, eqb-true}
 use lib.Dec.{eqb}
 use lib.ListN.{length, take, drop, get_or, set, length-set, length-take, length-drop}
 use lib.Seq.{drop-drop, get_or-drop, get_or-set_same, get_or-set_other}
-use Rattle.rules.specs.Lists.{bytes, empty, filled, nth, same, starts, split, allButLast, last, ended}
+use Rattle.rules.specs.Lists.{bytes, empty, filled, nth, same, starts, split, all_but_last, last, ended}
 use Rattle.rules.specs.Value.{fits}
 use Rattle.rules.specs.Sheet.{lines_of}
 use Rattle.rules.proofs.Logic.{cases, never, not-true, not-false}
 use Rattle.rules.proofs.Lists.{over, rest-is, rest-inside, take_own}
-use Rattle.rules.proofs.Split.{butLast-split, ended-split}
+use Rattle.rules.proofs.Split.{but_last-split, ended-split}
 use Rattle.bytes.specs.Bytes.{until, is_byte}
 use Rattle.scan.proofs.Laws.{until-rest}
 use Rattle.value.specs.declared.Fault.{Fault}
 use Rattle.value.specs.declared.Place.{Place}
 use Rattle.value.specs.declared.Place.TheVariants.{Unread, Must, May}
 use Rattle.value.specs.declared.Rule.{Rule as Coded}
-use Rattle.value.specs.Rules.{faultNo, fineOf, ruleOf}
+use Rattle.value.specs.Rules.{fault_no, fine_of, rule_of}
 use Rattle.bytes.proofs.Laws.{split-last, split-more}
 use Rattle.value.proofs.Laws.{fine-zero, fault-some}
 use Rattle.lines.specs.declared.Verdict.{Verdict}
 use Rattle.lines.specs.declared.Verdict.TheVariants.{Fine, Key, Value}
-use Rattle.lines.specs.Lines.{behindLine, Cut, fitsPlace, and_then, isFine, lineAs, line_at}
+use Rattle.lines.specs.Lines.{behind_line, Cut, fits_place, and_then, is_fine, line_as, line_at}
 
 -- ---- lines by their 0A
 none : (s : List ℕ) → length (until (is_byte 0x0A) s) ≡ length s → lines_of s ≡ []
-unfolding lines_of allButLast
+unfolding lines_of all_but_last
 none s h = rw (split-last 0x0A s h)
 
 some : (s : List ℕ) → length (until (is_byte 0x0A) s) < length s
     → lines_of s ≡ take (length (until (is_byte 0x0A) s)) s ∷ lines_of (drop (suc (length (until (is_byte 0x0A) s))) s)
 unfolding lines_of
-some s h = rw (split-more 0x0A s h) (butLast-split 0x0A (take (length (until (is_byte 0x0A) s)) s) (drop (suc (length (until (is_byte 0x0A) s))) s))
+some s h = rw (split-more 0x0A s h) (but_last-split 0x0A (take (length (until (is_byte 0x0A) s)) s) (drop (suc (length (until (is_byte 0x0A) s))) s))
 
 -- the first line stands at the front
 line-front : (t l : List ℕ) (ls : List (List ℕ)) → lines_of t ≡ l ∷ ls → take (length l) t ≡ l
@@ -72,12 +72,12 @@ module _ (s : List ℕ) (at n : ℕ) (e : n ≡ length (until (is_byte 0x0A) (ta
   pub past-within : at ≤ length s → (n ≡ length (take (length s - at) (drop at s)) → ⊥) → at + n + 1 ≤ length s
   past-within g h = omega (arith, size, length-drop at s)
 
-  pub behind-none : n ≡ length (take (length s - at) (drop at s)) → at ≡ behindLine (lines_of (drop at s)) at
-  unfolding behindLine
+  pub behind-none : n ≡ length (take (length s - at) (drop at s)) → at ≡ behind_line (lines_of (drop at s)) at
+  unfolding behind_line
   behind-none h = rw (found_none h)
 
-  pub behind-some : (n ≡ length (take (length s - at) (drop at s)) → ⊥) → at + n + 1 ≡ behindLine (lines_of (drop at s)) at
-  unfolding behindLine
+  pub behind-some : (n ≡ length (take (length s - at) (drop at s)) → ⊥) → at + n + 1 ≡ behind_line (lines_of (drop at s)) at
+  unfolding behind_line
   behind-some h = rw (found_some h) (let z : length (take n (drop at s)) ≡ n = simp (length-take) (omega (arith, size)) in omega (arith, z))
 
 -- ---- the places of a group's lines
@@ -104,7 +104,7 @@ up_to P m k w p q = cases (eqb k m) (λ b. subst P (sym (eqb-true k m b)) q) (λ
 
 -- one more: the place r behind the line at the last
 module _ (s at : List ℕ) (i r : ℕ) (c : Cut i s at) (h : i < 10)
-    (e : r ≡ behindLine (lines_of (drop (get_or at i 0) s)) (get_or at i 0))
+    (e : r ≡ behind_line (lines_of (drop (get_or at i 0) s)) (get_or at i 0))
     (f : lines_of (drop r s) ≡ drop 1 (lines_of (drop (get_or at i 0) s)))
     (g : r ≤ length s) where
   abbrev more : List ℕ
@@ -128,9 +128,9 @@ module _ (s at : List ℕ) (i r : ℕ) (c : Cut i s at) (h : i < 10)
       (λ v. rw (old k (omega arith)) (c.from k (omega arith)))
       (rw new (f ∙ ap (drop 1) (c.from i (omega arith)) ∙ drop-drop 1 i (lines_of s)))
 
-  more-next : (k : ℕ) → k < i + 1 → get_or more (k + 1) 0 ≡ behindLine (drop k (lines_of s)) (get_or more k 0)
+  more-next : (k : ℕ) → k < i + 1 → get_or more (k + 1) 0 ≡ behind_line (drop k (lines_of s)) (get_or more k 0)
   more-next k w =
-      up_to (λ (m : ℕ). get_or more (m + 1) 0 ≡ behindLine (drop m (lines_of s)) (get_or more m 0)) i k w
+      up_to (λ (m : ℕ). get_or more (m + 1) 0 ≡ behind_line (drop m (lines_of s)) (get_or more m 0)) i k w
       (λ v. rw (old k (omega arith), old (k + 1) (omega arith)) (c.next k v))
       (rw (new, old i (omega arith), ← c.from i (omega arith)) e)
 
@@ -145,13 +145,13 @@ pub cut-ends : (s at : List ℕ) (i : ℕ) → Cut i s at → i ≤ 10 → 10 �
 cut-ends s at i c h g = let z : i ≡ 10 = omega arith in subst (λ (m : ℕ). Cut m s at) z c
 
 -- the place behind a first line is not the start
-behind-zero : (ls : List (List ℕ)) (p : ℕ) → p ≡ behindLine ls 0 → not (eqb p 0) ≡ filled ls
-unfolding behindLine empty
+behind-zero : (ls : List (List ℕ)) (p : ℕ) → p ≡ behind_line ls 0 → not (eqb p 0) ≡ filled ls
+unfolding behind_line empty
 behind-zero [] p e = rw (eq-eqb p 0 e)
 behind-zero (l ∷ ls) p e = rw (ne_eqb p 0 (λ z. omega arith))
 
 pub places-line : (at s : List ℕ) → Cut 10 s at → not (eqb (get_or at 1 0) 0) ≡ filled (lines_of s)
-places-line at s c = behind-zero (lines_of s) (get_or at 1 0) (c.next 0 (omega arith) ∙ ap (behindLine (lines_of s)) c.start)
+places-line at s c = behind-zero (lines_of s) (get_or at 1 0) (c.next 0 (omega arith) ∙ ap (behind_line (lines_of s)) c.start)
 
 -- the k-th line, between its place and its 0A
 module _ (s at : List ℕ) (k : ℕ) (c : Cut 10 s at) (h : k < 10) where
@@ -165,19 +165,19 @@ module _ (s at : List ℕ) (k : ℕ) (c : Cut 10 s at) (h : k < 10) where
   line-room = omega (arith, c.within (k + 1) (omega arith))
 
   pub line-missing : get_or at (k + 1) 0 ≡ get_or at k 0 → take (get_or at k 0 - get_or at k 0) (drop (get_or at k 0) s) ≡ nth (lines_of s) k
-  unfolding behindLine
+  unfolding behind_line
   line-missing e = ap (λ (n : ℕ). take n (drop (get_or at k 0) s)) z ∙ gone (drop k (lines_of s)) (c.next k h) ∙ nth-first
     where
       z : get_or at k 0 - get_or at k 0 ≡ 0
       z = omega arith
 
-      gone : (ls : List (List ℕ)) → get_or at (k + 1) 0 ≡ behindLine ls (get_or at k 0) → [] ≡ nth ls 0
+      gone : (ls : List (List ℕ)) → get_or at (k + 1) 0 ≡ behind_line ls (get_or at k 0) → [] ≡ nth ls 0
       gone [] q = refl
       gone (l ∷ ls) q = absurd (omega (arith, e, q))
 
   module _ (e : get_or at (k + 1) 0 ≡ get_or at k 0 → ⊥) where
-    between : (ls : List (List ℕ)) → lines_of (drop (get_or at k 0) s) ≡ ls → get_or at (k + 1) 0 ≡ behindLine ls (get_or at k 0) → (get_or at k 0 < get_or at (k + 1) 0) × (take (get_or at (k + 1) 0 - 1 - get_or at k 0) (drop (get_or at k 0) s) ≡ nth ls 0)
-    unfolding behindLine
+    between : (ls : List (List ℕ)) → lines_of (drop (get_or at k 0) s) ≡ ls → get_or at (k + 1) 0 ≡ behind_line ls (get_or at k 0) → (get_or at k 0 < get_or at (k + 1) 0) × (take (get_or at (k + 1) 0 - 1 - get_or at k 0) (drop (get_or at k 0) s) ≡ nth ls 0)
+    unfolding behind_line
     between [] f q = absurd (e q)
     between (l ∷ ls) f q = (omega (arith, q), (let z : get_or at (k + 1) 0 - 1 - get_or at k 0 ≡ length l = omega (arith, q) in rw z (line-front (drop (get_or at k 0) s) l ls f)))
 
@@ -214,7 +214,7 @@ starts-within (a ∷ key) [] h = never (sym h)
 starts-within (a ∷ key) (b ∷ t) h = cases (eqb b a) (λ e. omega (arith, starts-within key t (rw (e, starts) at h))) (λ e. never (sym (rw (e, starts) at h)))
 
 -- ---- verdicts
-pub fine-is : (v x : Verdict) (r : Bool) → v ≡ x → r ≡ isFine x → r ≡ isFine v
+pub fine-is : (v x : Verdict) (r : Bool) → v ≡ x → r ≡ is_fine x → r ≡ is_fine v
 fine-is v x r e h = cc
 
 pub first-is : (a b x r : Verdict) → a ≡ x → r ≡ and_then x b → r ≡ and_then a b
@@ -225,44 +225,44 @@ module _ (before : Verdict) (k : ℕ) (key : List ℕ) (good : Bool) (t : List �
   pub key-room : not q ≡ false → length key ≤ length t
   key-room h = starts-within key t (sym f ∙ not-false q h)
 
-  pub line-key : not q ≡ true → r ≡ and_then before (Key k) → r ≡ and_then before (lineAs k key good t)
-  unfolding lineAs
+  pub line-key : not q ≡ true → r ≡ and_then before (Key k) → r ≡ and_then before (line_as k key good t)
+  unfolding line_as
   line-key h g = g ∙ rw (← f, not-true q h)
 
   module _ (u : Bool) (n : u ≡ same (take (length t - length key) (drop (length key) t)) (34 ∷ 34 ∷ [])) (h : not q ≡ false) where
     null : same (drop (length key) t) (34 ∷ 34 ∷ []) ≡ u
     null = sym (n ∙ ap (λ (v : List ℕ). same v (34 ∷ 34 ∷ [])) (rest-is t (length key)))
 
-    pub line-null : u ≡ true → r ≡ and_then before (Value k) → r ≡ and_then before (lineAs k key good t)
-    unfolding lineAs bytes
+    pub line-null : u ≡ true → r ≡ and_then before (Value k) → r ≡ and_then before (line_as k key good t)
+    unfolding line_as bytes
     line-null j g = g ∙ rw (← f, not-false q h, null, j)
 
-    pub line-bad : u ≡ false → not good ≡ true → r ≡ and_then before (Value k) → r ≡ and_then before (lineAs k key good t)
-    unfolding lineAs bytes
+    pub line-bad : u ≡ false → not good ≡ true → r ≡ and_then before (Value k) → r ≡ and_then before (line_as k key good t)
+    unfolding line_as bytes
     line-bad j b g = g ∙ rw (← f, not-false q h, null, j, not-true good b)
 
-    pub line-good : u ≡ false → not good ≡ false → r ≡ and_then before Fine → r ≡ and_then before (lineAs k key good t)
-    unfolding lineAs bytes
+    pub line-good : u ≡ false → not good ≡ false → r ≡ and_then before Fine → r ≡ and_then before (line_as k key good t)
+    unfolding line_as bytes
     line-good j b g = g ∙ rw (← f, not-false q h, null, j, not-false good b)
 
-pub keeps-is : (f : Fault) (x : ℕ) (r : Bool) → r ≡ fineOf f → faultNo f ≡ x → r ≡ eqb x 0
+pub keeps-is : (f : Fault) (x : ℕ) (r : Bool) → r ≡ fine_of f → fault_no f ≡ x → r ≡ eqb x 0
 keeps-is f x r e h =
-    cases (fineOf f)
+    cases (fine_of f)
     (λ y. e ∙ y ∙ sym (eq-eqb x 0 (sym h ∙ fine-zero f y)))
     (λ y. e ∙ y ∙ sym (ne_eqb x 0 (λ z. absurd (omega (arith, h, z, fault-some f y)))))
 
 module _ (place : Place) (v : List ℕ) where
-  pub fits-unread : place ≡ Unread → true ≡ fitsPlace place v
+  pub fits-unread : place ≡ Unread → true ≡ fits_place place v
   fits-unread e = rw e
 
-  pub fits-must : (r : Coded) (q : Bool) → place ≡ Must r → q ≡ fits true (ruleOf r) v → q ≡ fitsPlace place v
+  pub fits-must : (r : Coded) (q : Bool) → place ≡ Must r → q ≡ fits true (rule_of r) v → q ≡ fits_place place v
   fits-must r q e h = rw e h
 
-  pub fits-may : (r : Coded) (q : Bool) → place ≡ May r → q ≡ fits false (ruleOf r) v → q ≡ fitsPlace place v
+  pub fits-may : (r : Coded) (q : Bool) → place ≡ May r → q ≡ fits false (rule_of r) v → q ≡ fits_place place v
   fits-may r q e h = rw e h
 
-pub line-if-is : (before r : Verdict) (k : ℕ) (key : List ℕ) (ts : List (List ℕ)) (t v : List ℕ) (good also : Bool) (place : Place) → t ≡ nth ts k → v ≡ drop (length key) t → good ≡ fitsPlace place v
-    → r ≡ and_then before (lineAs k key (good && also) t) → r ≡ and_then before (line_at k key place also ts)
+pub line-if-is : (before r : Verdict) (k : ℕ) (key : List ℕ) (ts : List (List ℕ)) (t v : List ℕ) (good also : Bool) (place : Place) → t ≡ nth ts k → v ≡ drop (length key) t → good ≡ fits_place place v
+    → r ≡ and_then before (line_as k key (good && also) t) → r ≡ and_then before (line_at k key place also ts)
 line-if-is before r k key ts t v good also place d e f g = rw (← d, ← e, ← f) g
 
 -- what stands behind a key, and where the line ends within it

@@ -5,18 +5,18 @@ use Rattle.rules.specs.Value.{fits}
 use Rattle.rules.specs.Sheet.{lines_of}
 use Rattle.value.specs.declared.Place.{Place}
 use Rattle.value.specs.declared.Place.TheVariants.{Unread, Must, May}
-use Rattle.value.specs.Rules.{ruleOf}
+use Rattle.value.specs.Rules.{rule_of}
 use Rattle.lines.specs.declared.Verdict.{Verdict}
 use Rattle.lines.specs.declared.Verdict.TheVariants.{Fine, Key, Value}
 
 -- 40: "sheet over 65,536 bytes"
-abbrev pub longestSheet : ℕ
-longestSheet = 65536
+abbrev pub longest_sheet : ℕ
+longest_sheet = 65536
 
 -- the place behind the first of the lines ls, where it starts at p; p itself where there is none
-unfoldable pub behindLine : List (List ℕ) → ℕ → ℕ
-behindLine [] p = p
-behindLine (l ∷ ls) p = p + length l + 1
+unfoldable pub behind_line : List (List ℕ) → ℕ → ℕ
+behind_line [] p = p
+behind_line (l ∷ ls) p = p + length l + 1
 
 -- at holds the places of the first n lines of s and the place behind each; eleven places, for no group has more than ten lines
 pub record Cut (n : ℕ) (s at : List ℕ) : Type 0 where
@@ -24,7 +24,7 @@ pub record Cut (n : ℕ) (s at : List ℕ) : Type 0 where
   pub start : get_or at 0 0 ≡ 0
   pub within : (k : ℕ) → k ≤ n → get_or at k 0 ≤ length s
   pub from : (k : ℕ) → k ≤ n → lines_of (drop (get_or at k 0) s) ≡ drop k (lines_of s)
-  pub next : (k : ℕ) → k < n → get_or at (k + 1) 0 ≡ behindLine (drop k (lines_of s)) (get_or at k 0)
+  pub next : (k : ℕ) → k < n → get_or at (k + 1) 0 ≡ behind_line (drop k (lines_of s)) (get_or at k 0)
 
 -- q says of any text whose lines have these places whether it has a line
 abbrev pub HasLine : Bool → List ℕ → Type 0
@@ -36,21 +36,21 @@ and_then Fine w = w
 and_then (Key k) w = Key k
 and_then (Value k) w = Value k
 
-unfoldable pub isFine : Verdict → Bool
-isFine Fine = true
-isFine (Key k) = false
-isFine (Value k) = false
+unfoldable pub is_fine : Verdict → Bool
+is_fine Fine = true
+is_fine (Key k) = false
+is_fine (Value k) = false
 
 -- the rule of a place
-abbrev pub fitsPlace : Place → List ℕ → Bool
-fitsPlace Unread v = true
-fitsPlace (Must r) v = fits true (ruleOf r) v
-fitsPlace (May r) v = fits false (ruleOf r) v
+abbrev pub fits_place : Place → List ℕ → Bool
+fits_place Unread v = true
+fits_place (Must r) v = fits true (rule_of r) v
+fits_place (May r) v = fits false (rule_of r) v
 
 -- the line t, the k-th of its group: "42 before 43"; good says that its value holds
-unfoldable pub lineAs : ℕ → List ℕ → Bool → List ℕ → Verdict
-lineAs k key good t = cond (starts key t) (cond (not (same (drop (length key) t) (bytes "\"\"")) && good) Fine (Value k)) (Key k)
+unfoldable pub line_as : ℕ → List ℕ → Bool → List ℕ → Verdict
+line_as k key good t = cond (starts key t) (cond (not (same (drop (length key) t) (bytes "\"\"")) && good) Fine (Value k)) (Key k)
 
 -- the k-th of the lines ts, whose value keeps the rule of a place, where `also` must hold too
 abbrev pub line_at : ℕ → List ℕ → Place → Bool → List (List ℕ) → Verdict
-line_at k key place also ts = lineAs k key (fitsPlace place (drop (length key) (nth ts k)) && also) (nth ts k)
+line_at k key place also ts = line_as k key (fits_place place (drop (length key) (nth ts k)) && also) (nth ts k)

@@ -4,8 +4,8 @@ ghost use Rattle.rules.specs.Lists.{nth};
 ghost use Rattle.rules.specs.Lists as Lists;
 ghost use Rattle.rules.specs.Value.{fits};
 ghost use Rattle.rules.specs.Sheet.{lines_of};
-ghost use Rattle.value.specs.Rules.{ruleOf};
-ghost use Rattle.lines.specs.Lines.{fitsPlace, and_then, isFine, lineAs, line_at, behindLine, Cut, HasLine};
+ghost use Rattle.value.specs.Rules.{rule_of};
+ghost use Rattle.lines.specs.Lines.{fits_place, and_then, is_fine, line_as, line_at, behind_line, Cut, HasLine};
 
 use value::{Place, Rule};
 
@@ -20,7 +20,7 @@ pub enum Verdict {
 }
 
 pub fn fine(v: Verdict) -> bool
-    ensures { result ≡ isFine v }
+    ensures { result ≡ is_fine v }
 {
     match v {
         Verdict::Fine => true,
@@ -44,7 +44,7 @@ fn first(a: Verdict, b: Verdict) -> Verdict
 // The place behind the line at a place, or that place where no 0A ends one.
 fn next_line(s: &[u8], at: usize) -> usize
     requires { at ≤ length s.now }
-    ensures value { result ≡ behindLine (lines_of (drop at s.now)) at }
+    ensures value { result ≡ behind_line (lines_of (drop at s.now)) at }
     ensures rest { lines_of (drop result s.now) ≡ drop 1 (lines_of (drop at s.now)) }
     ensures within { result ≤ length s.now }
 {
@@ -122,7 +122,7 @@ pub fn starts(key: &[u8], t: &[u8]) -> bool
 
 // The line t, the k-th of its group, where good says that its value keeps its rule.
 fn judged(before: Verdict, k: usize, t: &[u8], key: &[u8], good: bool) -> Verdict
-    ensures { result ≡ and_then before (lineAs k key.now good t.now) }
+    ensures { result ≡ and_then before (line_as k key.now good t.now) }
 {
     if !starts(key, t) {
         return first(before, Verdict::Key(k));
@@ -139,14 +139,14 @@ fn judged(before: Verdict, k: usize, t: &[u8], key: &[u8], good: bool) -> Verdic
 
 // A value rule holds.
 fn keeps(v: &[u8], required: bool, rule: Rule) -> bool
-    ensures { result ≡ fits required (ruleOf rule) v.now }
+    ensures { result ≡ fits required (rule_of rule) v.now }
 {
     value::fine(value::fault_of(required, rule, v))
 }
 
 // The rule of a place holds.
 fn keeps_place(v: &[u8], place: Place) -> bool
-    ensures { result ≡ fitsPlace place v.now }
+    ensures { result ≡ fits_place place v.now }
 {
     match place {
         Place::Unread => true,

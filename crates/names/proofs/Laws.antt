@@ -11,7 +11,7 @@ use Rattle.rules.specs.declared.Name.{Name}
 use Rattle.rules.specs.declared.Name.TheVariants.{Other}
 use Rattle.rules.specs.Told.{◌when◌}
 use Rattle.rules.specs.Lists.{bytes, starts, all}
-use Rattle.rules.specs.Frame.{knownNames, spelling, nameAmong, name_of, rank, is}
+use Rattle.rules.specs.Frame.{known_names, spelling, name_among, name_of, rank, is}
 use Rattle.rules.proofs.Logic.{cases, and-true, and_assoc}
 use Rattle.rules.proofs.Lists.{starts-short, here, over, all_first}
 
@@ -38,20 +38,20 @@ named-is s k h e =
 
 -- ---- the name of a segment
 module _ (n : Name) (ns : List Name) (s : List ℕ) (t : Bool) (et : t ≡ starts (spelling n) s) where
-  pub among-yes : t ≡ true → n ≡ nameAmong (n ∷ ns) s
-  unfolding nameAmong
+  pub among-yes : t ≡ true → n ≡ name_among (n ∷ ns) s
+  unfolding name_among
   among-yes h = cc
 
-  pub among-no : (x : Name) → t ≡ false → x ≡ nameAmong ns s → x ≡ nameAmong (n ∷ ns) s
-  unfolding nameAmong
+  pub among-no : (x : Name) → t ≡ false → x ≡ name_among ns s → x ≡ name_among (n ∷ ns) s
+  unfolding name_among
   among-no x h e = cc
 
-pub among_none : (s : List ℕ) → Other ≡ nameAmong [] s
-unfolding nameAmong
+pub among_none : (s : List ℕ) → Other ≡ name_among [] s
+unfolding name_among
 among_none s = refl
 
-among-short : (ns : List Name) (s : List ℕ) → length s < 3 → all (λ n. eqb (length (spelling n)) 3) ns ≡ true → Other ≡ nameAmong ns s
-unfolding nameAmong
+among-short : (ns : List Name) (s : List ℕ) → length s < 3 → all (λ n. eqb (length (spelling n)) 3) ns ≡ true → Other ≡ name_among ns s
+unfolding name_among
 among-short [] s h a = refl
 among-short (n ∷ ns) s h a =
     let q = all_first (λ n. eqb (length (spelling n)) 3) n ns a in
@@ -59,8 +59,8 @@ among-short (n ∷ ns) s h a =
     cc (starts-short (spelling n) s (omega arith), among-short ns s h q.1)
 
 pub name-short : (s : List ℕ) → length s < 3 → Other ≡ name_of s
-unfolding name_of knownNames all spelling bytes
-name-short s h = among-short knownNames s h refl
+unfolding name_of known_names all spelling bytes
+name-short s h = among-short known_names s h refl
 
 -- ---- two names
 pub is-by : (a b : Name) (i j : ℕ) → i ≡ rank a → j ≡ rank b → eqb i j ≡ is a b

@@ -13,7 +13,7 @@ use Rattle.rules.specs.Frame.{digit}
 use Rattle.rules.specs.Value as Val
 use Rattle.rules.proofs.Logic.{and-false, or_assoc, and-true, or-false}
 use Rattle.rules.proofs.Lists.{here, over, rest-is, all_cons, any-cons}
-use Rattle.number.specs.Number.{readByte, noneRead}
+use Rattle.number.specs.Number.{read_byte, none_read}
 use Rattle.number.specs.declared.Spelling.{Spelling}
 
 -- ---- general
@@ -29,22 +29,22 @@ pub ruleset fold-laws = (fold-goes, fold-ends)
 
 -- ---- NM
 pub read_is : (t : Spelling) (b : ℕ) (d : Bool) → d ≡ digit b
-    → record { good = t.good && (d || eqb b 46) && not (eqb b 46 && t.point); point = t.point || eqb b 46; digit = t.digit || d } ≡ readByte t b
-unfolding readByte
+    → record { good = t.good && (d || eqb b 46) && not (eqb b 46 && t.point); point = t.point || eqb b 46; digit = t.digit || d } ≡ read_byte t b
+unfolding read_byte
 read_is t b d e = rw e
 
-abbrev oneIf : Bool → ℕ
-oneIf t = cond t 1 0
+abbrev one_if : Bool → ℕ
+one_if t = cond t 1 0
 
 abbrev numeral : ℕ → Bool
 numeral b = digit b || Val.point b
 
 -- "at most one point": whether one was met, whether the next byte is one, and how many are left
-points-few : (a : Bool) → leb (oneIf a + 0) 1 ≡ true
+points-few : (a : Bool) → leb (one_if a + 0) 1 ≡ true
 points-few true = refl
 points-few false = refl
 
-points_on : (a b : Bool) (n : ℕ) → leb (oneIf a + (oneIf b + n)) 1 ≡ (not (b && a) && leb (oneIf (a || b) + n) 1)
+points_on : (a b : Bool) (n : ℕ) → leb (one_if a + (one_if b + n)) 1 ≡ (not (b && a) && leb (one_if (a || b) + n) 1)
 points_on true true n = lt-leb (1 + (1 + n)) 1 (omega arith)
 points_on true false n = simp zero-add
 points_on false true n = simp zero-add
@@ -58,28 +58,28 @@ regroup true true false a l = and-false a
 
 -- from any spelling on: what it has shown, and what is left
 spelled-from : (t : Spelling) (v : List ℕ)
-    → ((foldl readByte t v).good && (foldl readByte t v).digit)
-    ≡ (t.good && all numeral v && leb (oneIf t.point + count Val.point v) 1 && (t.digit || any digit v))
-unfolding all any count readByte
+    → ((foldl read_byte t v).good && (foldl read_byte t v).digit)
+    ≡ (t.good && all numeral v && leb (one_if t.point + count Val.point v) 1 && (t.digit || any digit v))
+unfolding all any count read_byte
 spelled-from t [] = cc (and-true t.good, points-few t.point, or-false t.digit)
 spelled-from t (b ∷ v) =
-    spelled-from (readByte t b) v
+    spelled-from (read_byte t b) v
     ∙ cc (
       all_cons numeral b v,
       any-cons digit b v,
       points_on t.point (Val.point b) (count Val.point v),
       or_assoc t.digit (digit b) (any digit v),
-      regroup t.good (numeral b) (not (Val.point b && t.point)) (all numeral v) (leb (oneIf (t.point || Val.point b) + count Val.point v) 1),
+      regroup t.good (numeral b) (not (Val.point b && t.point)) (all numeral v) (leb (one_if (t.point || Val.point b) + count Val.point v) 1),
     )
 
 -- the fold accepts the spellings of the definitions
-pub spelled_is : (v : List ℕ) → ((foldl readByte noneRead v).good && (foldl readByte noneRead v).digit) ≡ Val.spelled v
+pub spelled_is : (v : List ℕ) → ((foldl read_byte none_read v).good && (foldl read_byte none_read v).digit) ≡ Val.spelled v
 unfolding Val.spelled
-spelled_is v = spelled-from noneRead v ∙ rw zero-add
+spelled_is v = spelled-from none_read v ∙ rw zero-add
 
-pub number_is : (v s : List ℕ) (t : Spelling) → s ≡ Val.unsigned v → t ≡ foldl readByte noneRead s → (t.good && t.digit) ≡ Val.holds Val.numeric v
+pub number_is_lem : (v s : List ℕ) (t : Spelling) → s ≡ Val.unsigned v → t ≡ foldl read_byte none_read s → (t.good && t.digit) ≡ Val.holds Val.numeric v
 unfolding Val.holds
-number_is v s t es et = cc (spelled_is s)
+number_is_lem v s t es et = cc (spelled_is s)
 
 pub sign-none : (v : List ℕ) → length v ≡ 0 → v ≡ Val.unsigned v
 unfolding Val.unsigned

@@ -5,12 +5,12 @@ use Rattle.rules.specs.Value.{point}
 use Rattle.number.specs.declared.Spelling.{Spelling}
 
 -- before the first byte
-abbrev pub noneRead : Spelling
-noneRead = record { good = true; point = false; digit = false }
+abbrev pub none_read : Spelling
+none_read = record { good = true; point = false; digit = false }
 
 -- after one byte more: good, if it is a digit or a point and no second point
-unfoldable pub readByte : Spelling → ℕ → Spelling
-readByte t b =
+unfoldable pub read_byte : Spelling → ℕ → Spelling
+read_byte t b =
     record {
       good = t.good && (digit b || point b) && not (point b && t.point);
       point = t.point || point b;

@@ -2,7 +2,7 @@
 ghost use Rattle.std.specs.Prelude.{◌≡◌};
 ghost use mathlib.Core.List.{foldl};
 ghost use Rattle.rules.specs.Value as Val;
-ghost use Rattle.number.specs.Number.{readByte, noneRead};
+ghost use Rattle.number.specs.Number.{read_byte, none_read};
 
 // What the bytes of a number have shown so far.
 #[derive(Drop)]
@@ -14,7 +14,7 @@ struct Spelling {
 
 // The spelling after one byte more.
 fn read_byte(t: Spelling, b: u8) -> Spelling
-    ensures { result ≡ readByte t b }
+    ensures { result ≡ read_byte t b }
 {
     let digit = bytes::is_digit(b);
     let point = b == 46;
@@ -27,7 +27,7 @@ fn read_byte(t: Spelling, b: u8) -> Spelling
 
 // The spelling after all bytes of v.
 fn read_all(v: &[u8]) -> Spelling
-    ensures { result ≡ foldl readByte noneRead v.now }
+    ensures { result ≡ foldl read_byte none_read v.now }
 {
     let mut t = Spelling {
         good: true,

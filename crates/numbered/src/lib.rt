@@ -3,9 +3,9 @@ ghost use Rattle.std.specs.Prelude.{◌≡◌, true, false, ◌≤◌, length};
 ghost use Rattle.rules.specs.Sheet.{lines_of};
 ghost use Rattle.rules.specs.Proper.{Proper};
 ghost use Rattle.writer.specs.Over.{Fit};
-ghost use Rattle.lines.specs.Lines.{longestSheet, Cut};
-ghost use Rattle.segments.specs.Segments.{groupSegment, Source, longestSegment};
-ghost use Rattle.numbered.specs.Numbered.{numbersOf, numberIs, hasNumber, numberedText, filledSN, greatestNumber, Sources};
+ghost use Rattle.lines.specs.Lines.{longest_sheet, Cut};
+ghost use Rattle.segments.specs.Segments.{group_segment, Source, longest_segment};
+ghost use Rattle.numbered.specs.Numbered.{numbers_of, number_is, has_number, numbered_text, filled_sn, greatest_number, Sources};
 
 use lines::keys;
 use rules::{Delims, Name};
@@ -28,8 +28,8 @@ fn specimen<'a>(
     d: Delims,
 ) -> usize
     requires { Source Name.Spm spm.now s.now places.now d × (length number.now ≤ 5) }
-    ensures fit { Fit result out.new (numberedText d number.now Name.Spm (lines_of s.now)) out.old }
-    ensures within { result ≤ longestSegment }
+    ensures fit { Fit result out.new (numbered_text d number.now Name.Spm (lines_of s.now)) out.old }
+    ensures within { result ≤ longest_segment }
 {
     let specimen_type = lines::value_at(s, places, 0, keys::SPECIMEN.len());
     let collected = lines::value_at(s, places, 1, keys::COLLECTED.len());
@@ -52,9 +52,9 @@ fn structured<'a>(
     places: &[usize; 11],
     d: Delims,
 ) -> usize
-    requires { Source Name.Obx obx.now s.now places.now d × (length number.now ≤ 5) × (filledSN (lines_of s.now) ≡ true) }
-    ensures fit { Fit result out.new (numberedText d number.now Name.Obx (lines_of s.now)) out.old }
-    ensures within { result ≤ longestSegment }
+    requires { Source Name.Obx obx.now s.now places.now d × (length number.now ≤ 5) × (filled_sn (lines_of s.now) ≡ true) }
+    ensures fit { Fit result out.new (numbered_text d number.now Name.Obx (lines_of s.now)) out.old }
+    ensures within { result ≤ longest_segment }
 {
     let item = lines::value_at(s, places, 0, keys::ITEM.len());
     let name = lines::value_at(s, places, 1, keys::NAME.len());
@@ -85,9 +85,9 @@ fn single<'a>(
     places: &[usize; 11],
     d: Delims,
 ) -> usize
-    requires { Source Name.Obx obx.now s.now places.now d × (length number.now ≤ 5) × (filledSN (lines_of s.now) ≡ false) }
-    ensures fit { Fit result out.new (numberedText d number.now Name.Obx (lines_of s.now)) out.old }
-    ensures within { result ≤ longestSegment }
+    requires { Source Name.Obx obx.now s.now places.now d × (length number.now ≤ 5) × (filled_sn (lines_of s.now) ≡ false) }
+    ensures fit { Fit result out.new (numbered_text d number.now Name.Obx (lines_of s.now)) out.old }
+    ensures within { result ≤ longest_segment }
 {
     let item = lines::value_at(s, places, 0, keys::ITEM.len());
     let name = lines::value_at(s, places, 1, keys::NAME.len());
@@ -115,8 +115,8 @@ fn result<'a>(
     d: Delims,
 ) -> usize
     requires { Source Name.Obx obx.now s.now places.now d × (length number.now ≤ 5) }
-    ensures fit { Fit result out.new (numberedText d number.now Name.Obx (lines_of s.now)) out.old }
-    ensures within { result ≤ longestSegment }
+    ensures fit { Fit result out.new (numbered_text d number.now Name.Obx (lines_of s.now)) out.old }
+    ensures within { result ≤ longest_segment }
 {
     let value_type = lines::value_at(s, places, 2, keys::TYPE.len());
     let value = lines::value_at(s, places, 4, keys::VALUE.len());
@@ -135,9 +135,9 @@ fn put_numbered(
     places: &[usize; 11],
     d: Delims,
 ) -> usize
-    requires { (length s.now ≤ longestSheet) × Cut 10 s.now places.now × (hasNumber name ≡ true) × (n ≤ greatestNumber) × Proper d }
-    ensures fit { Fit result out.new (groupSegment d (numberIs n) name 0 (lines_of s.now)) out.old }
-    ensures within { result ≤ longestSegment }
+    requires { (length s.now ≤ longest_sheet) × Cut 10 s.now places.now × (has_number name ≡ true) × (n ≤ greatest_number) × Proper d }
+    ensures fit { Fit result out.new (group_segment d (number_is n) name 0 (lines_of s.now)) out.old }
+    ensures within { result ≤ longest_segment }
 {
     let mut digits = [0u8; 5];
     let len = writer::put_number(&mut digits, n);
@@ -159,8 +159,8 @@ pub fn put_first(
     d: Delims,
 ) -> usize
     requires { Sources s.now places.now numbers d }
-    ensures fit { Fit result out.new (groupSegment d (numbersOf numbers) name 0 (lines_of s.now)) out.old }
-    ensures within { result ≤ longestSegment }
+    ensures fit { Fit result out.new (group_segment d (numbers_of numbers) name 0 (lines_of s.now)) out.old }
+    ensures within { result ≤ longest_segment }
 {
     let specimen = numbers.specimen;
     let result = numbers.result;

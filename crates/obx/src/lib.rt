@@ -4,10 +4,10 @@ ghost use Rattle.rules.specs.declared.Name.TheVariants.{Obx};
 ghost use Rattle.rules.specs.Shift.{met};
 ghost use Rattle.rules.specs.Proper.{Proper};
 ghost use Rattle.rules.specs.Check.{Context};
-ghost use Rattle.value.specs.Rules.{faultNo};
+ghost use Rattle.value.specs.Rules.{fault_no};
 ghost use Rattle.fields.specs.Fields.{Ready};
 ghost use Rattle.fields.specs.Segment.{FoundIn};
-ghost use Rattle.obx.specs.Obx.{valueField, ValueTo, ValuedAt};
+ghost use Rattle.obx.specs.Obx.{value_field, ValueTo, ValuedAt};
 
 use fields::Form::{One, Three};
 use fields::{SegmentRead, Walk, begin, ended_unless, field, head_of, start_of};
@@ -24,7 +24,7 @@ struct Valued {
 
 // On to OBX-5 and through it, given OBX-2's word, where no fault is found yet.
 fn value_field(s: &[u8], d: Delims, w: Walk, word: &[u8]) -> Valued
-    requires { Proper d × Ready s.now valueField w }
+    requires { Proper d × Ready s.now value_field w }
     ensures { ValueTo d s.now word.now w result.walk result.filled result.beside }
 {
     let fault = w.fault;
@@ -67,7 +67,7 @@ fn up_to_value(s: &[u8], d: Delims) -> Valued
 
 pub fn obx(s: &[u8], d: Delims) -> SegmentRead
     requires { Proper d }
-    ensures found_in { (x : Context) → FoundIn Obx d x (met s.now) result.field (faultNo result.fault) }
+    ensures found_in { (x : Context) → FoundIn Obx d x (met s.now) result.field (fault_no result.fault) }
     ensures none { result.at + result.len ≡ 0 }
 {
     let v = up_to_value(s, d);

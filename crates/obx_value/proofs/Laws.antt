@@ -14,15 +14,15 @@ use Rattle.rules.specs.Lists.{bytes, empty, filled, same, has, nth, split}
 use Rattle.rules.specs.Shift.{met, byte_of}
 use Rattle.rules.specs.Proper.{Proper}
 use Rattle.rules.specs.Value as Val
-use Rattle.rules.specs.Escape.{plain, opened, named, letters, meaning, unescape, unescapeAt}
-use Rattle.rules.specs.Places.{Four, valueRules}
-use Rattle.rules.specs.Judge.{judge, faultOr23, isSN, rawFour, beside, unjoined, partsFault, valueFault}
-use Rattle.rules.proofs.Logic.{cases, optionCases, nothing-some, then-none, then-zero, when-none, and-true, and-false}
-use Rattle.rules.proofs.Escaped.{pushCases}
+use Rattle.rules.specs.Escape.{plain, opened, named, letters, meaning, unescape, unescape_at}
+use Rattle.rules.specs.Places.{Four, value_rules}
+use Rattle.rules.specs.Judge.{judge, fault_or23, is_sn, raw_four, beside, unjoined, parts_fault, value_fault}
+use Rattle.rules.proofs.Logic.{cases, option_cases, nothing-some, then-none, then-zero, when-none, and-true, and-false}
+use Rattle.rules.proofs.Escaped.{push_cases}
 use Rattle.rules.proofs.Modes.{length-met}
 use Rattle.bytes.specs.Bytes.{until, is_byte}
 use Rattle.scan.specs.Scan.{ends, next}
-use Rattle.value.specs.Rules.{faultNo, ruleOf, rulesOf}
+use Rattle.value.specs.Rules.{fault_no, rule_of, rules_of}
 use Rattle.value.specs.declared.Fault.{Fault}
 use Rattle.value.specs.declared.Fault.TheVariants.{Nothing, Missing, Repeated, Escape, Value}
 use Rattle.value.specs.declared.Rule.{Rule}
@@ -30,40 +30,40 @@ use Rattle.value.specs.declared.Rule.TheVariants.{Time, Date, Number, Text, Digi
 use Rattle.value.specs.declared.Place.TheVariants.{May}
 use Rattle.value.specs.declared.Parts.{Parts}
 use Rattle.judge.specs.Judge.{Small}
-use Rattle.components.specs.Components.{field_at, componentAt, forward, placeFault, JudgedOf, componentsFault, ComponentsOf}
+use Rattle.components.specs.Components.{field_at, component_at, forward, place_fault, JudgedOf, components_fault, ComponentsOf}
 use Rattle.components.proofs.Laws.{next-within}
 use Rattle.components.proofs.Pieces.{component-at, components-over, forward-long, forward-repeats, rest-long, rest-none, whole-field}
-use Rattle.obx_value.specs.Value.{SmallParts, shapeFault, componentFrom, lastTwo, joinedFault, LastOf, fourFrom, numberFault, NumberOf, ValueOf}
+use Rattle.obx_value.specs.Value.{SmallParts, shape_fault, component_from, last_two, joined_fault, LastOf, four_from, number_fault, NumberOf, ValueOf}
 
 -- ---- faults
 module _ (repeats excess : Bool) where
-  pub shape-repeats : repeats ≡ true → faultNo Repeated ≡ (22 when repeats then 23 when excess)
-  unfolding faultNo
+  pub shape-repeats : repeats ≡ true → fault_no Repeated ≡ (22 when repeats then 23 when excess)
+  unfolding fault_no
   shape-repeats h = rw h
 
-  pub shape-excess : repeats ≡ false → excess ≡ true → faultNo Escape ≡ (22 when repeats then 23 when excess)
-  unfolding faultNo
+  pub shape-excess : repeats ≡ false → excess ≡ true → fault_no Escape ≡ (22 when repeats then 23 when excess)
+  unfolding fault_no
   shape-excess h e = rw (h, e)
 
-  pub shape-right : repeats ≡ false → excess ≡ false → faultNo Nothing ≡ (22 when repeats then 23 when excess)
-  unfolding faultNo
+  pub shape-right : repeats ≡ false → excess ≡ false → fault_no Nothing ≡ (22 when repeats then 23 when excess)
+  unfolding fault_no
   shape-right h e = rw (h, e)
 
 module _ (beside filled : Bool) (own : Fault) where
-  pub needed-yes : (beside && not filled) ≡ true → faultNo Missing ≡ (20 when (beside && not filled) then faultNo own)
-  unfolding faultNo
+  pub needed-yes : (beside && not filled) ≡ true → fault_no Missing ≡ (20 when (beside && not filled) then fault_no own)
+  unfolding fault_no
   needed-yes h = rw h
 
-  pub needed-no : (beside && not filled) ≡ false → faultNo own ≡ (20 when (beside && not filled) then faultNo own)
+  pub needed-no : (beside && not filled) ≡ false → fault_no own ≡ (20 when (beside && not filled) then fault_no own)
   needed-no h = rw h
 
 module _ (joiner second r : Bool) (g : (c : Four (List ℕ)) → joiner ≡ filled c.join → second ≡ filled c.second → r ≡ unjoined c) where
-  pub unjoined-yes : r ≡ true → (c : Four (List ℕ)) → joiner ≡ filled c.join → second ≡ filled c.second → faultNo Value ≡ (25 when unjoined c)
-  unfolding faultNo
+  pub unjoined-yes : r ≡ true → (c : Four (List ℕ)) → joiner ≡ filled c.join → second ≡ filled c.second → fault_no Value ≡ (25 when unjoined c)
+  unfolding fault_no
   unjoined-yes h c e f = rw (← g c e f, h)
 
-  pub unjoined-no : r ≡ false → (c : Four (List ℕ)) → joiner ≡ filled c.join → second ≡ filled c.second → faultNo Nothing ≡ (25 when unjoined c)
-  unfolding faultNo
+  pub unjoined-no : r ≡ false → (c : Four (List ℕ)) → joiner ≡ filled c.join → second ≡ filled c.second → fault_no Nothing ≡ (25 when unjoined c)
+  unfolding fault_no
   unjoined-no h c e f = rw (← g c e f, h)
 
 -- ---- the shape
@@ -78,20 +78,20 @@ filled_is n [] e = rw e
 filled_is n (x ∷ s) e = rw e (lt-ltb 0 (suc (length s)) (omega arith))
 
 -- of a field that is read up to its first component
-module _ (d : Delims) (p : Proper d) (t : List ℕ) (h l : ℕ) (eh : h ≡ length (componentAt d t)) (el : l ≡ length (field_at d t)) where
+module _ (d : Delims) (p : Proper d) (t : List ℕ) (h l : ℕ) (eh : h ≡ length (component_at d t)) (el : l ≡ length (field_at d t)) where
   over_first : has d.repetition (field_at d t) ≡ false → ltb 1 (length (split d.component (field_at d t))) ≡ ltb h l
   unfolding forward
   over_first z =
-      let e : l ≡ h + length (until (is_byte d.field) (drop (length (componentAt d t)) (met t))) = omega (arith, rest-long d (met t)) in
-      components-over d p 0 (met t) z ∙ sym (rw e (more-than h (length (until (is_byte d.field) (drop (length (componentAt d t)) (met t))))) ∙ rest-none d (met t) z)
+      let e : l ≡ h + length (until (is_byte d.field) (drop (length (component_at d t)) (met t))) = omega (arith, rest-long d (met t)) in
+      components-over d p 0 (met t) z ∙ sym (rw e (more-than h (length (until (is_byte d.field) (drop (length (component_at d t)) (met t))))) ∙ rest-none d (met t) z)
 
-  shape-first : (more : Bool) → more ≡ has d.repetition (field_at d t) → (22 when more then 23 when ltb h l) ≡ shapeFault d 0 (field_at d t)
-  unfolding shapeFault
+  shape-first : (more : Bool) → more ≡ has d.repetition (field_at d t) → (22 when more then 23 when ltb h l) ≡ shape_fault d 0 (field_at d t)
+  unfolding shape_fault
   shape-first more e = cases more (λ g. rw (← e, g)) (λ g. rw (← e, g, over_first (sym e ∙ g)))
 
 -- of a field that is read from its start on, or from a later component on
-shape-forward : (d : Delims) → Proper d → (n k : ℕ) (t u : List ℕ) → forward d n (met t) ≡ forward d k (met u) → shapeFault d k (field_at d u) ≡ shapeFault d n (field_at d t)
-unfolding shapeFault
+shape-forward : (d : Delims) → Proper d → (n k : ℕ) (t u : List ℕ) → forward d n (met t) ≡ forward d k (met u) → shape_fault d k (field_at d u) ≡ shape_fault d n (field_at d t)
+unfolding shape_fault
 shape-forward d p n k t u e =
     let r : has d.repetition (field_at d u) ≡ has d.repetition (field_at d t)
     = sym (forward-repeats d p k (met u)) ∙ ap (λ m. has d.repetition (until (is_byte d.field) m)) (sym e) ∙ forward-repeats d p n (met t) in
@@ -101,34 +101,34 @@ shape-forward d p n k t u e =
 
 -- ---- one part
 -- an escape stands for a byte, so a filled component has a filled value
-named-filled : (d : Delims) (x : ℕ) (m v : List ℕ) → unescapeAt d (named x) m ≡ some v → empty v ≡ false
-unfolding unescapeAt empty
+named-filled : (d : Delims) (x : ℕ) (m v : List ℕ) → unescape_at d (named x) m ≡ some v → empty v ≡ false
+unfolding unescape_at empty
 named-filled d x [] v e = nothing-some e
 named-filled d x (y ∷ m) v e =
     cases (eqb y d.escape)
-    (λ t. pushCases x (unescapeAt d plain m) v (rw (t, unescapeAt) at e) (λ w q r. rw r))
-    (λ t. nothing-some (rw (t, unescapeAt) at e))
+    (λ t. push_cases x (unescape_at d plain m) v (rw (t, unescape_at) at e) (λ w q r. rw r))
+    (λ t. nothing-some (rw (t, unescape_at) at e))
 
-opened-filled : (d : Delims) (m v : List ℕ) → unescapeAt d opened m ≡ some v → empty v ≡ false
-unfolding unescapeAt
+opened-filled : (d : Delims) (m v : List ℕ) → unescape_at d opened m ≡ some v → empty v ≡ false
+unfolding unescape_at
 opened-filled d [] v e = nothing-some e
 opened-filled d (y ∷ m) v e =
-    optionCases (meaning (letters d) y)
-    (λ z q. named-filled d z m v (rw (q, unescapeAt) at e))
-    (λ q. nothing-some (rw (q, unescapeAt) at e))
+    option_cases (meaning (letters d) y)
+    (λ z q. named-filled d z m v (rw (q, unescape_at) at e))
+    (λ q. nothing-some (rw (q, unescape_at) at e))
 
-plain-filled : (d : Delims) (x : ℕ) (m v : List ℕ) → unescapeAt d plain (x ∷ m) ≡ some v → empty v ≡ false
-unfolding unescapeAt empty
+plain-filled : (d : Delims) (x : ℕ) (m v : List ℕ) → unescape_at d plain (x ∷ m) ≡ some v → empty v ≡ false
+unfolding unescape_at empty
 plain-filled d x m v e =
     cases (eqb x d.escape)
-    (λ t. opened-filled d m v (rw (t, unescapeAt) at e))
+    (λ t. opened-filled d m v (rw (t, unescape_at) at e))
     (λ t. cases (eqb x d.sub)
-    (λ u. nothing-some (rw (t, u, unescapeAt) at e))
-    (λ u. pushCases (byte_of x) (unescapeAt d plain m) v (rw (t, u, unescapeAt) at e) (λ w q r. rw r)))
+    (λ u. nothing-some (rw (t, u, unescape_at) at e))
+    (λ u. push_cases (byte_of x) (unescape_at d plain m) v (rw (t, u, unescape_at) at e) (λ w q r. rw r)))
 
 -- what is required of an empty component is 20, and of a filled one nothing more
 required-none : (required : Bool) (d : Delims) (r : Val.Rule) → judge d required r [] ≡ (20 when required)
-unfolding judge same bytes unescape unescapeAt faultOr23 Val.fault empty
+unfolding judge same bytes unescape unescape_at fault_or23 Val.fault empty
 required-none true d r = refl
 required-none false d r = refl
 
@@ -137,9 +137,9 @@ unfolding Val.fault
 filled-fault required r v h = rw h
 
 required-some : (required : Bool) (d : Delims) (r : Val.Rule) (x : ℕ) (m : List ℕ) → judge d required r (x ∷ m) ≡ judge d false r (x ∷ m)
-unfolding judge faultOr23 unescape
+unfolding judge fault_or23 unescape
 required-some required d r x m =
-    optionCases (unescapeAt d plain (x ∷ m))
+    option_cases (unescape_at d plain (x ∷ m))
     (λ v e. rw (e, filled-fault required r v (plain-filled d x m v e)))
     (λ e. rw e)
 
@@ -149,56 +149,56 @@ required-is required d r [] = rw (required-none required d r, required-none fals
 required-is required d r (x ∷ m) = rw (and-false required) (required-some required d r x m)
 
 -- ---- the parts, after 22 and 23
-value-told : (d : Delims) (type f : List ℕ) (n k : ℕ) → cond (isSN type) 4 1 ≡ suc n
-    → (has d.repetition f ≡ false → partsFault d (valueRules type) (rawFour d type f) ≡ k) → valueFault d type f ≡ (shapeFault d n f then k)
-unfolding valueFault shapeFault
+value-told : (d : Delims) (type f : List ℕ) (n k : ℕ) → cond (is_sn type) 4 1 ≡ suc n
+    → (has d.repetition f ≡ false → parts_fault d (value_rules type) (raw_four d type f) ≡ k) → value_fault d type f ≡ (shape_fault d n f then k)
+unfolding value_fault shape_fault
 value-told d type f n k e w =
     cases (has d.repetition f)
     (λ h. rw h)
     (λ h. rw (h, w h, e))
 
-unrepeated : (d : Delims) (n : ℕ) (f : List ℕ) (k : ℕ) → (shapeFault d n f then k) ≡ 0 → has d.repetition f ≡ false
-unfolding shapeFault
+unrepeated : (d : Delims) (n : ℕ) (f : List ℕ) (k : ℕ) → (shape_fault d n f then k) ≡ 0 → has d.repetition f ≡ false
+unfolding shape_fault
 unrepeated d n f k h =
-    when-none 21 (has d.repetition f) (then-none (22 when has d.repetition f) (23 when ltb (suc n) (length (split d.component f))) (then-none (shapeFault d n f) k h).0).0
+    when-none 21 (has d.repetition f) (then-none (22 when has d.repetition f) (23 when ltb (suc n) (length (split d.component f))) (then-none (shape_fault d n f) k h).0).0
 
 -- the field's components, where it has no repetition
-field-component : (d : Delims) → Proper d → (n : ℕ) (t : List ℕ) → has d.repetition (field_at d t) ≡ false → nth (split d.component (field_at d t)) n ≡ componentFrom d (met t) n
+field-component : (d : Delims) → Proper d → (n : ℕ) (t : List ℕ) → has d.repetition (field_at d t) ≡ false → nth (split d.component (field_at d t)) n ≡ component_from d (met t) n
 field-component d p n t h = ap (λ l. nth (split d.component l) n) (whole-field d (met t) h) ∙ component-at d p n (met t)
 
 -- ---- NM and ST
 abbrev alone : List ℕ → Four (List ℕ)
 alone v = record { compare = []; value = v; join = []; second = [] }
 
-alone-fault : (d : Delims) (rs : Four Val.Rule) (v : List ℕ) → partsFault d rs (alone v) ≡ judge d false rs.value v
-unfolding partsFault beside unjoined empty
+alone-fault : (d : Delims) (rs : Four Val.Rule) (v : List ℕ) → parts_fault d rs (alone v) ≡ judge d false rs.value v
+unfolding parts_fault beside unjoined empty
 alone-fault d rs v =
     rw (required-none false d rs.compare, required-none false d rs.join, required-none false d rs.second) (then-zero (judge d false rs.value v))
 
-alone-is : (d : Delims) (type f : List ℕ) → isSN type ≡ false → rawFour d type f ≡ alone (nth (split d.component f) 0)
-unfolding rawFour
+alone-is : (d : Delims) (type f : List ℕ) → is_sn type ≡ false → raw_four d type f ≡ alone (nth (split d.component f) 0)
+unfolding raw_four
 alone-is d type f s = rw s
 
 module _ (t : List ℕ) (d : Delims) (rules : Parts) (a r f h l : ℕ) (more : Bool) (p : Proper d) (c : ComponentsOf d (May rules.value ∷ []) t more f h l)
-    (e : a ≡ (22 when more then 23 when ltb h l)) (g : r ≡ (a then f)) (type : List ℕ) (s : isSN type ≡ false) where
-  single-raw : has d.repetition (field_at d t) ≡ false → rawFour d type (field_at d t) ≡ alone (componentAt d t)
+    (e : a ≡ (22 when more then 23 when ltb h l)) (g : r ≡ (a then f)) (type : List ℕ) (s : is_sn type ≡ false) where
+  single-raw : has d.repetition (field_at d t) ≡ false → raw_four d type (field_at d t) ≡ alone (component_at d t)
   unfolding forward
   single-raw z = alone-is d type (field_at d t) s ∙ ap alone (field-component d p 0 t z)
 
-  single-own : f ≡ judge d false (ruleOf rules.value) (componentAt d t)
-  unfolding componentsFault placeFault
-  single-own = c.told ∙ then-zero (judge d false (ruleOf rules.value) (componentAt d t))
+  single-own : f ≡ judge d false (rule_of rules.value) (component_at d t)
+  unfolding components_fault place_fault
+  single-own = c.told ∙ then-zero (judge d false (rule_of rules.value) (component_at d t))
 
-  single-told : r ≡ (shapeFault d 0 (field_at d t) then f)
+  single-told : r ≡ (shape_fault d 0 (field_at d t) then f)
   single-told = g ∙ ap (λ x. x then f) (e ∙ shape-first d p t h l c.short c.long more c.more)
 
-  pub single-is : rulesOf rules ≡ valueRules type → ValueOf d type (field_at d t) r l (ltb 0 h) false
-  unfolding rulesOf beside empty
+  pub single-is : rules_of rules ≡ value_rules type → ValueOf d type (field_at d t) r l (ltb 0 h) false
+  unfolding rules_of beside empty
   single-is v = record {
     told = single-told ∙ sym (value-told d type (field_at d t) 0 f (rw s)
-        (λ z. ap (partsFault d (valueRules type)) (single-raw z) ∙ alone-fault d (valueRules type) (componentAt d t) ∙ rw (← v) (sym single-own)));
+        (λ z. ap (parts_fault d (value_rules type)) (single-raw z) ∙ alone-fault d (value_rules type) (component_at d t) ∙ rw (← v) (sym single-own)));
     long = c.long;
-    filled = λ z. filled_is h (componentAt d t) c.short ∙ ap (λ q. filled q.value) (sym (single-raw (unrepeated d 0 (field_at d t) f (sym single-told ∙ z))));
+    filled = λ z. filled_is h (component_at d t) c.short ∙ ap (λ q. filled q.value) (sym (single-raw (unrepeated d 0 (field_at d t) f (sym single-told ∙ z))));
     beside = λ z. ap beside (sym (single-raw (unrepeated d 0 (field_at d t) f (sym single-told ∙ z))));
   }
 
@@ -212,41 +212,41 @@ rest-long-on t u d p e =
 -- the joiner and the second number
 module _ (t u : List ℕ) (d : Delims) (rules : Parts) (a f g h k l n o q r : ℕ) (more : Bool) (p : Proper d) (x : JudgedOf d (May rules.join) t f n)
     (e : met u ≡ next d (met t)) (c : ComponentsOf d (May rules.second ∷ []) u more g h l) where
-  last-second : componentFrom d (met t) 1 ≡ componentAt d u
+  last-second : component_from d (met t) 1 ≡ component_at d u
   unfolding forward
   last-second = ap (until (ends d)) (sym e)
 
   pub last-is : a ≡ (22 when more then 23 when ltb h l) → ((w : Four (List ℕ)) → ltb 0 n ≡ filled w.join → ltb 0 h ≡ filled w.second → o ≡ (25 when unjoined w))
-      → q ≡ (g then o) → r ≡ (f then q) → LastOf d (rulesOf rules) t a r (length t - length u + l) (ltb 0 n) (ltb 0 h)
-  unfolding joinedFault rulesOf forward componentsFault placeFault
+      → q ≡ (g then o) → r ≡ (f then q) → LastOf d (rules_of rules) t a r (length t - length u + l) (ltb 0 n) (ltb 0 h)
+  unfolding joined_fault rules_of forward components_fault place_fault
   last-is ea eo eq er = record {
     shape = ea ∙ shape-first d p u h l c.short c.long more c.more ∙ shape-forward d p 1 0 t u (sym e);
-    told = let j = eo (lastTwo (componentAt d t) (componentAt d u)) (filled_is n (componentAt d t) x.long) (filled_is h (componentAt d u) c.short) in
-        rw last-second (cc (x.told, c.told, then-zero (judge d false (ruleOf rules.second) (componentAt d u))));
+    told = let j = eo (last_two (component_at d t) (component_at d u)) (filled_is n (component_at d t) x.long) (filled_is h (component_at d u) c.short) in
+        rw last-second (cc (x.told, c.told, then-zero (judge d false (rule_of rules.second) (component_at d u))));
     long = rw c.long (rest-long-on t u d p e);
-    join = filled_is n (componentAt d t) x.long;
-    number = filled_is h (componentAt d u) c.short ∙ ap filled (sym last-second);
+    join = filled_is n (component_at d t) x.long;
+    number = filled_is h (component_at d u) c.short ∙ ap filled (sym last-second);
   }
 
 -- the number
 module _ (t u : List ℕ) (d : Delims) (rules : Parts) (f g i l n r s : ℕ) (compared a b z : Bool) (p : Proper d) (x : JudgedOf d (May rules.value) t f n)
-    (e : met u ≡ next d (met t)) (w : LastOf d (rulesOf rules) u s g l a b)
+    (e : met u ≡ next d (met t)) (w : LastOf d (rules_of rules) u s g l a b)
     (ez : (c : Four (List ℕ)) → compared ≡ filled c.compare → a ≡ filled c.join → b ≡ filled c.second → z ≡ beside c) where
-  on-next : (n : ℕ) → componentFrom d (met t) (suc n) ≡ componentFrom d (met u) n
+  on-next : (n : ℕ) → component_from d (met t) (suc n) ≡ component_from d (met u) n
   unfolding forward
-  on-next n = ap (λ m. componentFrom d m n) (sym e)
+  on-next n = ap (λ m. component_from d m n) (sym e)
 
-  number-beside : (compare : List ℕ) → compared ≡ filled compare → z ≡ beside (fourFrom d compare (met t))
+  number-beside : (compare : List ℕ) → compared ≡ filled compare → z ≡ beside (four_from d compare (met t))
   number-beside compare h =
-      ez (fourFrom d compare (met t)) h (w.join ∙ ap filled (sym (on-next 0))) (w.number ∙ ap filled (sym (on-next 1)))
+      ez (four_from d compare (met t)) h (w.join ∙ ap filled (sym (on-next 0))) (w.number ∙ ap filled (sym (on-next 1)))
 
-  pub number_is : i ≡ (20 when (z && not (ltb 0 n)) then f) → r ≡ (i then g)
-      → NumberOf d (rulesOf rules) compared t s r (length t - length u + l) (ltb 0 n) z
-  unfolding numberFault rulesOf placeFault forward
-  number_is ei er =
-      let v : List ℕ = componentAt d t in
+  pub number_is_lem : i ≡ (20 when (z && not (ltb 0 n)) then f) → r ≡ (i then g)
+      → NumberOf d (rules_of rules) compared t s r (length t - length u + l) (ltb 0 n) z
+  unfolding number_fault rules_of place_fault forward
+  number_is_lem ei er =
+      let v : List ℕ = component_at d t in
       let y : ltb 0 n ≡ filled v = filled_is n v x.long in
-      let j : i ≡ judge d z (ruleOf rules.value) v = ei ∙ rw (y, x.told) (sym (required-is z d (ruleOf rules.value) v)) in
+      let j : i ≡ judge d z (rule_of rules.value) v = ei ∙ rw (y, x.told) (sym (required-is z d (rule_of rules.value) v)) in
       record {
         shape = w.shape ∙ shape-forward d p 2 1 t u (ap (next d) (sym e));
         told = λ compare h. let q = number-beside compare h in cc (w.told, on-next 0, on-next 1);
@@ -256,51 +256,51 @@ module _ (t u : List ℕ) (d : Delims) (rules : Parts) (f g i l n r s : ℕ) (co
       }
 
 -- the four
-abbrev fourIn : Delims → List ℕ → Four (List ℕ)
-fourIn d m = record { compare = componentFrom d m 0; value = componentFrom d m 1; join = componentFrom d m 2; second = componentFrom d m 3 }
+abbrev four_in : Delims → List ℕ → Four (List ℕ)
+four_in d m = record { compare = component_from d m 0; value = component_from d m 1; join = component_from d m 2; second = component_from d m 3 }
 
-four_is : (d : Delims) → Proper d → (type t : List ℕ) → isSN type ≡ true → has d.repetition (field_at d t) ≡ false → rawFour d type (field_at d t) ≡ fourIn d (met t)
-unfolding rawFour
+four_is : (d : Delims) → Proper d → (type t : List ℕ) → is_sn type ≡ true → has d.repetition (field_at d t) ≡ false → raw_four d type (field_at d t) ≡ four_in d (met t)
+unfolding raw_four
 four_is d p type t s h =
     rw s (cc (field-component d p 0 t h, field-component d p 1 t h, field-component d p 2 t h, field-component d p 3 t h))
 
-parts_are : (d : Delims) (r : Four Val.Rule) (c : Four (List ℕ)) → (judge d false r.compare c.compare then numberFault d r c) ≡ partsFault d r c
-unfolding numberFault joinedFault partsFault unjoined
+parts_are : (d : Delims) (r : Four Val.Rule) (c : Four (List ℕ)) → (judge d false r.compare c.compare then number_fault d r c) ≡ parts_fault d r c
+unfolding number_fault joined_fault parts_fault unjoined
 parts_are d r c = refl
 
 module _ (t u : List ℕ) (d : Delims) (rules : Parts) (f g i l n r s : ℕ) (y z : Bool) (p : Proper d) (x : JudgedOf d (May rules.compare) t f n)
-    (e : met u ≡ next d (met t)) (w : NumberOf d (rulesOf rules) (ltb 0 n) u s g l y z) (ei : i ≡ (f then g)) (er : r ≡ (s then i)) where
-  four-on : fourFrom d (componentAt d t) (met u) ≡ fourIn d (met t)
+    (e : met u ≡ next d (met t)) (w : NumberOf d (rules_of rules) (ltb 0 n) u s g l y z) (ei : i ≡ (f then g)) (er : r ≡ (s then i)) where
+  four-on : four_from d (component_at d t) (met u) ≡ four_in d (met t)
   unfolding forward
-  four-on = ap (fourFrom d (componentAt d t)) e
+  four-on = ap (four_from d (component_at d t)) e
 
-  compared_is : ltb 0 n ≡ filled (componentAt d t)
-  compared_is = filled_is n (componentAt d t) x.long
+  compared_is : ltb 0 n ≡ filled (component_at d t)
+  compared_is = filled_is n (component_at d t) x.long
 
-  numbers-own : i ≡ partsFault d (rulesOf rules) (fourIn d (met t))
-  unfolding rulesOf placeFault forward
-  numbers-own = ei ∙ rw (x.told, w.told (componentAt d t) compared_is, four-on) (parts_are d (rulesOf rules) (fourIn d (met t)))
+  numbers-own : i ≡ parts_fault d (rules_of rules) (four_in d (met t))
+  unfolding rules_of place_fault forward
+  numbers-own = ei ∙ rw (x.told, w.told (component_at d t) compared_is, four-on) (parts_are d (rules_of rules) (four_in d (met t)))
 
-  numbers-told : r ≡ (shapeFault d 3 (field_at d t) then partsFault d (rulesOf rules) (fourIn d (met t)))
+  numbers-told : r ≡ (shape_fault d 3 (field_at d t) then parts_fault d (rules_of rules) (four_in d (met t)))
   unfolding forward
   numbers-told = er ∙ rw (w.shape, shape-forward d p 3 2 t u (ap (λ m. next d (next d m)) (sym e)), numbers-own)
 
-  module _ (type : List ℕ) (sn : isSN type ≡ true) where
-    numbers-raw : r ≡ 0 → rawFour d type (field_at d t) ≡ fourIn d (met t)
-    numbers-raw q = four_is d p type t sn (unrepeated d 3 (field_at d t) (partsFault d (rulesOf rules) (fourIn d (met t))) (sym numbers-told ∙ q))
+  module _ (type : List ℕ) (sn : is_sn type ≡ true) where
+    numbers-raw : r ≡ 0 → raw_four d type (field_at d t) ≡ four_in d (met t)
+    numbers-raw q = four_is d p type t sn (unrepeated d 3 (field_at d t) (parts_fault d (rules_of rules) (four_in d (met t))) (sym numbers-told ∙ q))
 
-    pub numbers-is : rulesOf rules ≡ valueRules type → ValueOf d type (field_at d t) r (length t - length u + l) y z
+    pub numbers-is : rules_of rules ≡ value_rules type → ValueOf d type (field_at d t) r (length t - length u + l) y z
     unfolding forward
     numbers-is v = record {
-      told = numbers-told ∙ sym (value-told d type (field_at d t) 3 (partsFault d (rulesOf rules) (fourIn d (met t))) (rw sn) (λ q. rw (four_is d p type t sn q, v)));
+      told = numbers-told ∙ sym (value-told d type (field_at d t) 3 (parts_fault d (rules_of rules) (four_in d (met t))) (rw sn) (λ q. rw (four_is d p type t sn q, v)));
       long = rw w.long (rest-long-on t u d p e);
       filled = λ q. w.filled ∙ ap (λ c. filled c.value) (four-on ∙ sym (numbers-raw q));
-      beside = λ q. w.beside (componentAt d t) compared_is ∙ ap beside (four-on ∙ sym (numbers-raw q));
+      beside = λ q. w.beside (component_at d t) compared_is ∙ ap beside (four-on ∙ sym (numbers-raw q));
     }
 
 -- ---- by OBX-2's word
-pub value-is : (d : Delims) (word f : List ℕ) (fault n : ℕ) (y z v b : Bool) (rules : Four Val.Rule) → v ≡ same word (83 ∷ 78 ∷ []) → v ≡ b → rules ≡ valueRules word
-    → ((type : List ℕ) → isSN type ≡ b → rules ≡ valueRules type → ValueOf d type f fault n y z) → ValueOf d word f fault n y z
+pub value-is : (d : Delims) (word f : List ℕ) (fault n : ℕ) (y z v b : Bool) (rules : Four Val.Rule) → v ≡ same word (83 ∷ 78 ∷ []) → v ≡ b → rules ≡ value_rules word
+    → ((type : List ℕ) → is_sn type ≡ b → rules ≡ value_rules type → ValueOf d type f fault n y z) → ValueOf d word f fault n y z
 unfolding bytes
 value-is d word f fault n y z v b rules e h q g = g word (sym e ∙ h) q
 
@@ -314,8 +314,8 @@ longest (Val.digits n) = n
 longest (Val.capitals n) = n
 longest (Val.words w) = 0
 
-small_is : (rule : Rule) → longest (ruleOf rule) ≤ 256 → Small rule
-unfolding longest ruleOf Small
+small_is : (rule : Rule) → longest (rule_of rule) ≤ 256 → Small rule
+unfolding longest rule_of Small
 small_is Time h = tt
 small_is Date h = tt
 small_is Number h = tt
@@ -327,17 +327,17 @@ small_is (OneOf w) h = tt
 abbrev Short : Four Val.Rule → Type 0
 Short r = (longest r.compare ≤ 256) × (longest r.value ≤ 256) × (longest r.join ≤ 256) × (longest r.second ≤ 256)
 
-parts-short : (word : List ℕ) → Short (valueRules word)
-unfolding longest valueRules
+parts-short : (word : List ℕ) → Short (value_rules word)
+unfolding longest value_rules
 parts-short word =
-    cases (isSN word)
+    cases (is_sn word)
     (λ e. rw e (omega arith, omega arith, omega arith, omega arith))
     (λ e. cases (same word (bytes "NM"))
     (λ f. rw (e, f) (omega arith, omega arith, omega arith, omega arith))
     (λ f. rw (e, f) (omega arith, omega arith, omega arith, omega arith)))
 
-pub parts-small : (rules : Parts) (word : List ℕ) → rulesOf rules ≡ valueRules word → SmallParts rules
-unfolding rulesOf
+pub parts-small : (rules : Parts) (word : List ℕ) → rules_of rules ≡ value_rules word → SmallParts rules
+unfolding rules_of
 parts-small rules word e =
     let h = subst Short (sym e) (parts-short word) in
     (small_is rules.compare h.0, small_is rules.value h.1, small_is rules.join h.2, small_is rules.second h.3)

@@ -3,9 +3,9 @@ ghost use Rattle.std.specs.Prelude.{◌≡◌, true, false, not, ◌&&◌, List,
 ghost use Rattle.rules.specs.Told.{◌then◌, ◌when◌};
 ghost use Rattle.rules.specs.Lists.{filled};
 ghost use Rattle.rules.specs.Proper.{Proper};
-ghost use Rattle.rules.specs.Places.{Four, valueRules};
+ghost use Rattle.rules.specs.Places.{Four, value_rules};
 ghost use Rattle.rules.specs.Judge as J;
-ghost use Rattle.value.specs.Rules.{rulesOf, faultNo};
+ghost use Rattle.value.specs.Rules.{rules_of, fault_no};
 ghost use Rattle.components.specs.Components.{field_at};
 ghost use Rattle.obx_value.specs.Value.{SmallParts, LastOf, NumberOf, ValueOf};
 
@@ -18,7 +18,7 @@ use value::{Fault, Parts, earlier};
 
 // 22 for a repetition, then 23 for a component too many.
 fn shape(repeats: bool, excess: bool) -> Fault
-    ensures { faultNo result ≡ (22 when repeats then 23 when excess) }
+    ensures { fault_no result ≡ (22 when repeats then 23 when excess) }
 {
     if repeats {
         return Fault::Repeated;
@@ -31,7 +31,7 @@ fn shape(repeats: bool, excess: bool) -> Fault
 
 // "SN with an empty number beside a filled part: 20"; else the number's own fault.
 fn needed(beside: bool, filled: bool, own: Fault) -> Fault
-    ensures { faultNo result ≡ (20 when (beside && not filled) then faultNo own) }
+    ensures { fault_no result ≡ (20 when (beside && not filled) then fault_no own) }
 {
     if beside & !filled {
         return Fault::Missing;
@@ -41,7 +41,7 @@ fn needed(beside: bool, filled: bool, own: Fault) -> Fault
 
 // "a second number needs a joiner, judged at that number"
 fn unjoined(joiner: bool, second: bool) -> Fault
-    ensures { (c : Four (List ℕ)) → joiner ≡ filled c.join → second ≡ filled c.second → faultNo result ≡ (25 when J.unjoined c) }
+    ensures { (c : Four (List ℕ)) → joiner ≡ filled c.join → second ≡ filled c.second → fault_no result ≡ (25 when J.unjoined c) }
 {
     if value::unjoined(joiner, second) {
         return Fault::Value;
@@ -62,7 +62,7 @@ pub struct ValueRead {
 
 fn single(t: &[u8], d: Delims, rules: Parts) -> ValueRead
     requires { Proper d × SmallParts rules }
-    ensures by_index { (type : List ℕ) → J.isSN type ≡ false → rulesOf rules ≡ valueRules type → ValueOf d type (field_at d t.now) (faultNo result.fault) result.len result.filled result.beside }
+    ensures by_index { (type : List ℕ) → J.is_sn type ≡ false → rules_of rules ≡ value_rules type → ValueOf d type (field_at d t.now) (fault_no result.fault) result.len result.filled result.beside }
     ensures within { result.len ≤ length t.now }
 {
     let rule = rules.value;
@@ -92,7 +92,7 @@ struct LastRead {
 
 fn last_two(t: &[u8], d: Delims, rules: Parts) -> LastRead
     requires { Proper d × SmallParts rules }
-    ensures last_of { LastOf d (rulesOf rules) t.now (faultNo result.form) (faultNo result.fault) result.len result.joiner result.second }
+    ensures last_of { LastOf d (rules_of rules) t.now (fault_no result.form) (fault_no result.fault) result.len result.joiner result.second }
     ensures within { result.len ≤ length t.now }
 {
     let join = rules.join;
@@ -125,7 +125,7 @@ struct NumberRead {
 
 fn last_three(t: &[u8], d: Delims, rules: Parts, compared: bool) -> NumberRead
     requires { Proper d × SmallParts rules }
-    ensures number_of { NumberOf d (rulesOf rules) compared t.now (faultNo result.form) (faultNo result.fault) result.len result.filled result.beside }
+    ensures number_of { NumberOf d (rules_of rules) compared t.now (fault_no result.form) (fault_no result.fault) result.len result.filled result.beside }
     ensures within { result.len ≤ length t.now }
 {
     let value = rules.value;
@@ -148,7 +148,7 @@ fn last_three(t: &[u8], d: Delims, rules: Parts, compared: bool) -> NumberRead
 
 fn numbers(t: &[u8], d: Delims, rules: Parts) -> ValueRead
     requires { Proper d × SmallParts rules }
-    ensures by_index { (type : List ℕ) → J.isSN type ≡ true → rulesOf rules ≡ valueRules type → ValueOf d type (field_at d t.now) (faultNo result.fault) result.len result.filled result.beside }
+    ensures by_index { (type : List ℕ) → J.is_sn type ≡ true → rules_of rules ≡ value_rules type → ValueOf d type (field_at d t.now) (fault_no result.fault) result.len result.filled result.beside }
     ensures within { result.len ≤ length t.now }
 {
     let compare = rules.compare;
@@ -170,7 +170,7 @@ fn numbers(t: &[u8], d: Delims, rules: Parts) -> ValueRead
 
 pub fn value(t: &[u8], d: Delims, word: &[u8]) -> ValueRead
     requires { Proper d }
-    ensures value_of { ValueOf d word.now (field_at d t.now) (faultNo result.fault) result.len result.filled result.beside }
+    ensures value_of { ValueOf d word.now (field_at d t.now) (fault_no result.fault) result.len result.filled result.beside }
     ensures within { result.len ≤ length t.now }
 {
     let rules = value::part_rules(word);

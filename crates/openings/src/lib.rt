@@ -2,8 +2,8 @@
 ghost use Rattle.std.specs.Prelude.{◌≡◌};
 ghost use Rattle.rules.specs.Lists.{nth};
 ghost use Rattle.rules.specs.Frame.{start, past};
-ghost use Rattle.rules.specs.Sheet.{lines_of, pastGroup};
-ghost use Rattle.order.specs.Order.{reachedOf};
+ghost use Rattle.rules.specs.Sheet.{lines_of, past_group};
+ghost use Rattle.order.specs.Order.{reached_of};
 ghost use Rattle.lines.specs.Lines.{Cut};
 ghost use Rattle.openings.specs.Openings.{Between, Next};
 
@@ -13,7 +13,7 @@ use rules::Name;
 
 // Where a group leads: an ORC has no lines.
 pub fn past_group(a: Reached, name: Name) -> Reached
-    ensures { reachedOf result ≡ pastGroup (reachedOf a) name }
+    ensures { reached_of result ≡ past_group (reached_of a) name }
 {
     if names::is(name, Name::Obr) {
         return order::past(order::past(a, Name::Obr), Name::Orc);
@@ -36,8 +36,8 @@ fn behind_result(t: &[u8]) -> Name
 
 // The group to be read next.
 pub fn next_group(a: Reached, s: &[u8], at: &[usize; 11]) -> Name
-    requires { Cut 10 s.now at.now × Between (reachedOf a) }
-    ensures { Next (reachedOf a) (nth (lines_of s.now) 0) result }
+    requires { Cut 10 s.now at.now × Between (reached_of a) }
+    ensures { Next (reached_of a) (nth (lines_of s.now) 0) result }
 {
     let last = a.last;
     match last {

@@ -2,8 +2,8 @@
 use Rattle.rules.specs.Frame as Frame
 use Rattle.order.specs.declared.Reached.{Reached}
 
-abbrev pub reachedOf : Reached → Frame.Reached
-reachedOf a = record { last = a.last }
+abbrev pub reached_of : Reached → Frame.Reached
+reached_of a = record { last = a.last }
 
-abbrev pub codeReached : Frame.Reached → Reached
-codeReached a = record { last = a.last }
+abbrev pub code_reached : Frame.Reached → Reached
+code_reached a = record { last = a.last }

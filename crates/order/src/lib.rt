@@ -1,7 +1,7 @@
 // "MSH PID PV1, then one or more specimens: SPM and one or more orders: OBR ORC and one or more OBX."
 ghost use Rattle.std.specs.Prelude.{◌≡◌};
-ghost use Rattle.rules.specs.Frame.{start, past, mayFollow, mayEnd};
-ghost use Rattle.order.specs.Order.{reachedOf};
+ghost use Rattle.rules.specs.Frame.{start, past, may_follow, may_end};
+ghost use Rattle.order.specs.Order.{reached_of};
 
 use rules::Name;
 
@@ -12,21 +12,21 @@ pub struct Reached {
 }
 
 pub fn start() -> Reached
-    ensures { reachedOf result ≡ start }
+    ensures { reached_of result ≡ start }
 {
     Reached { last: Name::Other }
 }
 
 // Past one name more.
 pub fn past(a: Reached, b: Name) -> Reached
-    ensures { reachedOf result ≡ past (reachedOf a) b }
+    ensures { reached_of result ≡ past (reached_of a) b }
 {
     Reached { last: b }
 }
 
 // Whether a name may stand next.
 pub fn may_follow(a: Reached, b: Name) -> bool
-    ensures { result ≡ mayFollow (reachedOf a) b }
+    ensures { result ≡ may_follow (reached_of a) b }
 {
     let last = a.last;
     match last {
@@ -43,7 +43,7 @@ pub fn may_follow(a: Reached, b: Name) -> bool
 
 // Whether the end may stand next.
 pub fn may_end(a: Reached) -> bool
-    ensures { result ≡ mayEnd (reachedOf a) }
+    ensures { result ≡ may_end (reached_of a) }
 {
     let last = a.last;
     names::is(last, Name::Obx)

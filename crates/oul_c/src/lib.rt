@@ -1,17 +1,17 @@
 // The face of the library for C: the calls of `oul` on numbers and bytes. Each answers 0, or the number of the refusal, and fills three numbers that the caller
 // lends: what was asked for, or the refusal's segment (or line), its field and 0. include/oul.h declares them.
 ghost use Rattle.std.specs.Prelude.{◌≡◌, [], ◌∷◌, length};
-ghost use Rattle.rules.specs.Told.{gives, number, toldLength};
+ghost use Rattle.rules.specs.Told.{gives, number, told_length};
 ghost use Rattle.rules.specs.Frame.{known};
-ghost use Rattle.rules.specs.Check.{checkTold};
-ghost use Rattle.rules.specs.Fetch.{fetchTold, ordinal, textTold};
-ghost use Rattle.rules.specs.Sheet.{toSheet};
-ghost use Rattle.rules.specs.Message.{toMessage};
-ghost use Rattle.csv_rules.specs.Answers.{faultNumber, toldMade};
-ghost use Rattle.csv_rules.specs.Sheets.{csvCount, csvSheet, csvNext, placeAfter};
-ghost use Rattle.csv_rules.specs.Spot.{csvSpot};
+ghost use Rattle.rules.specs.Check.{check_told};
+ghost use Rattle.rules.specs.Fetch.{fetch_told, ordinal, text_told};
+ghost use Rattle.rules.specs.Sheet.{to_sheet};
+ghost use Rattle.rules.specs.Message.{to_message};
+ghost use Rattle.csv_rules.specs.Answers.{fault_number, told_made};
+ghost use Rattle.csv_rules.specs.Sheets.{csv_count, csv_sheet, csv_next, place_after};
+ghost use Rattle.csv_rules.specs.Spot.{csv_spot};
 ghost use Rattle.spot.specs.Spot.{spot_of};
-ghost use Rattle.oul_c.specs.Numbers.{countNumbers, spanNumbers, segmentNumbers, spotNumbers, sheetNumbers, oneNumber, Tells, TellsWritten, TellsNext};
+ghost use Rattle.oul_c.specs.Numbers.{count_numbers, span_numbers, segment_numbers, spot_numbers, sheet_numbers, one_number, Tells, TellsWritten, TellsNext};
 
 use csv_rules::{Counted, FileFault, Made};
 use rules::{Answer, Fetched, Found, Kind, Refusal, Written};
@@ -19,7 +19,7 @@ use rules::{Answer, Fetched, Found, Kind, Refusal, Written};
 // The counts of the specimens, orders and results of a message.
 #[unsafe(no_mangle)]
 pub extern "C" fn oul_check(m: &[u8], told: &mut [usize; 3]) -> usize
-    ensures { Tells countNumbers (checkTold m.now) result told.new }
+    ensures { Tells count_numbers (check_told m.now) result told.new }
 {
     match oul::check(m) {
         Answer::Accepted(counts) => {
@@ -39,7 +39,7 @@ pub extern "C" fn oul_locate(
     component: usize,
     told: &mut [usize; 3],
 ) -> usize
-    ensures { Tells spanNumbers (fetchTold m.now ordinal field component) result told.new }
+    ensures { Tells span_numbers (fetch_told m.now ordinal field component) result told.new }
 {
     match oul::locate(m, ordinal, field, component) {
         Fetched::At(p) => {
@@ -60,7 +60,7 @@ pub extern "C" fn oul_part_text(
     out: &mut [u8],
     told: &mut [usize; 3],
 ) -> usize
-    ensures { TellsWritten (textTold m.now ordinal field component (length out.old)) out.old result told.new out.new }
+    ensures { TellsWritten (text_told m.now ordinal field component (length out.old)) out.old result told.new out.new }
 {
     written(oul::part_text(m, ordinal, field, component, out), told)
 }
@@ -68,7 +68,7 @@ pub extern "C" fn oul_part_text(
 // Writes the sheet of a message into the lent buffer: how many bytes it has.
 #[unsafe(no_mangle)]
 pub extern "C" fn oul_to_sheet(m: &[u8], out: &mut [u8], told: &mut [usize; 3]) -> usize
-    ensures { TellsWritten (toSheet m.now (length out.old)) out.old result told.new out.new }
+    ensures { TellsWritten (to_sheet m.now (length out.old)) out.old result told.new out.new }
 {
     written(oul::to_sheet(m, out), told)
 }
@@ -76,7 +76,7 @@ pub extern "C" fn oul_to_sheet(m: &[u8], out: &mut [u8], told: &mut [usize; 3]) 
 // Writes the message of a sheet in the same way; a refusal carries the line in place of the segment.
 #[unsafe(no_mangle)]
 pub extern "C" fn oul_to_message(sheet: &[u8], out: &mut [u8], told: &mut [usize; 3]) -> usize
-    ensures { TellsWritten (toMessage sheet.now (length out.old)) out.old result told.new out.new }
+    ensures { TellsWritten (to_message sheet.now (length out.old)) out.old result told.new out.new }
 {
     written(oul::to_message(sheet, out), told)
 }
@@ -84,7 +84,7 @@ pub extern "C" fn oul_to_message(sheet: &[u8], out: &mut [u8], told: &mut [usize
 // Where the known segment with this ordinal starts, and how long it is without its 0D; its name is its first three bytes. It takes any bytes.
 #[unsafe(no_mangle)]
 pub extern "C" fn oul_segment(m: &[u8], number: usize, told: &mut [usize; 3]) -> usize
-    ensures { Tells segmentNumbers (ordinal (known m.now) number) result told.new }
+    ensures { Tells segment_numbers (ordinal (known m.now) number) result told.new }
 {
     match oul::known_segment(m, number) {
         Found::At(s) => {
@@ -105,7 +105,7 @@ pub extern "C" fn oul_segment(m: &[u8], number: usize, told: &mut [usize; 3]) ->
 // The line and the byte at which a text breaks the rule of its refusal 12, 13 or 41. It always answers 0.
 #[unsafe(no_mangle)]
 pub extern "C" fn oul_spot(text: &[u8], refusal: usize, told: &mut [usize; 3]) -> usize
-    ensures { Tells spotNumbers (gives (spot_of refusal text.now)) result told.new }
+    ensures { Tells spot_numbers (gives (spot_of refusal text.now)) result told.new }
 {
     let s = oul::spot_of(text, refusal);
     *told = [s.line, s.byte, 0];
@@ -116,7 +116,7 @@ pub extern "C" fn oul_spot(text: &[u8], refusal: usize, told: &mut [usize; 3]) -
 // How many sheets a file holds, and where its first row stands.
 #[unsafe(no_mangle)]
 pub extern "C" fn oul_csv_count(file: &[u8], told: &mut [usize; 3]) -> usize
-    ensures { Tells sheetNumbers (csvCount file.now) result told.new }
+    ensures { Tells sheet_numbers (csv_count file.now) result told.new }
 {
     match oul::csv_count(file) {
         Counted::Sheets(sheets) => {
@@ -138,7 +138,7 @@ pub extern "C" fn oul_csv_sheet(
     out: &mut [u8],
     told: &mut [usize; 3],
 ) -> usize
-    ensures { TellsWritten (csvSheet file.now which (record { mode = mode.entry.now; sent = sent.now; control = control.now }) (length out.old)) out.old result told.new out.new }
+    ensures { TellsWritten (csv_sheet file.now which (record { mode = mode.entry.now; sent = sent.now; control = control.now }) (length out.old)) out.old result told.new out.new }
 {
     made(oul::csv_sheet(file, which, mode, sent, control, out), told)
 }
@@ -154,7 +154,7 @@ pub extern "C" fn oul_csv_next(
     out: &mut [u8],
     told: &mut [usize; 3],
 ) -> usize
-    ensures { TellsNext (csvNext file.now at (record { mode = mode.entry.now; sent = sent.now; control = control.now }) (length out.old)) (placeAfter file.now at) out.old result told.new out.new }
+    ensures { TellsNext (csv_next file.now at (record { mode = mode.entry.now; sent = sent.now; control = control.now }) (length out.old)) (place_after file.now at) out.old result told.new out.new }
 {
     let next = oul::csv_next(file, at, mode, sent, control, out);
     let answer = next.made;
@@ -166,7 +166,7 @@ pub extern "C" fn oul_csv_next(
 // The line where a file is refused, 0 where it isn't. It always answers 0.
 #[unsafe(no_mangle)]
 pub extern "C" fn oul_csv_spot(file: &[u8], told: &mut [usize; 3]) -> usize
-    ensures { Tells oneNumber (gives (csvSpot file.now)) result told.new }
+    ensures { Tells one_number (gives (csv_spot file.now)) result told.new }
 {
     *told = [oul::csv_spot(file), 0, 0];
     0
@@ -175,7 +175,7 @@ pub extern "C" fn oul_csv_spot(file: &[u8], told: &mut [usize; 3]) -> usize
 // ---- answers as numbers
 // How many bytes were written, as numbers.
 fn written(answer: Written, told: &mut [usize; 3]) -> usize
-    ensures { Tells oneNumber (toldLength answer) result told.new }
+    ensures { Tells one_number (told_length answer) result told.new }
 {
     match answer {
         Written::Wrote(n) => {
@@ -198,7 +198,7 @@ fn refuse(r: Refusal, told: &mut [usize; 3]) -> usize
 
 // A file's fault, which names no place.
 fn faulty(fault: FileFault, told: &mut [usize; 3]) -> usize
-    ensures value { result ≡ faultNumber fault }
+    ensures value { result ≡ fault_number fault }
     ensures told_after { told.new ≡ 0 ∷ 0 ∷ 0 ∷ [] }
 {
     *told = [0, 0, 0];
@@ -207,7 +207,7 @@ fn faulty(fault: FileFault, told: &mut [usize; 3]) -> usize
 
 // How many bytes the sheet has, or its refusal.
 fn made(answer: Made, told: &mut [usize; 3]) -> usize
-    ensures { Tells oneNumber (toldMade answer) result told.new }
+    ensures { Tells one_number (told_made answer) result told.new }
 {
     match answer {
         Made::Sheet(n) => {

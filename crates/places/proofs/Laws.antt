@@ -9,11 +9,11 @@ use Rattle.rules.specs.declared.Name.{Name}
 use Rattle.rules.specs.declared.Name.TheVariants.{Obr, Other}
 use Rattle.rules.specs.Frame as Frame
 use Rattle.rules.specs.Places.{places}
-use Rattle.rules.specs.View.{segmentOf}
-use Rattle.rules.specs.Check.{Context, faultTold, partsTold}
+use Rattle.rules.specs.View.{segment_of}
+use Rattle.rules.specs.Check.{Context, fault_told, parts_told}
 use Rattle.rules.proofs.Logic.{never}
 use Rattle.value.specs.declared.Fault.TheVariants.{Nothing}
-use Rattle.value.specs.Rules.{faultNo}
+use Rattle.value.specs.Rules.{fault_no}
 use Rattle.fields.specs.Segment.{FoundIn}
 use Rattle.specimen.specs.Specimen.{OrderAt}
 
@@ -24,8 +24,8 @@ module _ {name n : Name} {d : Delims} {x : Context} {body : List ℕ} {field fau
   pub named-any : ((o : Context) → FoundIn n d o body field fault) → FoundIn name d x body field fault
   named-any y = rw e (y x)
 
-pub other-found : {name : Name} {d : Delims} {x : Context} {body : List ℕ} → name ≡ Other → FoundIn name d x body 0 (faultNo Nothing)
-unfolding places segmentOf partsTold faultTold faultNo
+pub other-found : {name : Name} {d : Delims} {x : Context} {body : List ℕ} → name ≡ Other → FoundIn name d x body 0 (fault_no Nothing)
+unfolding places segment_of parts_told fault_told fault_no
 other-found e = rw e (record { told = λ i. refl })
 
 module _ {name n : Name} {d : Delims} {s : List ℕ} {fault at len : ℕ} (e : name ≡ n) where

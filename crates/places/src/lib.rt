@@ -1,7 +1,7 @@
 // The read places of a segment, field by field, as the table of document 01 lists them.
 ghost use Rattle.rules.specs.Shift.{met};
 ghost use Rattle.rules.specs.Proper.{Proper};
-ghost use Rattle.value.specs.Rules.{faultNo};
+ghost use Rattle.value.specs.Rules.{fault_no};
 ghost use Rattle.fields.specs.Segment.{said, FoundIn};
 ghost use Rattle.specimen.specs.Specimen.{OrderAt};
 
@@ -12,8 +12,8 @@ use value::Fault;
 // By its name, after the OBR whose order number is `order`. Other names have no read places.
 pub fn segment(name: Name, s: &[u8], d: Delims, order: &[u8]) -> SegmentRead
     requires { Proper d }
-    ensures found_in { FoundIn name d (said order.now) (met s.now) result.field (faultNo result.fault) }
-    ensures order { OrderAt name d s.now (faultNo result.fault) result.at result.len }
+    ensures found_in { FoundIn name d (said order.now) (met s.now) result.field (fault_no result.fault) }
+    ensures order { OrderAt name d s.now (fault_no result.fault) result.at result.len }
 {
     match name {
         Name::Msh => leading::msh(s, d),

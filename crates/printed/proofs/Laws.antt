@@ -10,10 +10,10 @@ use Rattle.rules.specs.Told.{number}
 use Rattle.rules.specs.Lists.{bytes, decimal}
 use Rattle.rules.proofs.Measures.{tens, decimal-few}
 use Rattle.csv_rules.specs.declared.FileFault.{FileFault}
-use Rattle.csv_rules.specs.Answers.{faultNumber}
+use Rattle.csv_rules.specs.Answers.{fault_number}
 use Rattle.writer.specs.Over.{Wrote, Put}
 use Rattle.writer.proofs.Laws.{then, front-within, front-is}
-use Rattle.printed.specs.Printed.{lineText, threeText, refusalText, faultText, countsText}
+use Rattle.printed.specs.Printed.{line_text, three_text, refusal_text, fault_text, counts_text}
 
 -- ---- a number of 64 bits
 pub number_short : (n : ℕ) → n < 18446744073709551616 → length (decimal n) ≤ 20
@@ -29,29 +29,29 @@ module _ (left right : List ℕ) (n : ℕ) (old x y z : List ℕ) (k m r : ℕ) 
   numbered-short h = omega (arith, number_short n h, a.ends, b.ends, c.ends)
 
 -- ---- three lines
-module _ (place : List ℕ) (n s f : ℕ) (old x y z : List ℕ) (k m r : ℕ) (a : Wrote k x (lineText (114 ∷ 101 ∷ 102 ∷ 117 ∷ 115 ∷ 101 ∷ 100 ∷ 61 ∷ []) n) old)
-    (b : Put k x (lineText place s) m y) (c : Put m y (lineText (102 ∷ 105 ∷ 101 ∷ 108 ∷ 100 ∷ 61 ∷ []) f) r z) where
-  pub three-is : Wrote r z (threeText place n s f) old
-  unfolding threeText bytes
+module _ (place : List ℕ) (n s f : ℕ) (old x y z : List ℕ) (k m r : ℕ) (a : Wrote k x (line_text (114 ∷ 101 ∷ 102 ∷ 117 ∷ 115 ∷ 101 ∷ 100 ∷ 61 ∷ []) n) old)
+    (b : Put k x (line_text place s) m y) (c : Put m y (line_text (102 ∷ 105 ∷ 101 ∷ 108 ∷ 100 ∷ 61 ∷ []) f) r z) where
+  pub three-is : Wrote r z (three_text place n s f) old
+  unfolding three_text bytes
   three-is = then (then a b) c
 
 module _ (old z : List ℕ) (n r : ℕ) where
-  pub refused-is : (place : List ℕ) (f : Refusal) → n ≡ number f.kind → Wrote r z (threeText place n f.segment f.field) old → Wrote r z (refusalText place f) old
-  unfolding refusalText
+  pub refused-is : (place : List ℕ) (f : Refusal) → n ≡ number f.kind → Wrote r z (three_text place n f.segment f.field) old → Wrote r z (refusal_text place f) old
+  unfolding refusal_text
   refused-is place f e w = rw e at w
 
-  pub fault-is : (f : FileFault) → n ≡ faultNumber f → Wrote r z (threeText (108 ∷ 105 ∷ 110 ∷ 101 ∷ 61 ∷ []) n 0 0) old → Wrote r z (faultText f) old
-  unfolding faultText bytes
+  pub fault-is : (f : FileFault) → n ≡ fault_number f → Wrote r z (three_text (108 ∷ 105 ∷ 110 ∷ 101 ∷ 61 ∷ []) n 0 0) old → Wrote r z (fault_text f) old
+  unfolding fault_text bytes
   fault-is f e w = rw e at w
 
-module _ (n : Counts) (old x y z : List ℕ) (k m r : ℕ) (a : Wrote k x (lineText (bytes "spm=") n.spm) old) (b : Put k x (lineText (bytes "obr=") n.obr) m y)
-    (c : Put m y (lineText (bytes "obx=") n.obx) r z) where
-  pub counts-is : Wrote r z (countsText n) old
-  unfolding countsText
+module _ (n : Counts) (old x y z : List ℕ) (k m r : ℕ) (a : Wrote k x (line_text (bytes "spm=") n.spm) old) (b : Put k x (line_text (bytes "obr=") n.obr) m y)
+    (c : Put m y (line_text (bytes "obx=") n.obx) r z) where
+  pub counts-is : Wrote r z (counts_text n) old
+  unfolding counts_text
   counts-is = then (then a b) c
 
   pub counts-within : r ≤ length z
-  counts-within = front-within r z (countsText n) old counts-is
+  counts-within = front-within r z (counts_text n) old counts-is
 
   pub counts-front : r ≡ length (take r z)
-  counts-front = front-is r z (countsText n) old counts-is
+  counts-front = front-is r z (counts_text n) old counts-is

@@ -2,14 +2,14 @@
 ghost use Rattle.std.specs.Prelude.{◌++◌, ◌+◌, ◌≤◌, length};
 ghost use Rattle.rules.specs.Lists.{bytes, decimal};
 ghost use Rattle.writer.specs.Over.{Wrote, Put};
-ghost use Rattle.printed.specs.Printed.{lineText, threeText, refusalText, faultText, countsText, Front};
+ghost use Rattle.printed.specs.Printed.{line_text, three_text, refusal_text, fault_text, counts_text, Front};
 
 use csv_rules::FileFault;
 use rules::{Counts, Refusal};
 
 // A message's refusal names its segment.
 pub fn of_message(out: &mut [u8; 96], refusal: Refusal) -> usize
-    ensures wrote { Wrote result out.new (refusalText (bytes "segment=") refusal) out.old }
+    ensures wrote { Wrote result out.new (refusal_text (bytes "segment=") refusal) out.old }
     ensures within { Front result out.new }
 {
     refused(out, b"segment=", refusal)
@@ -17,7 +17,7 @@ pub fn of_message(out: &mut [u8; 96], refusal: Refusal) -> usize
 
 // A sheet's refusal names its line.
 pub fn of_sheet(out: &mut [u8; 96], refusal: Refusal) -> usize
-    ensures wrote { Wrote result out.new (refusalText (bytes "line=") refusal) out.old }
+    ensures wrote { Wrote result out.new (refusal_text (bytes "line=") refusal) out.old }
     ensures within { Front result out.new }
 {
     refused(out, b"line=", refusal)
@@ -25,7 +25,7 @@ pub fn of_sheet(out: &mut [u8; 96], refusal: Refusal) -> usize
 
 // A file's fault names no line.
 pub fn of_fault(out: &mut [u8; 96], fault: FileFault) -> usize
-    ensures wrote { Wrote result out.new (faultText fault) out.old }
+    ensures wrote { Wrote result out.new (fault_text fault) out.old }
     ensures within { Front result out.new }
 {
     three(out, b"line=", csv_rules::fault_number(fault), 0, 0)
@@ -34,7 +34,7 @@ pub fn of_fault(out: &mut [u8; 96], fault: FileFault) -> usize
 // A number, as how many sheets there are or which one.
 pub fn of_number(out: &mut [u8; 96], key: &[u8], n: usize) -> usize
     requires { length key.now ≤ 8 }
-    ensures wrote { Wrote result out.new (lineText key.now n) out.old }
+    ensures wrote { Wrote result out.new (line_text key.now n) out.old }
     ensures within { Front result out.new }
 {
     line(out, key, n)
@@ -42,7 +42,7 @@ pub fn of_number(out: &mut [u8; 96], key: &[u8], n: usize) -> usize
 
 // The counts of an accepted message.
 pub fn of_counts(out: &mut [u8; 96], counts: Counts) -> usize
-    ensures wrote { Wrote result out.new (countsText counts) out.old }
+    ensures wrote { Wrote result out.new (counts_text counts) out.old }
     ensures within { Front result out.new }
 {
     let spm = counts.spm;
@@ -55,7 +55,7 @@ pub fn of_counts(out: &mut [u8; 96], counts: Counts) -> usize
 
 fn refused(out: &mut [u8], place: &[u8], refusal: Refusal) -> usize
     requires { (96 ≤ length out.old) × (length place.now ≤ 8) }
-    ensures { Wrote result out.new (refusalText place.now refusal) out.old }
+    ensures { Wrote result out.new (refusal_text place.now refusal) out.old }
 {
     let kind = refusal.kind;
     let segment = refusal.segment;
@@ -65,7 +65,7 @@ fn refused(out: &mut [u8], place: &[u8], refusal: Refusal) -> usize
 
 fn three(out: &mut [u8], place: &[u8], number: usize, segment: usize, field: usize) -> usize
     requires { (96 ≤ length out.old) × (length place.now ≤ 8) }
-    ensures { Wrote result out.new (threeText place.now number segment field) out.old }
+    ensures { Wrote result out.new (three_text place.now number segment field) out.old }
 {
     let first = line(out, b"refused=", number);
     let second = line_at(out, first, place, segment);
@@ -75,7 +75,7 @@ fn three(out: &mut [u8], place: &[u8], number: usize, segment: usize, field: usi
 // A key, a number in decimal, and 0A.
 fn line(out: &mut [u8], key: &[u8], n: usize) -> usize
     requires { (29 ≤ length out.old) × (length key.now ≤ 8) }
-    ensures wrote { Wrote result out.new (lineText key.now n) out.old }
+    ensures wrote { Wrote result out.new (line_text key.now n) out.old }
     ensures within { result ≤ 29 }
 {
     numbered(out, key, n, b"\n")
@@ -84,7 +84,7 @@ fn line(out: &mut [u8], key: &[u8], n: usize) -> usize
 // The same at a place: lends the tail.
 fn line_at(out: &mut [u8], at: usize, key: &[u8], n: usize) -> usize
     requires { (at + 29 ≤ length out.old) × (length key.now ≤ 8) }
-    ensures put { Put at out.old (lineText key.now n) result out.new }
+    ensures put { Put at out.old (line_text key.now n) result out.new }
     ensures within { result ≤ at + 29 }
 {
     at + line(&mut out[at..], key, n)

@@ -14,29 +14,29 @@ use mir.Val.{to_z, of_z, SFits}
 use mir.ValLaws.{to_z-of_z}
 use Rattle.program.specs.declared.Input.{Input}
 use Rattle.program.specs.declared.Input.TheVariants.{Whole, Failed}
-use Rattle.program.specs.Reading.{endingOf, InBuffer}
+use Rattle.program.specs.Reading.{ending_of, InBuffer}
 
 -- ---- what a read that brought nothing says
-negative : (z : ℤ) (done : ℕ) → lt_z z (pos 0) ≡ true → Failed ≡ endingOf z done
-unfolding endingOf
+negative : (z : ℤ) (done : ℕ) → lt_z z (pos 0) ≡ true → Failed ≡ ending_of z done
+unfolding ending_of
 negative (pos k) done h = let e : k < 0 = ltb-true k 0 h in absurd (omega arith)
 negative (negsuc k) done h = refl
 
-other : (z : ℤ) (done : ℕ) → lt_z z (pos 0) ≡ false → Whole done ≡ endingOf z done
-unfolding endingOf
+other : (z : ℤ) (done : ℕ) → lt_z z (pos 0) ≡ false → Whole done ≡ ending_of z done
+unfolding ending_of
 other (pos k) done h = refl
 other (negsuc k) done h = cc
 
 module _ (z : ℤ) (done : ℕ) (f : SFits w64 z) where
-  pub failed-is : lt_z (to_z w64 (of_z w64 z)) (to_z w64 0) ≡ true → Failed ≡ endingOf z done
+  pub failed-is : lt_z (to_z w64 (of_z w64 z)) (to_z w64 0) ≡ true → Failed ≡ ending_of z done
   failed-is h = negative z done (subst (λ (v : ℤ). lt_z v (pos 0) ≡ true) (to_z-of_z w64 z f) h)
 
-  pub end_is : lt_z (to_z w64 (of_z w64 z)) (to_z w64 0) ≡ false → Whole done ≡ endingOf z done
+  pub end_is : lt_z (to_z w64 (of_z w64 z)) (to_z w64 0) ≡ false → Whole done ≡ ending_of z done
   end_is h = other z done (subst (λ (v : ℤ). lt_z v (pos 0) ≡ false) (to_z-of_z w64 z f) h)
 
 -- ---- it lies in the buffer
-pub ending-within : (z : ℤ) (done n : ℕ) (r : Input) → r ≡ endingOf z done → done ≤ n → InBuffer n r
-unfolding endingOf
+pub ending-within : (z : ℤ) (done n : ℕ) (r : Input) → r ≡ ending_of z done → done ≤ n → InBuffer n r
+unfolding ending_of
 ending-within (pos k) done n r e h = rw e h
 ending-within (negsuc k) done n r e h = rw e tt
 

@@ -6,9 +6,9 @@ use Rattle.program.specs.declared.Number.{Number}
 use Rattle.program.specs.declared.Number.TheVariants.{Is, Wrong}
 
 -- a read that brought nothing, behind so many bytes: its answer is 0 at the end of the input, -1 where it failed
-unfoldable pub endingOf : ℤ → ℕ → Input
-endingOf (pos k) done = Whole done
-endingOf (negsuc k) done = Failed
+unfoldable pub ending_of : ℤ → ℕ → Input
+ending_of (pos k) done = Whole done
+ending_of (negsuc k) done = Failed
 
 -- an input lies in its buffer of n bytes
 abbrev pub InBuffer : ℕ → Input → Type 0

@@ -3,7 +3,7 @@
 pub mod file;
 
 ghost use Rattle.std.specs.Prelude.{◌≡◌, length, take};
-ghost use Rattle.program.specs.Reading.{endingOf, InBuffer, NineDigits};
+ghost use Rattle.program.specs.Reading.{ending_of, InBuffer, NineDigits};
 
 // ---- input
 // A whole input of so many bytes, at the start of the lent buffer; or none, and why is told already.
@@ -93,7 +93,7 @@ fn read_all(fd: i32, buf: &mut [u8]) -> Input
 
 // What a read that brought nothing says: its answer is 0 at the end of the input, -1 where it failed. A failure is never taken for the end.
 fn ending(answer: isize, done: usize) -> Input
-    ensures { result ≡ endingOf answer done }
+    ensures { result ≡ ending_of answer done }
 {
     if answer < 0 {
         return Input::Failed;

@@ -10,7 +10,7 @@ use Rattle.rules.proofs.Lists.{rest-length}
 use Rattle.unescape.specs.Unescaped.{fill}
 use Rattle.unescape.proofs.Laws.{fill-take}
 use Rattle.writer.specs.Over.{Wrote}
-use Rattle.fill.specs.Fill.{lesser, fillAt}
+use Rattle.fill.specs.Fill.{lesser, fill_at}
 use Rattle.fill.proofs.Laws.{least-second, fill-nil, length-fill, add_twice, put-fills, prefix-room, back}
 use Rattle.reach.specs.Reach.{Adds}
 
@@ -51,33 +51,33 @@ least-is (suc a) zero h = absurd (omega arith)
 least-is (suc a) (suc n) h = ap suc (least-is a n (omega arith))
 
 -- ---- the buffer
-length-fillAt : (at : ℕ) (b x : List ℕ) → length (fillAt at b x) ≡ length x
-unfolding fillAt lesser
-length-fillAt zero b x = length-fill b x
-length-fillAt (suc at) b [] = ap length (fill-nil b)
-length-fillAt (suc at) b (o ∷ x) = ap suc (length-fillAt at b x)
+length-fill_at : (at : ℕ) (b x : List ℕ) → length (fill_at at b x) ≡ length x
+unfolding fill_at lesser
+length-fill_at zero b x = length-fill b x
+length-fill_at (suc at) b [] = ap length (fill-nil b)
+length-fill_at (suc at) b (o ∷ x) = ap suc (length-fill_at at b x)
 
-fill_none : (at : ℕ) (x : List ℕ) → fillAt at [] x ≡ x
-unfolding fillAt lesser fill
+fill_none : (at : ℕ) (x : List ℕ) → fill_at at [] x ≡ x
+unfolding fill_at lesser fill
 fill_none zero x = refl
 fill_none (suc at) [] = refl
 fill_none (suc at) (o ∷ x) = ap (λ (l : List ℕ). o ∷ l) (fill_none at x)
 
-fill_one : (at b : ℕ) (x : List ℕ) → fillAt at (b ∷ []) x ≡ set x at b
-unfolding fillAt lesser fill
+fill_one : (at b : ℕ) (x : List ℕ) → fill_at at (b ∷ []) x ≡ set x at b
+unfolding fill_at lesser fill
 fill_one zero b [] = refl
 fill_one zero b (o ∷ x) = refl
 fill_one (suc at) b [] = refl
 fill_one (suc at) b (o ∷ x) = ap (λ (l : List ℕ). o ∷ l) (fill_one at b x)
 
 -- a place past the end is the end
-fill-cut : (n : ℕ) (c x : List ℕ) → fillAt (lesser n (length x)) c x ≡ fillAt n c x
-unfolding fillAt
+fill-cut : (n : ℕ) (c x : List ℕ) → fill_at (lesser n (length x)) c x ≡ fill_at n c x
+unfolding fill_at
 fill-cut n c x = ap (λ (k : ℕ). take k x ++ fill c (drop k x)) (least-all (lesser n (length x)) (length x) (least-low n (length x)))
 
-adds-is : (at r : ℕ) (x b y : List ℕ) → r ≡ lesser (at + length b) (length x) → y ≡ fillAt at b x → Adds at x b r y
+adds-is : (at r : ℕ) (x b y : List ℕ) → r ≡ lesser (at + length b) (length x) → y ≡ fill_at at b x → Adds at x b r y
 adds-is at r x b y e q =
-    let s : length y ≡ length x = ap length q ∙ length-fillAt at b x in
+    let s : length y ≡ length x = ap length q ∙ length-fill_at at b x in
     record { ends = e; is = q; same = s; inside = omega (arith, least-low (at + length b) (length x)) }
 
 -- ---- one write after another
@@ -90,7 +90,7 @@ adds_then {at} {r} {k} {x} {y} {z} {b} {c} p q =
     let e : r ≡ lesser n (length y) = p.ends ∙ ap (lesser n) (sym p.same) in
     adds-is at k x (b ++ c) z
     (q.ends ∙ rw (p.same, p.ends, length-append) (least-again n (length c) (length x) ∙ ap (λ (n : ℕ). lesser n (length x)) (omega arith)))
-    (q.is ∙ ap (λ (i : ℕ). fillAt i c y) e ∙ fill-cut n c y ∙ ap (fillAt n c) p.is ∙ add_twice at b c x)
+    (q.is ∙ ap (λ (i : ℕ). fill_at i c y) e ∙ fill-cut n c y ∙ ap (fill_at n c) p.is ∙ add_twice at b c x)
 
 -- ---- what a loop that writes keeps: what it has written, and that `left` completes the whole
 pub record Writing (whole left old x : List ℕ) (at k : ℕ) : Type 0 where
@@ -120,7 +120,7 @@ module _ {x w y : List ℕ} {r : ℕ} (p : Adds 0 x w r y) where
   front_cut h = let q : r ≡ lesser (length w) (length x) = front_ends in least-is (length w) (length x) (omega arith) ∙ sym q
 
   pub front-is : length w ≤ length x → take r y ≡ w
-  unfolding fillAt lesser
+  unfolding fill_at lesser
   front-is h = rw (front-whole h, p.is) (fill-take w x h)
 
 -- ---- one byte

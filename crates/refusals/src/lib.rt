@@ -1,7 +1,7 @@
 // How a program tells a refusal: three lines on standard output, and a line in words on standard error. Each function tells how many bytes the three lines have.
 ghost use Rattle.std.specs.Prelude.{◌≡◌, length};
 ghost use Rattle.rules.specs.Lists.{bytes};
-ghost use Rattle.printed.specs.Printed.{refusalText, faultText};
+ghost use Rattle.printed.specs.Printed.{refusal_text, fault_text};
 
 use csv_rules::FileFault;
 use rules::{Found, Name, Refusal};
@@ -9,7 +9,7 @@ use spot::Spot;
 
 // ---- of a message
 pub fn tell_message(own_name: &[u8], m: &[u8], refusal: Refusal) -> usize
-    ensures { result ≡ length (refusalText (bytes "segment=") refusal) }
+    ensures { result ≡ length (refusal_text (bytes "segment=") refusal) }
 {
     let mut lines = [0u8; 96];
     let n = printed::of_message(&mut lines, refusal);
@@ -28,7 +28,7 @@ fn segment_name(m: &[u8], ordinal: usize) -> Name {
 
 // ---- of a sheet
 pub fn tell_sheet(own_name: &[u8], sheet: &[u8], refusal: Refusal) -> usize
-    ensures { result ≡ length (refusalText (bytes "line=") refusal) }
+    ensures { result ≡ length (refusal_text (bytes "line=") refusal) }
 {
     let n = three_lines(own_name, b"", refusal);
     say_with_spot(sheet, refusal, Name::Other);
@@ -37,7 +37,7 @@ pub fn tell_sheet(own_name: &[u8], sheet: &[u8], refusal: Refusal) -> usize
 
 // The three lines, behind `before`.
 fn three_lines(own_name: &[u8], before: &[u8], refusal: Refusal) -> usize
-    ensures { result ≡ length (refusalText (bytes "line=") refusal) }
+    ensures { result ≡ length (refusal_text (bytes "line=") refusal) }
 {
     let mut lines = [0u8; 96];
     let n = printed::of_sheet(&mut lines, refusal);
@@ -48,7 +48,7 @@ fn three_lines(own_name: &[u8], before: &[u8], refusal: Refusal) -> usize
 // ---- of the commercial centre's file
 // A file's fault: three lines behind `before`, and where it is met in words.
 pub fn tell_file(own_name: &[u8], before: &[u8], file: &[u8], fault: FileFault) -> usize
-    ensures { result ≡ length (faultText fault) }
+    ensures { result ≡ length (fault_text fault) }
 {
     let mut lines = [0u8; 96];
     let n = printed::of_fault(&mut lines, fault);
@@ -61,7 +61,7 @@ pub fn tell_file(own_name: &[u8], before: &[u8], file: &[u8], fault: FileFault) 
 
 // A sheet of a file.
 pub fn tell_csv_sheet(own_name: &[u8], refusal: Refusal) -> usize
-    ensures { result ≡ length (refusalText (bytes "line=") refusal) }
+    ensures { result ≡ length (refusal_text (bytes "line=") refusal) }
 {
     let n = three_lines(own_name, b"", refusal);
     say_without_spot(refusal);
@@ -70,7 +70,7 @@ pub fn tell_csv_sheet(own_name: &[u8], refusal: Refusal) -> usize
 
 // The k-th of several sheets, which is named before.
 pub fn tell_one(own_name: &[u8], k: usize, refusal: Refusal) -> usize
-    ensures { result ≡ length (refusalText (bytes "line=") refusal) }
+    ensures { result ≡ length (refusal_text (bytes "line=") refusal) }
 {
     let mut before = [0u8; 96];
     let named = printed::of_number(&mut before, b"sheet=", k);

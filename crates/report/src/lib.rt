@@ -4,8 +4,8 @@ ghost use Rattle.rules.specs.declared.Name.TheVariants.{Msh, Pv1, Spm, Obr};
 ghost use Rattle.rules.specs.Shift.{met};
 ghost use Rattle.rules.specs.Proper.{Proper};
 ghost use Rattle.fill.specs.Fill.{Lined, longest, Near};
-ghost use Rattle.sources.specs.Sources.{linesOfBody};
-ghost use Rattle.report.specs.Report.{fromSent, fieldLines};
+ghost use Rattle.sources.specs.Sources.{lines_of_body};
+ghost use Rattle.report.specs.Report.{from_sent, field_lines};
 
 use rules::Delims;
 use sources::{field_behind, first_component, onward};
@@ -13,7 +13,7 @@ use sources::{field_behind, first_component, onward};
 // MSH.
 pub fn header(out: &mut [u8], s: &[u8], d: Delims) -> usize
     requires { Proper d × (length s.now ≤ 4096) }
-    ensures lined { Lined 0 out.old (linesOfBody d Msh (met s.now)) result out.new }
+    ensures lined { Lined 0 out.old (lines_of_body d Msh (met s.now)) result out.new }
     ensures within { result ≤ longest 4 }
 {
     let at = fill::line_as_is(out, 0, b"version=", b"1");
@@ -24,7 +24,7 @@ pub fn header(out: &mut [u8], s: &[u8], d: Delims) -> usize
 // From MSH-7 on.
 fn from_sent(out: &mut [u8], at: usize, t: &[u8], d: Delims) -> usize
     requires { Proper d × (length t.now ≤ 4096) × Near 3 at }
-    ensures lined { Lined at out.old (fromSent d (met t.now)) result out.new }
+    ensures lined { Lined at out.old (from_sent d (met t.now)) result out.new }
     ensures within { result ≤ at + longest 3 }
 {
     let sent = first_component(t, d);
@@ -48,7 +48,7 @@ fn from_sent(out: &mut [u8], at: usize, t: &[u8], d: Delims) -> usize
 // PV1.
 pub fn visit(out: &mut [u8], s: &[u8], d: Delims) -> usize
     requires { Proper d × (length s.now ≤ 4096) }
-    ensures lined { Lined 0 out.old (linesOfBody d Pv1 (met s.now)) result out.new }
+    ensures lined { Lined 0 out.old (lines_of_body d Pv1 (met s.now)) result out.new }
     ensures within { result ≤ longest 1 }
 {
     let t = onward(s, d.field, 2);
@@ -59,7 +59,7 @@ pub fn visit(out: &mut [u8], s: &[u8], d: Delims) -> usize
 // SPM.
 pub fn specimen(out: &mut [u8], s: &[u8], d: Delims) -> usize
     requires { Proper d × (length s.now ≤ 4096) }
-    ensures lined { Lined 0 out.old (linesOfBody d Spm (met s.now)) result out.new }
+    ensures lined { Lined 0 out.old (lines_of_body d Spm (met s.now)) result out.new }
     ensures within { result ≤ longest 2 }
 {
     let t = onward(s, d.field, 4);
@@ -69,7 +69,7 @@ pub fn specimen(out: &mut [u8], s: &[u8], d: Delims) -> usize
 // OBR.
 pub fn order(out: &mut [u8], s: &[u8], d: Delims) -> usize
     requires { Proper d × (length s.now ≤ 4096) }
-    ensures lined { Lined 0 out.old (linesOfBody d Obr (met s.now)) result out.new }
+    ensures lined { Lined 0 out.old (lines_of_body d Obr (met s.now)) result out.new }
     ensures within { result ≤ longest 2 }
 {
     let t = onward(s, d.field, 2);
@@ -87,7 +87,7 @@ pub fn two_fields<'a>(
     d: Delims,
 ) -> usize
     requires { Proper d × (length t.now ≤ 4096) × (length here.now ≤ 16) × (length there.now ≤ 16) × (1 ≤ n) × Near 2 at }
-    ensures lined { Lined at out.old (fieldLines d here.now n there.now (met t.now)) result out.new }
+    ensures lined { Lined at out.old (field_lines d here.now n there.now (met t.now)) result out.new }
     ensures within { result ≤ at + longest 2 }
 {
     let a = first_component(t, d);

@@ -1,13 +1,13 @@
 // The lines of PID, their values found in one walk.
 ghost use Rattle.std.specs.Prelude.{◌≡◌, false, [], ◌∷◌, ◌+◌, ◌≤◌, length};
 ghost use Rattle.rules.specs.declared.Name.TheVariants.{Pid};
-ghost use Rattle.rules.specs.Lists.{has, orEmpty, split};
+ghost use Rattle.rules.specs.Lists.{has, or_empty, split};
 ghost use Rattle.rules.specs.Shift.{met};
 ghost use Rattle.rules.specs.Proper.{Proper};
-ghost use Rattle.rules.specs.Judge.{firstMarked};
+ghost use Rattle.rules.specs.Judge.{first_marked};
 ghost use Rattle.fill.specs.Fill.{Lined, longest, Near};
-ghost use Rattle.sources.specs.Sources.{linesOfBody};
-ghost use Rattle.report_patient.specs.Patient.{nameLines, namesLines, fromNames};
+ghost use Rattle.sources.specs.Sources.{lines_of_body};
+ghost use Rattle.report_patient.specs.Patient.{name_lines, names_lines, from_names};
 
 use rules::Delims;
 use sources::{field_behind, first_component, next_component, onward, piece};
@@ -15,7 +15,7 @@ use sources::{field_behind, first_component, next_component, onward, piece};
 // PID.
 pub fn patient(out: &mut [u8], s: &[u8], d: Delims) -> usize
     requires { Proper d × (length s.now ≤ 4096) }
-    ensures lined { Lined 0 out.old (linesOfBody d Pid (met s.now)) result out.new }
+    ensures lined { Lined 0 out.old (lines_of_body d Pid (met s.now)) result out.new }
     ensures within { result ≤ longest 7 }
 {
     let t = onward(s, d.field, 3);
@@ -28,7 +28,7 @@ pub fn patient(out: &mut [u8], s: &[u8], d: Delims) -> usize
 // From PID-5 on.
 fn from_names(out: &mut [u8], at: usize, t: &[u8], d: Delims) -> usize
     requires { Proper d × (length t.now ≤ 4096) × Near 6 at }
-    ensures lined { Lined at out.old (fromNames d (met t.now)) result out.new }
+    ensures lined { Lined at out.old (from_names d (met t.now)) result out.new }
     ensures within { result ≤ at + longest 6 }
 {
     let f = piece(t, d.field);
@@ -40,7 +40,7 @@ fn from_names(out: &mut [u8], at: usize, t: &[u8], d: Delims) -> usize
 // PID-5.
 fn names(out: &mut [u8], at: usize, f: &[u8], d: Delims) -> usize
     requires { Proper d × (length f.now ≤ 4096) × (has d.field (met f.now) ≡ false) × Near 4 at }
-    ensures lined { Lined at out.old (namesLines d (met f.now)) result out.new }
+    ensures lined { Lined at out.old (names_lines d (met f.now)) result out.new }
     ensures within { result ≤ at + longest 4 }
 {
     let at = name(out, at, b"family=", b"given=", f, b'I', d);
@@ -58,7 +58,7 @@ fn name<'a>(
     d: Delims,
 ) -> usize
     requires { Proper d × (length family.now ≤ 16) × (length given.now ≤ 16) × (length f.now ≤ 4096) × (has d.field (met f.now) ≡ false) × Near 2 at }
-    ensures lined { Lined at out.old (nameLines d family.now given.now (orEmpty (firstMarked d (mark ∷ []) (split d.repetition (met f.now))))) result out.new }
+    ensures lined { Lined at out.old (name_lines d family.now given.now (or_empty (first_marked d (mark ∷ []) (split d.repetition (met f.now))))) result out.new }
     ensures within { result ≤ at + longest 2 }
 {
     let t = closed::repetition(f, d, mark);

@@ -4,8 +4,8 @@ ghost use Rattle.rules.specs.declared.Name.TheVariants.{Obx};
 ghost use Rattle.rules.specs.Shift.{met};
 ghost use Rattle.rules.specs.Proper.{Proper};
 ghost use Rattle.fill.specs.Fill.{Lined, longest, Near};
-ghost use Rattle.sources.specs.Sources.{linesOfBody};
-ghost use Rattle.report_result.specs.Result.{fromItem, fromValue, fromUnit};
+ghost use Rattle.sources.specs.Sources.{lines_of_body};
+ghost use Rattle.report_result.specs.Result.{from_item, from_value, from_unit};
 
 use rules::Delims;
 use sources::{field_behind, first_component, next_component, onward, piece};
@@ -13,7 +13,7 @@ use sources::{field_behind, first_component, next_component, onward, piece};
 // OBX.
 pub fn result(out: &mut [u8], s: &[u8], d: Delims) -> usize
     requires { Proper d × (length s.now ≤ 4096) }
-    ensures lined { Lined 0 out.old (linesOfBody d Obx (met s.now)) result out.new }
+    ensures lined { Lined 0 out.old (lines_of_body d Obx (met s.now)) result out.new }
     ensures within { result ≤ longest 10 }
 {
     let t = onward(s, d.field, 2);
@@ -25,7 +25,7 @@ pub fn result(out: &mut [u8], s: &[u8], d: Delims) -> usize
 // From OBX-3 on, and the type.
 fn from_item<'a>(out: &mut [u8], t: &'a [u8], obx2: &'a [u8], d: Delims) -> usize
     requires { Proper d × (length t.now ≤ 4096) × (length obx2.now ≤ 4096) }
-    ensures lined { Lined 0 out.old (fromItem d (met t.now) (met obx2.now)) result out.new }
+    ensures lined { Lined 0 out.old (from_item d (met t.now) (met obx2.now)) result out.new }
     ensures within { result ≤ longest 10 }
 {
     let code = first_component(t, d);
@@ -39,7 +39,7 @@ fn from_item<'a>(out: &mut [u8], t: &'a [u8], obx2: &'a [u8], d: Delims) -> usiz
 // From OBX-5 on, by the type.
 fn from_value<'a>(out: &mut [u8], at: usize, t: &'a [u8], obx2: &'a [u8], d: Delims) -> usize
     requires { Proper d × (length t.now ≤ 4096) × (length obx2.now ≤ 4096) × Near 7 at }
-    ensures lined { Lined at out.old (fromValue d (met t.now) (met obx2.now)) result out.new }
+    ensures lined { Lined at out.old (from_value d (met t.now) (met obx2.now)) result out.new }
     ensures within { result ≤ at + longest 7 }
 {
     let f = piece(t, d.field);
@@ -51,7 +51,7 @@ fn from_value<'a>(out: &mut [u8], at: usize, t: &'a [u8], obx2: &'a [u8], d: Del
 // From OBX-6 on.
 fn from_unit(out: &mut [u8], at: usize, t: &[u8], d: Delims) -> usize
     requires { Proper d × (length t.now ≤ 4096) × Near 3 at }
-    ensures lined { Lined at out.old (fromUnit d (met t.now)) result out.new }
+    ensures lined { Lined at out.old (from_unit d (met t.now)) result out.new }
     ensures within { result ≤ at + longest 3 }
 {
     let unit = first_component(t, d);

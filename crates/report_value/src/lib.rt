@@ -2,9 +2,9 @@
 ghost use Rattle.std.specs.Prelude.{◌≡◌, [], ◌∷◌, ◌+◌, ◌≤◌, length};
 ghost use Rattle.rules.specs.Shift.{met};
 ghost use Rattle.rules.specs.Proper.{Proper};
-ghost use Rattle.rules.specs.Judge.{plain_of, isSN, rawFour};
+ghost use Rattle.rules.specs.Judge.{plain_of, is_sn, raw_four};
 ghost use Rattle.fill.specs.Fill.{Lined, longest, Near};
-ghost use Rattle.report_value.specs.Value.{fourLines, fourIn, onlyIn, valueLine};
+ghost use Rattle.report_value.specs.Value.{four_lines, four_in, only_in, value_line};
 
 use rules::Delims;
 use sources::{onward, piece};
@@ -12,7 +12,7 @@ use sources::{onward, piece};
 // OBX-5, by the type.
 pub fn parts(out: &mut [u8], at: usize, f: &[u8], obx2: &[u8], d: Delims) -> usize
     requires { Proper d × (length f.now ≤ 4096) × (length obx2.now ≤ 4096) × Near 4 at }
-    ensures lined { Lined at out.old (fourLines d (rawFour d (plain_of d (met obx2.now)) (met f.now))) result out.new }
+    ensures lined { Lined at out.old (four_lines d (raw_four d (plain_of d (met obx2.now)) (met f.now))) result out.new }
     ensures within { result ≤ at + longest 4 }
 {
     if is_sn(obx2, d) {
@@ -24,7 +24,7 @@ pub fn parts(out: &mut [u8], at: usize, f: &[u8], obx2: &[u8], d: Delims) -> usi
 // Whether a type is SN.
 fn is_sn(obx2: &[u8], d: Delims) -> bool
     requires { Proper d × (length obx2.now ≤ 4096) }
-    ensures { result ≡ isSN (plain_of d (met obx2.now)) }
+    ensures { result ≡ is_sn (plain_of d (met obx2.now)) }
 {
     let mut word = [0u8; 2];
     let n = fill::text(&mut word, obx2, d);
@@ -34,7 +34,7 @@ fn is_sn(obx2: &[u8], d: Delims) -> bool
 // SN's four components.
 fn numbers(out: &mut [u8], at: usize, f: &[u8], d: Delims) -> usize
     requires { Proper d × (length f.now ≤ 4096) × Near 4 at }
-    ensures lined { Lined at out.old (fourLines d (fourIn d (met f.now))) result out.new }
+    ensures lined { Lined at out.old (four_lines d (four_in d (met f.now))) result out.new }
     ensures within { result ≤ at + longest 4 }
 {
     let compare = piece(f, d.component);
@@ -57,7 +57,7 @@ fn four<'a>(
     d: Delims,
 ) -> usize
     requires { Proper d × (length compare.now ≤ 4096) × (length value.now ≤ 4096) × (length join.now ≤ 4096) × (length second.now ≤ 4096) × Near 4 at }
-    ensures lined { Lined at out.old (fourLines d (record { compare = met compare.entry.now; value = met value.now; join = met join.now; second = met second.now })) result out.new }
+    ensures lined { Lined at out.old (four_lines d (record { compare = met compare.entry.now; value = met value.now; join = met join.now; second = met second.now })) result out.new }
     ensures within { result ≤ at + longest 4 }
 {
     let at = fill::two_lines(out, at, b"compare=", compare, b"value=", value, d);
@@ -67,7 +67,7 @@ fn four<'a>(
 // The value of another type, with nothing beside it: "For NM and ST, compare, join and second are blank."
 fn single(out: &mut [u8], at: usize, f: &[u8], d: Delims) -> usize
     requires { Proper d × (length f.now ≤ 4096) × Near 4 at }
-    ensures lined { Lined at out.old (fourLines d (onlyIn d (met f.now))) result out.new }
+    ensures lined { Lined at out.old (four_lines d (only_in d (met f.now))) result out.new }
     ensures within { result ≤ at + longest 4 }
 {
     let at = fill::blank_line(out, at, b"compare=");
@@ -79,7 +79,7 @@ fn single(out: &mut [u8], at: usize, f: &[u8], d: Delims) -> usize
 // The first component; where that is the whole field and has no escapes, the field as it is.
 fn value(out: &mut [u8], at: usize, f: &[u8], d: Delims) -> usize
     requires { Proper d × (length f.now ≤ 4096) × Near 1 at }
-    ensures lined { Lined at out.old (valueLine d (met f.now) ∷ []) result out.new }
+    ensures lined { Lined at out.old (value_line d (met f.now) ∷ []) result out.new }
     ensures within { result ≤ at + longest 1 }
 {
     let c = scan::first(f, d);

@@ -9,17 +9,17 @@ use Rattle.rules.specs.declared.Delims.{Delims}
 use Rattle.rules.specs.declared.Name.{Name}
 use Rattle.rules.specs.declared.Name.TheVariants.{Msh, Pv1, Spm, Obr}
 use Rattle.rules.specs.Told.{Told, gives, ◌>>◌, ◌when◌}
-use Rattle.rules.specs.Lists.{bytes, empty, same, has, any, split, onto, nth, ended, isOneOf}
+use Rattle.rules.specs.Lists.{bytes, empty, same, has, any, split, onto, nth, ended, is_one_of}
 use Rattle.rules.specs.Shift.{walk, step}
-use Rattle.rules.specs.Value.{fault, tooLong, holds}
+use Rattle.rules.specs.Value.{fault, too_long, holds}
 use Rattle.rules.specs.Frame.{Known}
 use Rattle.rules.specs.Proper.{Proper}
-use Rattle.rules.specs.Places.{Place, Field, reads, closed, places, entryIn, entry_of}
-use Rattle.rules.specs.View.{piece_of, field_of, componentOf, firstRepetition, seenIn, part_of, Segment, segmentOf, Part, whole, seen_at, part_at}
-use Rattle.rules.specs.Judge.{plain_of, judge, judgeAll}
-use Rattle.rules.specs.Check.{Context, ownFault, laterFault, partFault, partNo, faultTold, partsTold}
-use Rattle.rules.specs.Row.{Line, line, lines, fourAt}
-use Rattle.rules.specs.Sheet.{key_of, linesText}
+use Rattle.rules.specs.Places.{Place, Field, reads, closed, places, entry_in, entry_of}
+use Rattle.rules.specs.View.{piece_of, field_of, component_of, first_repetition, seen_in, part_of, Segment, segment_of, Part, whole, seen_at, part_at}
+use Rattle.rules.specs.Judge.{plain_of, judge, judge_all}
+use Rattle.rules.specs.Check.{Context, own_fault, later_fault, part_fault, part_no, fault_told, parts_told}
+use Rattle.rules.specs.Row.{Line, line, lines, four_at}
+use Rattle.rules.specs.Sheet.{key_of, lines_text}
 use Rattle.rules.proofs.Logic.{then-none, not-given}
 use Rattle.rules.proofs.Lists.{from}
 use Rattle.rules.proofs.Clean.{Cleans}
@@ -31,16 +31,16 @@ use Rattle.returns.proofs.Measures.{size_of, lines-size}
 -- ---- the table of places, read backwards
 abbrev pub Fairs : Delims → List ℕ → List Place → Type 0
 Fairs d r [] = Unit
-Fairs d r (q ∷ qs) = Fair q.required q.rule (componentOf d r q.component) (plain_of d (componentOf d r q.component)) × Fairs d r qs
+Fairs d r (q ∷ qs) = Fair q.required q.rule (component_of d r q.component) (plain_of d (component_of d r q.component)) × Fairs d r qs
 
 abbrev pub Zeros : Delims → Context → Known → List Field → Type 0
 Zeros d ctx k [] = Unit
-Zeros d ctx k (reads n qs ∷ fs) = Fairs d (firstRepetition d (field_of d k n)) qs × (laterFault d ctx (segmentOf d k) n ≡ 0) × Zeros d ctx k fs
+Zeros d ctx k (reads n qs ∷ fs) = Fairs d (first_repetition d (field_of d k n)) qs × (later_fault d ctx (segment_of d k) n ≡ 0) × Zeros d ctx k fs
 Zeros d ctx k (closed n form ∷ fs) =
-    (ownFault d (segmentOf d k) (whole n form (field_of d k n)) ≡ 0) × (laterFault d ctx (segmentOf d k) n ≡ 0) × Zeros d ctx k fs
+    (own_fault d (segment_of d k) (whole n form (field_of d k n)) ≡ 0) × (later_fault d ctx (segment_of d k) n ≡ 0) × Zeros d ctx k fs
 
-told-zero : (i f n : ℕ) (t : Told (Unit {0})) → (faultTold i f n >> t) ≡ gives tt → (n ≡ 0) × (t ≡ gives tt)
-unfolding faultTold
+told-zero : (i f n : ℕ) (t : Told (Unit {0})) → (fault_told i f n >> t) ≡ gives tt → (n ≡ 0) × (t ≡ gives tt)
+unfolding fault_told
 told-zero i f zero t h = (refl, h)
 told-zero i f (suc n) t h = not-given h
 
@@ -49,66 +49,66 @@ module _ (d : Delims) (p : Proper d) where
   unfolding field_of
   whole-field k W n = whole-nth d.field p.field k.body W (piece_of k.name n)
 
-  pub whole-component : (r : List ℕ) → Whole r → (c : ℕ) → Whole (componentOf d r c)
-  unfolding componentOf
+  pub whole-component : (r : List ℕ) → Whole r → (c : ℕ) → Whole (component_of d r c)
+  unfolding component_of
   whole-component r W c = whole-nth d.component p.component r W (c - 1)
 
-  whole-first : (r : List ℕ) → Whole r → Whole (firstRepetition d r)
-  unfolding firstRepetition
+  whole-first : (r : List ℕ) → Whole r → Whole (first_repetition d r)
+  unfolding first_repetition
   whole-first r W = whole-nth d.repetition p.repetition r W 0
 
-  fairs : (r : List ℕ) → Whole r → (qs : List Place) → judgeAll d (map (seenIn d r) qs) ≡ 0 → Fairs d r qs
-  unfolding judgeAll seenIn
+  fairs : (r : List ℕ) → Whole r → (qs : List Place) → judge_all d (map (seen_in d r) qs) ≡ 0 → Fairs d r qs
+  unfolding judge_all seen_in
   fairs r W [] h = tt
   fairs r W (q ∷ qs) h =
-      let z = then-none (judge d q.required q.rule (componentOf d r q.component)) (judgeAll d (map (seenIn d r) qs)) h in
-      (fair d p q.required q.rule (componentOf d r q.component) (whole-component r W q.component) z.0, fairs r W qs z.1)
+      let z = then-none (judge d q.required q.rule (component_of d r q.component)) (judge_all d (map (seen_in d r) qs)) h in
+      (fair d p q.required q.rule (component_of d r q.component) (whole-component r W q.component) z.0, fairs r W qs z.1)
 
-  part-zero : (ctx : Context) (i : ℕ) (s : Segment) (q : Part) (qs : List Part) → partsTold d ctx i s (q ∷ qs) ≡ gives tt
-      → (ownFault d s q ≡ 0) × (laterFault d ctx s (partNo q) ≡ 0) × (partsTold d ctx i s qs ≡ gives tt)
-  unfolding partsTold partFault
+  part-zero : (ctx : Context) (i : ℕ) (s : Segment) (q : Part) (qs : List Part) → parts_told d ctx i s (q ∷ qs) ≡ gives tt
+      → (own_fault d s q ≡ 0) × (later_fault d ctx s (part_no q) ≡ 0) × (parts_told d ctx i s qs ≡ gives tt)
+  unfolding parts_told part_fault
   part-zero ctx i s q qs h =
-      let z = told-zero i (partNo q) (partFault d ctx s q) (partsTold d ctx i s qs) h in
-      let y = then-none (ownFault d s q) (laterFault d ctx s (partNo q)) z.0 in
+      let z = told-zero i (part_no q) (part_fault d ctx s q) (parts_told d ctx i s qs) h in
+      let y = then-none (own_fault d s q) (later_fault d ctx s (part_no q)) z.0 in
       (y.0, y.1, z.1)
 
-  own-fairs : (k : Known) (s : Segment) (n : ℕ) (qs : List Place) → Whole k.body → ownFault d s (part_of d k (reads n qs)) ≡ 0 → Fairs d (firstRepetition d (field_of d k n)) qs
-  unfolding ownFault part_of
+  own-fairs : (k : Known) (s : Segment) (n : ℕ) (qs : List Place) → Whole k.body → own_fault d s (part_of d k (reads n qs)) ≡ 0 → Fairs d (first_repetition d (field_of d k n)) qs
+  unfolding own_fault part_of
   own-fairs k s n qs W h =
-      fairs (firstRepetition d (field_of d k n)) (whole-first (field_of d k n) (whole-field k W n)) qs
-      (then-none (22 when has d.repetition (field_of d k n)) (judgeAll d (map (seenIn d (firstRepetition d (field_of d k n))) qs)) h).1
+      fairs (first_repetition d (field_of d k n)) (whole-first (field_of d k n) (whole-field k W n)) qs
+      (then-none (22 when has d.repetition (field_of d k n)) (judge_all d (map (seen_in d (first_repetition d (field_of d k n))) qs)) h).1
 
-  pub zeros : (ctx : Context) (i : ℕ) (k : Known) (fs : List Field) → Whole k.body → partsTold d ctx i (segmentOf d k) (map (part_of d k) fs) ≡ gives tt → Zeros d ctx k fs
-  unfolding part_of partNo
+  pub zeros : (ctx : Context) (i : ℕ) (k : Known) (fs : List Field) → Whole k.body → parts_told d ctx i (segment_of d k) (map (part_of d k) fs) ≡ gives tt → Zeros d ctx k fs
+  unfolding part_of part_no
   zeros ctx i k [] W h = tt
   zeros ctx i k (reads n qs ∷ fs) W h =
-      let z = part-zero ctx i (segmentOf d k) (part_of d k (reads n qs)) (map (part_of d k) fs) h in
-      (own-fairs k (segmentOf d k) n qs W z.0, z.1, zeros ctx i k fs W z.2)
+      let z = part-zero ctx i (segment_of d k) (part_of d k (reads n qs)) (map (part_of d k) fs) h in
+      (own-fairs k (segment_of d k) n qs W z.0, z.1, zeros ctx i k fs W z.2)
   zeros ctx i k (closed n form ∷ fs) W h =
-      let z = part-zero ctx i (segmentOf d k) (part_of d k (closed n form)) (map (part_of d k) fs) h in
+      let z = part-zero ctx i (segment_of d k) (part_of d k (closed n form)) (map (part_of d k) fs) h in
       (z.0, z.1, zeros ctx i k fs W z.2)
 
 -- ---- each segment
 pub record GoodSeg (k : Known) (vs : List (List ℕ)) : Type 0 where
   pub ok : Facts (lines k.name) [] vs
   pub tidy : Cleans vs
-  pub size : length (ended 0x0A (linesText (lines k.name) vs)) ≤ length k.body + 48
+  pub size : length (ended 0x0A (lines_text (lines k.name) vs)) ≤ length k.body + 48
 
 abbrev pub sources : Delims → Known → List (List ℕ)
-sources d k = map (λ (l : Line). l.source d (segmentOf d k)) (lines k.name)
+sources d k = map (λ (l : Line). l.source d (segment_of d k)) (lines k.name)
 
 abbrev pub seg : Name → ℕ → List ℕ → Known
 seg n at body = record { name = n; start = at; body = body }
 
 -- to unfold this name is to unfold the tables of places and lines, and the measures of pieces
 unfoldable pub readings : Unit {0}
-unfolding lines line fourAt segmentOf places part_of seenIn part_at seen_at entryIn entry_of size_of key_of bytes field_of piece_of sum from ownFault laterFault
+unfolding lines line four_at segment_of places part_of seen_in part_at seen_at entry_in entry_of size_of key_of bytes field_of piece_of sum from own_fault later_fault
 readings = tt
 
 module _ (d : Delims) where
   -- a component of a field's first repetition is no longer than the field
-  pub component-short : (r : List ℕ) (c : ℕ) → length (componentOf d (firstRepetition d r) c) ≤ length r
-  unfolding componentOf firstRepetition
+  pub component-short : (r : List ℕ) (c : ℕ) → length (component_of d (first_repetition d r) c) ≤ length r
+  unfolding component_of first_repetition
   component-short r c = omega (arith, nth-short d.component (nth (split d.repetition r) 0) (c - 1), nth-short d.repetition r 0)
 
   module _ (ctx : Context) (at : ℕ) (body : List ℕ) where
@@ -150,7 +150,7 @@ module _ (d : Delims) where
         }
 
     pub msh-good : Zeros d ctx (seg Msh at body) (places Msh) → GoodSeg (seg Msh at body) (sources d (seg Msh at body))
-    unfolding readings same fault empty tooLong holds isOneOf any split onto
+    unfolding readings same fault empty too_long holds is_one_of any split onto
     msh-good Z =
         let k = seg Msh at body in
         let f7 = Z.0.0 in

@@ -10,20 +10,20 @@ use lib.ListN.{length}
 use Rattle.rules.specs.declared.Delims.{Delims}
 use Rattle.rules.specs.declared.Name.TheVariants.{Pid, Obx}
 use Rattle.rules.specs.Told.{◌when◌}
-use Rattle.rules.specs.Lists.{bytes, empty, filled, orEmpty, same, has, split, onto, nth, isOneOf}
+use Rattle.rules.specs.Lists.{bytes, empty, filled, or_empty, same, has, split, onto, nth, is_one_of}
 use Rattle.rules.specs.Proper.{Proper}
 use Rattle.rules.specs.Value.{Rule, fault, holds, words, text, fits}
-use Rattle.rules.specs.Escape.{unescape, unescapeAt}
-use Rattle.rules.specs.Places.{places, Four, valueRules}
-use Rattle.rules.specs.View.{field_of, componentOf, firstRepetition}
-use Rattle.rules.specs.Judge.{faultOr23, plain_of, judge, firstMarked, kanji, kana, nameFault, markedFault, namesFault, isSN, rawFour, beside, unjoined, partsFault, valueFault, agrees}
+use Rattle.rules.specs.Escape.{unescape, unescape_at}
+use Rattle.rules.specs.Places.{places, Four, value_rules}
+use Rattle.rules.specs.View.{field_of, component_of, first_repetition}
+use Rattle.rules.specs.Judge.{fault_or23, plain_of, judge, first_marked, kanji, kana, name_fault, marked_fault, names_fault, is_sn, raw_four, beside, unjoined, parts_fault, value_fault, agrees}
 use Rattle.rules.specs.Check.{Context}
 use Rattle.rules.specs.Row.{lines}
 use Rattle.rules.proofs.Logic.{cases, never, not-false, then-none, when-none}
 use Rattle.rules.proofs.Lists.{same-eq, from, one_word}
 use Rattle.rules.proofs.Measures.{sum, pieces-fit, piece-there, nth-short, split-sum}
 use Rattle.returns.proofs.Groups.{must-may, must-filled, meets-rule}
-use Rattle.returns.proofs.Closed.{first-cons, fourOf}
+use Rattle.returns.proofs.Closed.{first-cons, four_of}
 use Rattle.returns.proofs.Whole.{Whole, whole-nth, whole-nil, Fair, fair}
 use Rattle.returns.proofs.Measures.{lines-size}
 use Rattle.returns.proofs.Accepted.{Zeros, whole-field, whole-component, GoodSeg, sources, seg, readings, component-short}
@@ -41,50 +41,50 @@ there {r} {raw} {v} f = omega (arith, f.size, long-one v (must-filled r v f.keep
 -- ---- PID-5
 -- a marked repetition is one of them; blank where there is none
 abbrev marked : Delims → List ℕ → List (List ℕ) → List ℕ
-marked d m rs = orEmpty (firstMarked d m rs)
+marked d m rs = or_empty (first_marked d m rs)
 
 record Found (d : Delims) (m : List ℕ) (rs : List (List ℕ)) : Type 0 where
   i : ℕ
   is : marked d m rs ≡ nth rs i
 
-marked-cons : (d : Delims) (m r : List ℕ) (rs : List (List ℕ)) → marked d m (r ∷ rs) ≡ cond (same (componentOf d r 8) m) r (marked d m rs)
-unfolding orEmpty
-marked-cons d m r rs = ap orEmpty (first-cons d m r rs) ∙ cases (same (componentOf d r 8) m) (λ e. rw e) (λ e. rw e)
+marked-cons : (d : Delims) (m r : List ℕ) (rs : List (List ℕ)) → marked d m (r ∷ rs) ≡ cond (same (component_of d r 8) m) r (marked d m rs)
+unfolding or_empty
+marked-cons d m r rs = ap or_empty (first-cons d m r rs) ∙ cases (same (component_of d r 8) m) (λ e. rw e) (λ e. rw e)
 
 found : (d : Delims) (m : List ℕ) (rs : List (List ℕ)) → Found d m rs
-found d m [] = record { i = 0; is = unfold firstMarked orEmpty in refl }
+found d m [] = record { i = 0; is = unfold first_marked or_empty in refl }
 found d m (r ∷ rs) =
     let f = found d m rs in
-    cases (same (componentOf d r 8) m)
+    cases (same (component_of d r 8) m)
     (λ e. record { i = 0; is = rw (marked-cons d m r rs, e) })
     (λ e. record { i = suc f.i; is = rw (marked-cons d m r rs, e) f.is })
 
 marked-short : (d : Delims) (m : List ℕ) (rs : List (List ℕ)) → length (marked d m rs) ≤ sum rs
 unfolding sum
-marked-short d m [] = unfold firstMarked orEmpty in omega arith
+marked-short d m [] = unfold first_marked or_empty in omega arith
 marked-short d m (r ∷ rs) =
     rw (marked-cons d m r rs)
-    (cases (same (componentOf d r 8) m) (λ e. rw e (omega arith)) (λ e. rw e (omega (arith, marked-short d m rs))))
+    (cases (same (component_of d r 8) m) (λ e. rw e (omega arith)) (λ e. rw e (omega (arith, marked-short d m rs))))
 
 -- two marks, two repetitions
 marked-both : (d : Delims) (a b : List ℕ) → same a b ≡ false → (rs : List (List ℕ)) → length (marked d a rs) + length (marked d b rs) ≤ sum rs
 unfolding sum
-marked-both d a b n [] = unfold firstMarked orEmpty in omega arith
+marked-both d a b n [] = unfold first_marked or_empty in omega arith
 marked-both d a b n (r ∷ rs) =
     rw (marked-cons d a r rs, marked-cons d b r rs)
-    (cases (same (componentOf d r 8) a)
+    (cases (same (component_of d r 8) a)
     (λ e.
-    let q : same (componentOf d r 8) b ≡ false = rw (same-eq (componentOf d r 8) a e) n in
+    let q : same (component_of d r 8) b ≡ false = rw (same-eq (component_of d r 8) a e) n in
     rw (e, q) (omega (arith, marked-short d b rs)))
-    (λ e. cases (same (componentOf d r 8) b)
+    (λ e. cases (same (component_of d r 8) b)
     (λ f. rw (e, f) (omega (arith, marked-short d a rs)))
     (λ f. rw (e, f) (omega (arith, marked-both d a b n rs)))))
 
 abbrev part : Delims → ℕ → List ℕ → List ℕ
-part d c r = plain_of d (componentOf d r c)
+part d c r = plain_of d (component_of d r c)
 
 abbrev NameFair : Delims → Bool → ℕ → List ℕ → Type 0
-NameFair d q c r = Fair q (text 48) (componentOf d r c) (part d c r)
+NameFair d q c r = Fair q (text 48) (component_of d r c) (part d c r)
 
 -- a kana name: blank where there is none
 record KanaGood (d : Delims) (r : List ℕ) : Type 0 where
@@ -92,47 +92,47 @@ record KanaGood (d : Delims) (r : List ℕ) : Type 0 where
   g : NameFair d false 2 r
   blanks : (filled (part d 1 r) || empty (part d 2 r)) ≡ true
 
-abbrev kanjiOf : Delims → List ℕ → List ℕ
-kanjiOf d raw = orEmpty (kanji d raw)
+abbrev kanji_of : Delims → List ℕ → List ℕ
+kanji_of d raw = or_empty (kanji d raw)
 
-abbrev kanaOf : Delims → List ℕ → List ℕ
-kanaOf d raw = orEmpty (kana d raw)
+abbrev kana_of : Delims → List ℕ → List ℕ
+kana_of d raw = or_empty (kana d raw)
 
 record NamesGood (d : Delims) (raw : List ℕ) : Type 0 where
-  f : NameFair d true 1 (kanjiOf d raw)
-  g : NameFair d false 2 (kanjiOf d raw)
-  k : KanaGood d (kanaOf d raw)
-  size : length (part d 1 (kanjiOf d raw)) + length (part d 2 (kanjiOf d raw)) + length (part d 1 (kanaOf d raw)) + length (part d 2 (kanaOf d raw)) ≤ length raw
+  f : NameFair d true 1 (kanji_of d raw)
+  g : NameFair d false 2 (kanji_of d raw)
+  k : KanaGood d (kana_of d raw)
+  size : length (part d 1 (kanji_of d raw)) + length (part d 2 (kanji_of d raw)) + length (part d 1 (kana_of d raw)) + length (part d 2 (kana_of d raw)) ≤ length raw
 
 module _ (d : Delims) (p : Proper d) where
-  name-good : (r : List ℕ) → Whole r → nameFault d r ≡ 0 → NameFair d true 1 r × NameFair d false 2 r
-  unfolding nameFault
+  name-good : (r : List ℕ) → Whole r → name_fault d r ≡ 0 → NameFair d true 1 r × NameFair d false 2 r
+  unfolding name_fault
   name-good r W h =
-      let z = then-none (judge d true (text 48) (componentOf d r 1)) (judge d false (text 48) (componentOf d r 2)) h in
-      (fair d p true (text 48) (componentOf d r 1) (whole-component d p r W 1) z.0, fair d p false (text 48) (componentOf d r 2) (whole-component d p r W 2) z.1)
+      let z = then-none (judge d true (text 48) (component_of d r 1)) (judge d false (text 48) (component_of d r 2)) h in
+      (fair d p true (text 48) (component_of d r 1) (whole-component d p r W 1) z.0, fair d p false (text 48) (component_of d r 2) (whole-component d p r W 2) z.1)
 
   marked-whole : (m raw : List ℕ) → Whole raw → Whole (marked d m (split d.repetition raw))
   marked-whole m raw W = let f = found d m (split d.repetition raw) in rw f.is (whole-nth d.repetition p.repetition raw W f.i)
 
-  two-short : (r : List ℕ) → length (componentOf d r 1) + length (componentOf d r 2) ≤ length r
-  unfolding componentOf sum from
+  two-short : (r : List ℕ) → length (component_of d r 1) + length (component_of d r 2) ≤ length r
+  unfolding component_of sum from
   two-short r = omega (arith, pieces-fit d.component r 2)
 
-  nil-fair : (c : ℕ) → componentOf d [] c ≡ [] → NameFair d false c []
-  nil-fair c e = rw e (fair d p false (text 48) [] whole-nil (unfold judge same unescape unescapeAt faultOr23 fault empty bytes in refl))
+  nil-fair : (c : ℕ) → component_of d [] c ≡ [] → NameFair d false c []
+  nil-fair c e = rw e (fair d p false (text 48) [] whole-nil (unfold judge same unescape unescape_at fault_or23 fault empty bytes in refl))
 
-  kanji-good : (o : Option (List ℕ)) → Whole (orEmpty o) → markedFault d 20 o ≡ 0 → NameFair d true 1 (orEmpty o) × NameFair d false 2 (orEmpty o)
-  unfolding orEmpty markedFault
+  kanji-good : (o : Option (List ℕ)) → Whole (or_empty o) → marked_fault d 20 o ≡ 0 → NameFair d true 1 (or_empty o) × NameFair d false 2 (or_empty o)
+  unfolding or_empty marked_fault
   kanji-good none W h = absurd (omega arith)
   kanji-good (some r) W h = name-good r W h
 
-  kana-good : (o : Option (List ℕ)) → Whole (orEmpty o) → markedFault d 0 o ≡ 0 → KanaGood d (orEmpty o)
-  unfolding orEmpty markedFault
+  kana-good : (o : Option (List ℕ)) → Whole (or_empty o) → marked_fault d 0 o ≡ 0 → KanaGood d (or_empty o)
+  unfolding or_empty marked_fault
   kana-good none W h =
       record {
-        f = nil-fair 1 (unfold componentOf split in refl);
-        g = nil-fair 2 (unfold componentOf split in refl);
-        blanks = unfold componentOf split unescape unescapeAt empty in refl;
+        f = nil-fair 1 (unfold component_of split in refl);
+        g = nil-fair 2 (unfold component_of split in refl);
+        blanks = unfold component_of split unescape unescape_at empty in refl;
       }
   kana-good (some r) W h =
       let k = name-good r W h in
@@ -143,10 +143,10 @@ module _ (d : Delims) (p : Proper d) where
         blanks = rw (must-filled (text 48) (part d 1 r) k1.keeps.1);
       }
 
-  names-good : (raw : List ℕ) → Whole raw → namesFault d raw ≡ 0 → NamesGood d raw
-  unfolding namesFault
+  names-good : (raw : List ℕ) → Whole raw → names_fault d raw ≡ 0 → NamesGood d raw
+  unfolding names_fault
   names-good raw W h =
-      let z = then-none (markedFault d 20 (kanji d raw)) (markedFault d 0 (kana d raw)) h in
+      let z = then-none (marked_fault d 20 (kanji d raw)) (marked_fault d 0 (kana d raw)) h in
       let a = kanji-good (kanji d raw) (marked-whole (bytes "I") raw W) z.0 in
       let b = kana-good (kana d raw) (marked-whole (bytes "P") raw W) z.1 in
       let s = marked-both d (bytes "I") (bytes "P") (unfold same bytes in refl) (split d.repetition raw) in
@@ -154,7 +154,7 @@ module _ (d : Delims) (p : Proper d) where
         f = a.0;
         g = a.1;
         k = b;
-        size = omega (arith, s, split-sum d.repetition raw, two-short (kanjiOf d raw), two-short (kanaOf d raw), a.0.size, a.1.size, b.f.size, b.g.size);
+        size = omega (arith, s, split-sum d.repetition raw, two-short (kanji_of d raw), two-short (kana_of d raw), a.0.size, a.1.size, b.f.size, b.g.size);
       }
 
   -- ---- PID: its name has three bytes
@@ -167,8 +167,8 @@ module _ (d : Delims) (p : Proper d) where
       let N = names-good (field_of d k 5) (whole-field d p k W 5) Z.2.0 in
       let f7 = Z.2.2.0.0 in
       let f8 = Z.2.2.2.0.0 in
-      let kg : (same (part d 2 (kanaOf d (field_of d k 5))) (bytes "\"\"") ≡ false)
-      × ((fits false (text 48) (part d 2 (kanaOf d (field_of d k 5))) && (filled (part d 1 (kanaOf d (field_of d k 5))) || empty (part d 2 (kanaOf d (field_of d k 5))))) ≡ true) =
+      let kg : (same (part d 2 (kana_of d (field_of d k 5))) (bytes "\"\"") ≡ false)
+      × ((fits false (text 48) (part d 2 (kana_of d (field_of d k 5))) && (filled (part d 1 (kana_of d (field_of d k 5))) || empty (part d 2 (kana_of d (field_of d k 5))))) ≡ true) =
       (N.k.g.keeps.0, rw N.k.g.keeps.1 N.k.blanks) in
       let c8 = component-short d (field_of d k 8) 1 in
       let l8 : 1 ≤ length (nth (split d.field body) 8) = omega (arith, there f8) in
@@ -191,8 +191,8 @@ module _ (d : Delims) (p : Proper d) where
       }
 
 -- ---- OBX-5
-abbrev plainFour : Delims → Four (List ℕ) → Four (List ℕ)
-plainFour d r = fourOf (plain_of d r.compare) (plain_of d r.value) (plain_of d r.join) (plain_of d r.second)
+abbrev plain_four : Delims → Four (List ℕ) → Four (List ℕ)
+plain_four d r = four_of (plain_of d r.compare) (plain_of d r.value) (plain_of d r.join) (plain_of d r.second)
 
 record FourGood (d : Delims) (rules : Four Rule) (r : Four (List ℕ)) : Type 0 where
   c : Fair false rules.compare r.compare (plain_of d r.compare)
@@ -203,46 +203,46 @@ record FourGood (d : Delims) (rules : Four Rule) (r : Four (List ℕ)) : Type 0 
 
 module _ (d : Delims) (p : Proper d) where
   four-sum : (type raw : List ℕ)
-      → length (rawFour d type raw).compare + length (rawFour d type raw).value + length (rawFour d type raw).join + length (rawFour d type raw).second ≤ length raw
-  unfolding rawFour sum from
+      → length (raw_four d type raw).compare + length (raw_four d type raw).value + length (raw_four d type raw).join + length (raw_four d type raw).second ≤ length raw
+  unfolding raw_four sum from
   four-sum type raw =
-      cases (isSN type)
+      cases (is_sn type)
       (λ e. rw e (omega (arith, pieces-fit d.component raw 4)))
       (λ e. rw e (omega (arith, nth-short d.component raw 0)))
 
-  four-good : (type raw : List ℕ) → Whole raw → valueFault d type raw ≡ 0 → FourGood d (valueRules type) (rawFour d type raw)
-  unfolding valueFault partsFault rawFour
+  four-good : (type raw : List ℕ) → Whole raw → value_fault d type raw ≡ 0 → FourGood d (value_rules type) (raw_four d type raw)
+  unfolding value_fault parts_fault raw_four
   four-good type raw W h =
-      let rules = valueRules type in
-      let r = rawFour d type raw in
+      let rules = value_rules type in
+      let r = raw_four d type raw in
       let w : (i : ℕ) → Whole (nth (split d.component raw) i) = whole-nth d.component p.component raw W in
-      let parts = (then-none (23 when ltb (cond (isSN type) 4 1) (length (split d.component raw))) _ (then-none (22 when has d.repetition raw) _ h).1).1 in
+      let parts = (then-none (23 when ltb (cond (is_sn type) 4 1) (length (split d.component raw))) _ (then-none (22 when has d.repetition raw) _ h).1).1 in
       let z0 = then-none (judge d false rules.compare r.compare) _ parts in
       let z1 = then-none (judge d (beside r) rules.value r.value) _ z0.1 in
       let z2 = then-none (judge d false rules.join r.join) _ z1.1 in
       let z3 = then-none (judge d false rules.second r.second) (25 when unjoined r) z2.1 in
       record {
-        c = fair d p false rules.compare r.compare (cases (isSN type) (λ e. rw e (w 0)) (λ e. rw e whole-nil)) z0.0;
-        v = fair d p (beside r) rules.value r.value (cases (isSN type) (λ e. rw e (w 1)) (λ e. rw e (w 0))) z1.0;
-        j = fair d p false rules.join r.join (cases (isSN type) (λ e. rw e (w 2)) (λ e. rw e whole-nil)) z2.0;
-        s = fair d p false rules.second r.second (cases (isSN type) (λ e. rw e (w 3)) (λ e. rw e whole-nil)) z3.0;
+        c = fair d p false rules.compare r.compare (cases (is_sn type) (λ e. rw e (w 0)) (λ e. rw e whole-nil)) z0.0;
+        v = fair d p (beside r) rules.value r.value (cases (is_sn type) (λ e. rw e (w 1)) (λ e. rw e (w 0))) z1.0;
+        j = fair d p false rules.join r.join (cases (is_sn type) (λ e. rw e (w 2)) (λ e. rw e whole-nil)) z2.0;
+        s = fair d p false rules.second r.second (cases (is_sn type) (λ e. rw e (w 3)) (λ e. rw e whole-nil)) z3.0;
         joined = when-none 24 (unjoined r) z3.1;
       }
 
   module _ (rules : Four Rule) (r : Four (List ℕ)) (F : FourGood d rules r) where
-    plain-beside : beside (plainFour d r) ≡ beside r
+    plain-beside : beside (plain_four d r) ≡ beside r
     unfolding beside
     plain-beside = rw (F.c.blank, F.j.blank, F.s.blank)
 
-    plain-joined : unjoined (plainFour d r) ≡ false
+    plain-joined : unjoined (plain_four d r) ≡ false
     unfolding unjoined
     plain-joined = rw (F.j.blank, F.s.blank) F.joined
 
-    plain-agrees : (status : List ℕ) → agrees status (plainFour d r) ≡ agrees status r
+    plain-agrees : (status : List ℕ) → agrees status (plain_four d r) ≡ agrees status r
     unfolding agrees
     plain-agrees status = rw (plain-beside, F.v.blank)
 
-    value_there : (filled (plain_of d r.value) || not (beside (plainFour d r))) ≡ true
+    value_there : (filled (plain_of d r.value) || not (beside (plain_four d r))) ≡ true
     value_there = rw plain-beside (go (beside r) F.v.keeps.1)
       where
         go : (q : Bool) → fits q rules.value (plain_of d r.value) ≡ true → (filled (plain_of d r.value) || not q) ≡ true
@@ -251,16 +251,16 @@ module _ (d : Delims) (p : Proper d) where
 
   -- ---- OBX: its name, eleven separators, and `JC10` behind two
   word-is : (v : List ℕ) → fits true (words "JC10") v ≡ true → v ≡ bytes "JC10"
-  word-is v h = one_word v (bytes "JC10") (unfold holds isOneOf split bytes onto in (meets-rule true (words "JC10") v (must-filled (words "JC10") v h) h).1)
+  word-is v h = one_word v (bytes "JC10") (unfold holds is_one_of split bytes onto in (meets-rule true (words "JC10") v (must-filled (words "JC10") v h) h).1)
 
-  item-short : (r v : List ℕ) → Fair true (words "JC10") (componentOf d (firstRepetition d r) 3) v
-      → length (componentOf d (firstRepetition d r) 1) + length (componentOf d (firstRepetition d r) 2) + 6 ≤ length r
-  unfolding componentOf sum from bytes
+  item-short : (r v : List ℕ) → Fair true (words "JC10") (component_of d (first_repetition d r) 3) v
+      → length (component_of d (first_repetition d r) 1) + length (component_of d (first_repetition d r) 2) + 6 ≤ length r
+  unfolding component_of sum from bytes
   item-short r v f =
-      let n : length (firstRepetition d r) ≤ length r = unfold firstRepetition in nth-short d.repetition r 0 in
+      let n : length (first_repetition d r) ≤ length r = unfold first_repetition in nth-short d.repetition r 0 in
       let e : length v ≡ 4 = ap length (word-is v f.keeps.1) in
-      let t = piece-there d.component (firstRepetition d r) 2 (omega (arith, f.size)) in
-      omega (arith, f.size, pieces-fit d.component (firstRepetition d r) 3)
+      let t = piece-there d.component (first_repetition d r) 2 (omega (arith, f.size)) in
+      omega (arith, f.size, pieces-fit d.component (first_repetition d r) 3)
 
   pub obx-good : (ctx : Context) (at : ℕ) (body : List ℕ) → Whole body → 3 ≤ length (nth (split d.field body) 0) → Zeros d ctx (seg Obx at body) (places Obx)
       → GoodSeg (seg Obx at body) (sources d (seg Obx at body))
@@ -274,11 +274,11 @@ module _ (d : Delims) (p : Proper d) where
       let f6 = Z.2.2.2.0.0 in
       let f8 = Z.2.2.2.2.0.0 in
       let f11 = Z.2.2.2.2.2.0.0 in
-      let type = plain_of d (componentOf d (firstRepetition d (field_of d k 2)) 1) in
-      let status = plain_of d (componentOf d (firstRepetition d (field_of d k 11)) 1) in
+      let type = plain_of d (component_of d (first_repetition d (field_of d k 2)) 1) in
+      let status = plain_of d (component_of d (first_repetition d (field_of d k 11)) 1) in
       let raw = field_of d k 5 in
-      let R = rawFour d type raw in
-      let r = valueRules type in
+      let R = raw_four d type raw in
+      let r = value_rules type in
       let F = four-good type raw (whole-field d p k W 5) Z.2.2.0 in
       let a : agrees status R ≡ true = not-false (agrees status R) (when-none 25 (not (agrees status R)) (then-none (26 when not (agrees status R)) _ Z.2.2.2.2.2.1).0) in
       let c11 = component-short d (field_of d k 11) 1 in

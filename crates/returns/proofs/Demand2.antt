@@ -14,16 +14,16 @@ use Rattle.rules.specs.declared.Name.TheVariants.{Spm, Obr, Obx}
 use Rattle.rules.specs.declared.Written.TheVariants.{Wrote}
 use Rattle.rules.specs.Told.{Told, gives, refused, accepted, length_of, Call}
 use Rattle.rules.specs.Lists.{bytes, starts, all, any, has, distinct, count}
-use Rattle.rules.specs.Frame.{delimsOk, is}
+use Rattle.rules.specs.Frame.{delims_ok, is}
 use Rattle.rules.specs.View.{view}
-use Rattle.rules.specs.Check.{checkTold}
+use Rattle.rules.specs.Check.{check_told}
 use Rattle.rules.specs.Row.{line, lines, Row, header, patient, visit, specimen, order, result, group_of, values, rows_of}
-use Rattle.rules.specs.Sheet.{key_of, linesText, row_lines, sheetOf, readSheet, sheetTold, toSheet}
-use Rattle.rules.specs.Message.{base, written, messageOf, messageTold, toMessage}
-use Rattle.rules.proofs.Logic.{cases, toldCases, guard, not-given}
+use Rattle.rules.specs.Sheet.{key_of, lines_text, row_lines, sheet_of, read_sheet, sheet_told, to_sheet}
+use Rattle.rules.specs.Message.{base, written, message_of, message_told, to_message}
+use Rattle.rules.proofs.Logic.{cases, told_cases, guard, not-given}
 use Rattle.rules.proofs.Lists.{take_own}
 use Rattle.rules.proofs.Unique.{length-unique}
-use Rattle.returns.specs.Demand2.{toMessageBy, linesWith, lineCounts, Only44Or45, given, overflow, short, SheetIsWritten, SheetReturns, MessageReturns, SheetCalls, MessageCalls}
+use Rattle.returns.specs.Demand2.{to_message_by, lines_with, line_counts, Only44Or45, given, overflow, short, SheetIsWritten, SheetReturns, MessageReturns, SheetCalls, MessageCalls}
 use Rattle.returns.proofs.Messages.{counted, rows-return}
 use Rattle.returns.proofs.Sheets.{SheetIs, sheet-is, sheet-read}
 use Rattle.returns.proofs.Accepts.{wrote, segments-short, message-accepted}
@@ -35,10 +35,10 @@ begins key ts = count (starts (bytes key)) ts
 
 -- a row of the group g has one line that begins with the key, and other rows have none
 abbrev OneLine : String → Name → Row → List (List ℕ) → Type 0
-OneLine key g r ts = begins key (linesText (lines (group_of r)) (values r) ++ ts) ≡ cond (is g (group_of r)) 1 0 + begins key ts
+OneLine key g r ts = begins key (lines_text (lines (group_of r)) (values r) ++ ts) ≡ cond (is g (group_of r)) 1 0 + begins key ts
 
 one_line : (r : Row) (ts : List (List ℕ)) → OneLine "specimen=" Spm r ts × OneLine "order=" Obr r ts × OneLine "item=" Obx r ts
-unfolding count starts bytes linesText lines line key_of values
+unfolding count starts bytes lines_text lines line key_of values
 one_line (header a b c) ts = (omega arith, omega arith, omega arith)
 one_line (patient a b c d e f g) ts = (omega arith, omega arith, omega arith)
 one_line (visit a) ts = (omega arith, omega arith, omega arith)
@@ -51,8 +51,8 @@ unfolding row_lines count
 lines-counted key g h [] = refl
 lines-counted key g h (r ∷ rs) = rw (h r (row_lines rs), lines-counted key g h rs)
 
-counts_of : (s : List ℕ) (rows : List Row) → SheetIs s rows → lineCounts s ≡ accepted (counted Spm rows) (counted Obr rows) (counted Obx rows)
-unfolding lineCounts linesWith
+counts_of : (s : List ℕ) (rows : List Row) → SheetIs s rows → line_counts s ≡ accepted (counted Spm rows) (counted Obr rows) (counted Obx rows)
+unfolding line_counts lines_with
 counts_of s rows S =
     rw (
       S.lines,
@@ -62,26 +62,26 @@ counts_of s rows S =
     )
 
 -- ---- from a sheet
-told-only : (d : Delims) (rows : List Row) (room : ℕ) → Only44Or45 (messageTold d rows room)
-unfolding messageTold
+told-only : (d : Delims) (rows : List Row) (room : ℕ) → Only44Or45 (message_told d rows room)
+unfolding message_told
 told-only d rows room =
-    cases (ltb 32768 (length (messageOf d rows)) || ltb 512 (length (written d rows)))
+    cases (ltb 32768 (length (message_of d rows)) || ltb 512 (length (written d rows)))
     (λ e. overflow (rw e))
-    (λ e. cases (ltb room (length (messageOf d rows))) (λ f. short (rw (e, f))) (λ f. given (messageOf d rows) (rw (e, f))))
+    (λ e. cases (ltb room (length (message_of d rows))) (λ f. short (rw (e, f))) (λ f. given (message_of d rows) (rw (e, f))))
 
 pub sheet-is-written : SheetIsWritten
-unfolding toMessageBy
+unfolding to_message_by
 sheet-is-written d s rows room h = rw h (told-only d rows room)
 
 -- the rows of the sheet that was written
-rows_told : (d : Delims) (s m : List ℕ) (room : ℕ) {P : Type 0} → toMessageBy d s room ≡ gives m → ((rows : List Row) → readSheet s ≡ gives rows → messageTold d rows room ≡ gives m → P) → P
-unfolding toMessageBy
-rows_told d s m room h f = toldCases (readSheet s) (λ rows e. f rows e (rw e at h)) (λ a b c e. not-given (rw e at h))
+rows_told_lem : (d : Delims) (s m : List ℕ) (room : ℕ) {P : Type 0} → to_message_by d s room ≡ gives m → ((rows : List Row) → read_sheet s ≡ gives rows → message_told d rows room ≡ gives m → P) → P
+unfolding to_message_by
+rows_told_lem d s m room h f = told_cases (read_sheet s) (λ rows e. f rows e (rw e at h)) (λ a b c e. not-given (rw e at h))
 
 pub sheet-returns : SheetReturns
-unfolding toSheet sheetTold
+unfolding to_sheet sheet_told
 sheet-returns d ok s m room h =
-    rows_told d s m room h
+    rows_told_lem d s m room h
     (λ rows hs hm.
     let S = sheet-is s rows hs in
     let w = wrote d rows room m hm in
@@ -94,19 +94,19 @@ sheet-returns d ok s m room h =
 
 -- ---- from a message
 pub message-returns : MessageReturns
-unfolding toSheet sheetTold
+unfolding to_sheet sheet_told
 message-returns m c h =
     let rows = rows_of (view m) in
     let R = rows-of-accepted m c h in
     let r = sheet-read rows R.ok R.tidy (omega (arith, R.size)) in
     record {
-      sheet = sheetOf rows;
+      sheet = sheet_of rows;
       rows = rows;
       given = λ room. rw h;
       under57000 = R.size;
       read = r;
       again = λ d ok n room k.
-          rows_told d (sheetOf rows) n room k
+          rows_told_lem d (sheet_of rows) n room k
           (λ rs hs hm.
           let e : rs ≡ rows = cc in
           let w = wrote d rows room n (rw e at hm) in
@@ -115,18 +115,18 @@ message-returns m c h =
     }
 
 -- ---- of the calls
-pub base_ok : delimsOk base ≡ true
-unfolding delimsOk base all has any bytes distinct
+pub base_ok : delims_ok base ≡ true
+unfolding delims_ok base all has any bytes distinct
 base_ok = refl
 
-pub by-base : (s : List ℕ) (room : ℕ) → toMessageBy base s room ≡ toMessage s room
-unfolding toMessage toMessageBy
+pub by-base : (s : List ℕ) (room : ℕ) → to_message_by base s room ≡ to_message s room
+unfolding to_message to_message_by
 by-base s room = refl
 
 -- what a call that wrote has written
 called : (t : Told (List ℕ)) (n : ℕ) (b a : List ℕ) {P : Type 0} → Call t b (Wrote n) a → ((w : List ℕ) → t ≡ gives w → take n a ≡ w → P) → P
 called t n b a C f =
-    toldCases t
+    told_cases t
     (λ w e.
     let l : gives n ≡ gives (length w) = rw e at C.told in
     let k : n ≡ length w = cc in
@@ -136,10 +136,10 @@ called t n b a C f =
 
 pub sheet-calls : SheetCalls
 sheet-calls s out out' back back' n r C D fits =
-    called (toMessage s (length out)) n out out' C
+    called (to_message s (length out)) n out out' C
     (λ m e t.
     let R = sheet-returns base base_ok s m (length out) (by-base s (length out) ∙ e) in
-    let g : toSheet (take n out') (length back) ≡ gives s = rw t (R.sheet (length back) fits) in
+    let g : to_sheet (take n out') (length back) ≡ gives s = rw t (R.sheet (length back) fits) in
     (rw t R.counts, length-unique r (Wrote (length s)) (rw g at D.told), rw g at D.buffer))
 
 -- the length of what only 44 or 45 refuses
@@ -148,23 +148,23 @@ only-length t (given w e) = given (length w) (rw e)
 only-length t (overflow e) = overflow (rw e)
 only-length t (short e) = short (rw e)
 
-not-turned : (m s : List ℕ) (room : ℕ) {x y z : ℕ} {P : Type 0} → checkTold m ≡ refused x y z → toSheet m room ≡ gives s → P
-unfolding toSheet
+not-turned : (m s : List ℕ) (room : ℕ) {x y z : ℕ} {P : Type 0} → check_told m ≡ refused x y z → to_sheet m room ≡ gives s → P
+unfolding to_sheet
 not-turned m s room h e = not-given (rw h at e)
 
 pub message-calls : MessageCalls
 message-calls m out out' back back' n r C D =
-    called (toSheet m (length out)) n out out' C
+    called (to_sheet m (length out)) n out out' C
     (λ s e t.
-    toldCases (checkTold m)
+    told_cases (check_told m)
     (λ c h.
     let T = message-returns m c h in
     let g = guard 45 0 0 (ltb (length out) (length T.sheet)) (gives T.sheet) s (sym (T.given (length out)) ∙ e) in
     let q : take n out' ≡ T.sheet = cc g.1 in
-    let o : Only44Or45 (toMessage (take n out') (length back)) = rw (q, ← by-base T.sheet (length back)) (sheet-is-written base T.sheet T.rows (length back) T.read) in (
-      rw D.told (only-length (toMessage (take n out') (length back)) o),
+    let o : Only44Or45 (to_message (take n out') (length back)) = rw (q, ← by-base T.sheet (length back)) (sheet-is-written base T.sheet T.rows (length back) T.read) in (
+      rw D.told (only-length (to_message (take n out') (length back)) o),
       λ k w.
-          called (toMessage (take n out') (length back)) k back back' (rw w at D)
+          called (to_message (take n out') (length back)) k back back' (rw w at D)
           (λ x f u.
           let A = T.again base base_ok x (length back) (by-base T.sheet (length back) ∙ (rw q at f)) in
           (rw u (A.0 ∙ sym h), λ room. rw u (A.1 room))),

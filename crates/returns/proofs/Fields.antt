@@ -7,13 +7,13 @@ use Prim.Native.Nat.{ℕ, zero, suc, ◌-◌}
 use lib.Dec.{eqb}
 use Rattle.rules.specs.declared.Delims.{Delims}
 use Rattle.rules.specs.declared.Name.{Name}
-use Rattle.rules.specs.Lists.{bytes, empty, orEmpty, same, has, all, split, join, nth}
+use Rattle.rules.specs.Lists.{bytes, empty, or_empty, same, has, all, split, join, nth}
 use Rattle.rules.specs.Shift.{met}
 use Rattle.rules.specs.Proper.{Delim, Proper}
 use Rattle.rules.specs.Escape.{unescape, escape}
 use Rattle.rules.specs.Value.{Rule, fault}
-use Rattle.rules.specs.View.{piece_of, field_of, componentOf, firstRepetition}
-use Rattle.rules.specs.Judge.{plain_of, faultOr23, judge}
+use Rattle.rules.specs.View.{piece_of, field_of, component_of, first_repetition}
+use Rattle.rules.specs.Judge.{plain_of, fault_or23, judge}
 use Rattle.rules.specs.Message.{composed, blanks}
 use Rattle.rules.proofs.Lists.{has_there}
 use Rattle.rules.proofs.Split.{frees, split-none, split-join, has_join}
@@ -111,30 +111,30 @@ module _ (d : Delims) (p : Proper d) where
 
   -- ---- what is seen of a component of a field
   module _ (f : List ℕ) (cs vs : List (List ℕ)) (x : FieldIs d f cs vs) where
-    first-whole : firstRepetition d (met f) ≡ met f
-    unfolding firstRepetition
+    first-whole : first_repetition d (met f) ≡ met f
+    unfolding first_repetition
     first-whole = rw (split-none d.repetition (met f) x.once)
 
-    pub component-is : (c : ℕ) → componentOf d (met f) c ≡ met (nth cs (c - 1))
-    unfolding componentOf
+    pub component-is : (c : ℕ) → component_of d (met f) c ≡ met (nth cs (c - 1))
+    unfolding component_of
     component-is c = rw x.cut (nth-met cs (c - 1))
 
-    pub value_in : (c : ℕ) → plain_of d (componentOf d (met f) c) ≡ nth vs (c - 1)
-    unfolding orEmpty
+    pub value_in : (c : ℕ) → plain_of d (component_of d (met f) c) ≡ nth vs (c - 1)
+    unfolding or_empty
     value_in c = rw (component-is c, (comp-nth x.says (c - 1)).back)
 
-    pub judge-in : (q : Bool) (r : Rule) (c : ℕ) → same (nth vs (c - 1)) (bytes "\"\"") ≡ false → judge d q r (componentOf d (met f) c) ≡ fault q r (nth vs (c - 1))
-    unfolding judge faultOr23
+    pub judge-in : (q : Bool) (r : Rule) (c : ℕ) → same (nth vs (c - 1)) (bytes "\"\"") ≡ false → judge d q r (component_of d (met f) c) ≡ fault q r (nth vs (c - 1))
+    unfolding judge fault_or23
     judge-in q r c n =
         let z = comp-nth x.says (c - 1) in
         rw (component-is c, z.null n, z.back)
 
     -- in its first repetition, as the check looks
-    pub value-at : (c : ℕ) → plain_of d (componentOf d (firstRepetition d (met f)) c) ≡ nth vs (c - 1)
+    pub value-at : (c : ℕ) → plain_of d (component_of d (first_repetition d (met f)) c) ≡ nth vs (c - 1)
     value-at c = rw first-whole (value_in c)
 
     pub judge-at : (q : Bool) (r : Rule) (c : ℕ) → same (nth vs (c - 1)) (bytes "\"\"") ≡ false
-        → judge d q r (componentOf d (firstRepetition d (met f)) c) ≡ fault q r (nth vs (c - 1))
+        → judge d q r (component_of d (first_repetition d (met f)) c) ≡ fault q r (nth vs (c - 1))
     judge-at q r c n = rw first-whole (judge-in q r c n)
 
   -- ---- a segment of some fields

@@ -12,36 +12,36 @@ use Rattle.rules.specs.declared.Name.TheVariants.{Spm, Obr, Orc, Obx, Other}
 use Rattle.rules.specs.Told.{gives, accepted}
 use Rattle.rules.specs.Lists.{bytes, empty, starts, any, count, split, last, led, join, ended}
 use Rattle.rules.specs.Shift.{keeps}
-use Rattle.rules.specs.Frame.{delimsOk, headerOk, delimsOf, segments, nameOk, capital, capitalOrDigit, knownNames, spelling, nameAmong, name_of, is, knownFrom, known, Reached, start, mayFollow, mayEnd}
+use Rattle.rules.specs.Frame.{delims_ok, header_ok, delims_of, segments, name_ok, capital, capital_or_digit, known_names, spelling, name_among, name_of, is, known_from, known, Reached, start, may_follow, may_end}
 use Rattle.rules.specs.Proper.{Proper}
 use Rattle.rules.specs.Places.{places}
-use Rattle.rules.specs.View.{part_of, Segment, segmentOf, view}
-use Rattle.rules.specs.Check.{Context, unsaid, partsTold, placesTold, countsTold, viewTold}
+use Rattle.rules.specs.View.{part_of, Segment, segment_of, view}
+use Rattle.rules.specs.Check.{Context, unsaid, parts_told, places_told, counts_told, view_told}
 use Rattle.rules.specs.Row.{lines, Row, header, patient, visit, specimen, order, result, group_of, values, rows_from, rows_of}
-use Rattle.rules.specs.Sheet.{pastGroup, good, valid}
-use Rattle.rules.specs.Message.{blanks, encoding, Piece, piece, Numbers, zeros, counted as numbered, pieces_of, pieces, segmentText, written, messageOf}
+use Rattle.rules.specs.Sheet.{past_group, good, valid}
+use Rattle.rules.specs.Message.{blanks, encoding, Piece, piece, Numbers, zeros, counted as numbered, pieces_of, pieces, segment_text, written, message_of}
 use Rattle.rules.proofs.Logic.{cases, never, both, or-true, eqb-self}
-use Rattle.rules.proofs.Split.{split-ended, butLast-snoc, last_snoc}
-use Rattle.rules.proofs.Names.{inNames}
+use Rattle.rules.proofs.Split.{split-ended, but_last-snoc, last_snoc}
+use Rattle.rules.proofs.Names.{in_names}
 use Rattle.rules.proofs.Ordered.{order-ok}
 use Rattle.rules.proofs.Header.{proper}
 use Rattle.rules.proofs.Clean.{Cleans, cleans-free, cleans-ended, end-0D}
 use Rattle.returns.proofs.Fields.{segment-clean}
 use Rattle.returns.proofs.Groups.{Facts, facts}
-use Rattle.returns.proofs.Segments.{Said, none, more, knownAs, meets, spm, pv1, obr, orc, msh}
+use Rattle.returns.proofs.Segments.{Said, none, more, known_as, meets, spm, pv1, obr, orc, msh}
 use Rattle.returns.proofs.Closed.{pid, obx}
 
 -- ---- rows: the first of them and the rest
 pub record First (a : Reached) (r : Row) (rs : List Row) : Type 0 where
-  pub follows : mayFollow a (group_of r) ≡ true
+  pub follows : may_follow a (group_of r) ≡ true
   pub holds : good (lines (group_of r)) [] (values r) ≡ true
-  pub rest : valid (pastGroup a (group_of r)) rs ≡ true
+  pub rest : valid (past_group a (group_of r)) rs ≡ true
 
 pub first : (a : Reached) (r : Row) (rs : List Row) → valid a (r ∷ rs) ≡ true → First a r rs
 unfolding valid
 first a r rs v =
-    let q = both (mayFollow a (group_of r)) (good (lines (group_of r)) [] (values r) && valid (pastGroup a (group_of r)) rs) v in
-    let w = both (good (lines (group_of r)) [] (values r)) (valid (pastGroup a (group_of r)) rs) q.1 in
+    let q = both (may_follow a (group_of r)) (good (lines (group_of r)) [] (values r) && valid (past_group a (group_of r)) rs) v in
+    let w = both (good (lines (group_of r)) [] (values r)) (valid (past_group a (group_of r)) rs) q.1 in
     record { follows = q.0; holds = w.0; rest = w.1 }
 
 -- every value keeps the shift rule by itself
@@ -67,14 +67,14 @@ module _ (d : Delims) (p : Proper d) where
   said a n (r ∷ rs) v t c =
       let f = first a r rs v in
       let m = numbered n (group_of r) in
-      row-said r m rs (pieces d m rs) (facts (lines (group_of r)) [] (values r) f.holds) t.0 (said (pastGroup a (group_of r)) m rs f.rest t.1) c
+      row-said r m rs (pieces d m rs) (facts (lines (group_of r)) [] (values r) f.holds) t.0 (said (past_group a (group_of r)) m rs f.rest t.1) c
 
   -- ---- the segments
   abbrev texts : List Piece → List (List ℕ)
-  texts qs = map (segmentText d) qs
+  texts qs = map (segment_text d) qs
 
   said-cleans : {c : Context} {qs : List Piece} {rows : List Row} → Said d c qs rows → Cleans (texts qs)
-  unfolding segmentText
+  unfolding segment_text
   said-cleans none = tt
   said-cleans (more x y) = (segment-clean d p x.oks, said-cleans y)
 
@@ -84,7 +84,7 @@ module _ (d : Delims) (p : Proper d) where
 
     pub segments-are : segments (ended 0x0D (texts qs)) ≡ texts qs
     unfolding segments
-    segments-are = rw cut (butLast-snoc (texts qs))
+    segments-are = rw cut (but_last-snoc (texts qs))
 
     pub all-ended : empty (last (split 0x0D (ended 0x0D (texts qs)))) ≡ true
     unfolding empty
@@ -94,68 +94,68 @@ module _ (d : Delims) (p : Proper d) where
     message-keeps = cleans-ended 0x0D end-0D (texts qs) (said-cleans S)
 
 -- a segment begins with its name
-name_back : (d : Delims) (n : Name) (fs : List (List ℕ)) → is n Other ≡ false → name_of (segmentText d (piece n fs)) ≡ n
-unfolding name_of nameAmong knownNames starts spelling bytes segmentText join
+name_back : (d : Delims) (n : Name) (fs : List (List ℕ)) → is n Other ≡ false → name_of (segment_text d (piece n fs)) ≡ n
+unfolding name_of name_among known_names starts spelling bytes segment_text join
 name_back d n fs =
-    inNames (λ n. is n Other ≡ false → name_of (segmentText d (piece n fs)) ≡ n)
+    in_names (λ n. is n Other ≡ false → name_of (segment_text d (piece n fs)) ≡ n)
     (λ h. refl) (λ h. refl) (λ h. refl) (λ h. refl) (λ h. refl) (λ h. refl) (λ h. refl) (λ h. never h) n
 
-three : (bar x y z : ℕ) (fs : List (List ℕ)) → (capital x && capitalOrDigit y && capitalOrDigit z) ≡ true → nameOk bar (join bar ((x ∷ y ∷ z ∷ []) ∷ fs)) ≡ true
-unfolding nameOk join led
+three : (bar x y z : ℕ) (fs : List (List ℕ)) → (capital x && capital_or_digit y && capital_or_digit z) ≡ true → name_ok bar (join bar ((x ∷ y ∷ z ∷ []) ∷ fs)) ≡ true
+unfolding name_ok join led
 three bar x y z [] h =
-    let p = both (capital x && capitalOrDigit y) (capitalOrDigit z) h in
-    let q = both (capital x) (capitalOrDigit y) p.0 in
+    let p = both (capital x && capital_or_digit y) (capital_or_digit z) h in
+    let q = both (capital x) (capital_or_digit y) p.0 in
     rw (q.0, q.1, p.1)
 three bar x y z (f ∷ fs) h =
-    let p = both (capital x && capitalOrDigit y) (capitalOrDigit z) h in
-    let q = both (capital x) (capitalOrDigit y) p.0 in
+    let p = both (capital x && capital_or_digit y) (capital_or_digit z) h in
+    let q = both (capital x) (capital_or_digit y) p.0 in
     rw (le-leb 3 (length (x ∷ y ∷ z ∷ bar ∷ (f ++ led bar fs))) (omega arith), q.0, q.1, p.1, eqb-self bar, or-true)
 
-pub name-ok : (d : Delims) (n : Name) (fs : List (List ℕ)) → is n Other ≡ false → nameOk d.field (segmentText d (piece n fs)) ≡ true
-unfolding segmentText spelling bytes
+pub name-ok : (d : Delims) (n : Name) (fs : List (List ℕ)) → is n Other ≡ false → name_ok d.field (segment_text d (piece n fs)) ≡ true
+unfolding segment_text spelling bytes
 name-ok d n fs =
     let t = three d.field in
-    inNames (λ n. is n Other ≡ false → nameOk d.field (segmentText d (piece n fs)) ≡ true)
+    in_names (λ n. is n Other ≡ false → name_ok d.field (segment_text d (piece n fs)) ≡ true)
     (λ h. t 77 83 72 fs refl) (λ h. t 80 73 68 fs refl) (λ h. t 80 86 49 fs refl) (λ h. t 83 80 77 fs refl)
     (λ h. t 79 66 82 fs refl) (λ h. t 79 82 67 fs refl) (λ h. t 79 66 88 fs refl) (λ h. never h) n
 
 -- ---- the segments as they are seen
-unfoldable segsFrom : Delims → ℕ → List Piece → List Segment
-segsFrom d at [] = []
-segsFrom d at (q ∷ qs) = segmentOf d (knownAs d at q) ∷ segsFrom d (at + suc (length (segmentText d q))) qs
+unfoldable segs_from : Delims → ℕ → List Piece → List Segment
+segs_from d at [] = []
+segs_from d at (q ∷ qs) = segment_of d (known_as d at q) ∷ segs_from d (at + suc (length (segment_text d q))) qs
 
 module _ (d : Delims) (p : Proper d) where
-  seen-segs : {c : Context} {qs : List Piece} {rows : List Row} → Said d c qs rows → (at : ℕ) → map (segmentOf d) (knownFrom at (map (segmentText d) qs)) ≡ segsFrom d at qs
-  unfolding knownFrom segsFrom
+  seen-segs : {c : Context} {qs : List Piece} {rows : List Row} → Said d c qs rows → (at : ℕ) → map (segment_of d) (known_from at (map (segment_text d) qs)) ≡ segs_from d at qs
+  unfolding known_from segs_from
   seen-segs none at = refl
-  seen-segs (more {q} x y) at = rw (name_back d q.name q.fields x.known, x.known, seen-segs y (at + suc (length (segmentText d q))))
+  seen-segs (more {q} x y) at = rw (name_back d q.name q.fields x.known, x.known, seen-segs y (at + suc (length (segment_text d q))))
 
-  seen-rows : {c : Context} {qs : List Piece} {rows : List Row} → Said d c qs rows → (at : ℕ) → rows_from d (segsFrom d at qs) ≡ rows
-  unfolding segsFrom rows_from segmentOf
+  seen-rows : {c : Context} {qs : List Piece} {rows : List Row} → Said d c qs rows → (at : ℕ) → rows_from d (segs_from d at qs) ≡ rows
+  unfolding segs_from rows_from segment_of
   seen-rows none at = refl
-  seen-rows (more {q} x y) at = rw (x.row at, seen-rows y (at + suc (length (segmentText d q))))
+  seen-rows (more {q} x y) at = rw (x.row at, seen-rows y (at + suc (length (segment_text d q))))
 
-  seen-places : {c : Context} {qs : List Piece} {rows : List Row} → Said d c qs rows → (at n : ℕ) → placesTold d c n (segsFrom d at qs) ≡ gives tt
-  unfolding segsFrom placesTold segmentOf
+  seen-places : {c : Context} {qs : List Piece} {rows : List Row} → Said d c qs rows → (at n : ℕ) → places_told d c n (segs_from d at qs) ≡ gives tt
+  unfolding segs_from places_told segment_of
   seen-places none at n = refl
   seen-places (more {q} {qs} {ctx} x y) at n =
-      let k = knownAs d at q in
-      let m : partsTold d ctx n (segmentOf d k) (map (part_of d k) (places q.name)) ≡ gives tt = meets d p ctx n k (places q.name) (x.faults at) in
-      rw (m, x.context at) (seen-places y (at + suc (length (segmentText d q))) (suc n))
+      let k = known_as d at q in
+      let m : parts_told d ctx n (segment_of d k) (map (part_of d k) (places q.name)) ≡ gives tt = meets d p ctx n k (places q.name) (x.faults at) in
+      rw (m, x.context at) (seen-places y (at + suc (length (segment_text d q))) (suc n))
 
-segs-names : (d : Delims) (at : ℕ) (qs : List Piece) → map (λ (s : Segment). s.name) (segsFrom d at qs) ≡ map (λ (q : Piece). q.name) qs
-unfolding segsFrom segmentOf
+segs-names : (d : Delims) (at : ℕ) (qs : List Piece) → map (λ (s : Segment). s.name) (segs_from d at qs) ≡ map (λ (q : Piece). q.name) qs
+unfolding segs_from segment_of
 segs-names d at [] = refl
-segs-names d at (q ∷ qs) = rw (segs-names d (at + suc (length (segmentText d q))) qs)
+segs-names d at (q ∷ qs) = rw (segs-names d (at + suc (length (segment_text d q))) qs)
 
 -- ---- the counts: an ORC stands after each OBR
-abbrev namesIn : List Piece → List Name
-namesIn qs = map (λ (q : Piece). q.name) qs
+abbrev names_in : List Piece → List Name
+names_in qs = map (λ (q : Piece). q.name) qs
 
-abbrev orcAfter : Name → List Name
-orcAfter g = cond (is g Obr) (Orc ∷ []) []
+abbrev orc_after : Name → List Name
+orc_after g = cond (is g Obr) (Orc ∷ []) []
 
-row-names : (d : Delims) (n : Numbers) (r : Row) (qs : List Piece) → namesIn (pieces_of d n r ++ qs) ≡ group_of r ∷ (orcAfter (group_of r) ++ namesIn qs)
+row-names : (d : Delims) (n : Numbers) (r : Row) (qs : List Piece) → names_in (pieces_of d n r ++ qs) ≡ group_of r ∷ (orc_after (group_of r) ++ names_in qs)
 unfolding pieces_of
 row-names d n (header x1 x2 x3) qs = refl
 row-names d n (patient x1 x2 x3 x4 x5 x6 x7) qs = refl
@@ -167,7 +167,7 @@ row-names d n (result x1 x2 x3 x4 x5 x6 x7 x8 x9 x10) qs = refl
 abbrev pub counted : Name → List Row → ℕ
 counted g rows = count (λ (r : Row). is g (group_of r)) rows
 
-counts-are : (d : Delims) (g : Name) → is g Orc ≡ false → (n : Numbers) (rows : List Row) → count (is g) (namesIn (pieces d n rows)) ≡ counted g rows
+counts-are : (d : Delims) (g : Name) → is g Orc ≡ false → (n : Numbers) (rows : List Row) → count (is g) (names_in (pieces d n rows)) ≡ counted g rows
 unfolding count pieces
 counts-are d g o n [] = refl
 counts-are d g o n (r ∷ rs) =
@@ -180,8 +180,8 @@ pub record Front (d : Delims) (m : List ℕ) : Type 0 where
   pub tail : List ℕ
   pub is : m ≡ 77 ∷ 83 ∷ 72 ∷ d.field ∷ d.component ∷ d.repetition ∷ d.escape ∷ d.sub ∷ d.field ∷ tail
 
-pub front : (d : Delims) (rows : List Row) → valid start rows ≡ true → Front d (messageOf d rows)
-unfolding valid any mayFollow mayEnd messageOf written pieces pieces_of segmentText spelling bytes encoding blanks join led ended
+pub front : (d : Delims) (rows : List Row) → valid start rows ≡ true → Front d (message_of d rows)
+unfolding valid any may_follow may_end message_of written pieces pieces_of segment_text spelling bytes encoding blanks join led ended
 front d [] v = never (sym v)
 front d (header x1 x2 x3 ∷ rs) v = record { tail = _; is = refl }
 front d (patient x1 x2 x3 x4 x5 x6 x7 ∷ rs) v = never (sym v)
@@ -191,33 +191,33 @@ front d (order x1 x2 ∷ rs) v = never (sym v)
 front d (result x1 x2 x3 x4 x5 x6 x7 x8 x9 x10 ∷ rs) v = never (sym v)
 
 module _ (d : Delims) (m : List ℕ) (f : Front d m) where
-  pub delims-are : delimsOf m ≡ d
-  unfolding delimsOf
+  pub delims-are : delims_of m ≡ d
+  unfolding delims_of
   delims-are = rw f.is
 
-  pub header_is : delimsOk d ≡ true → headerOk m ≡ true
-  unfolding headerOk starts bytes
+  pub header_is : delims_ok d ≡ true → header_ok m ≡ true
+  unfolding header_ok starts bytes
   header_is h =
       rw (delims-are, h, f.is)
       (rw (le-leb 9 (length (77 ∷ 83 ∷ 72 ∷ d.field ∷ d.component ∷ d.repetition ∷ d.escape ∷ d.sub ∷ d.field ∷ f.tail)) (omega arith), eqb-self d.field))
 
 -- ---- THE VIEW of the written message
-module _ (d : Delims) (ok : delimsOk d ≡ true) (rows : List Row) (v : valid start rows ≡ true) (t : Tidy rows) where
+module _ (d : Delims) (ok : delims_ok d ≡ true) (rows : List Row) (v : valid start rows ≡ true) (t : Tidy rows) where
   pub all_said : Said d unsaid (pieces d zeros rows) rows
   all_said = said d (proper d ok) start zeros rows v t unsaid
 
-  view-is : view (messageOf d rows) ≡ record { delims = d; segs = segsFrom d 0 (pieces d zeros rows) }
-  unfolding view known messageOf written
+  view-is : view (message_of d rows) ≡ record { delims = d; segs = segs_from d 0 (pieces d zeros rows) }
+  unfolding view known message_of written
   view-is =
-      rw (delims-are d (messageOf d rows) (front d rows v), segments-are d (proper d ok) unsaid (pieces d zeros rows) rows all_said, seen-segs d (proper d ok) all_said 0)
+      rw (delims-are d (message_of d rows) (front d rows v), segments-are d (proper d ok) unsaid (pieces d zeros rows) rows all_said, seen-segs d (proper d ok) all_said 0)
 
   -- it says the rows, is in order, and has no fault
-  pub rows-return : rows_of (view (messageOf d rows)) ≡ rows
+  pub rows-return : rows_of (view (message_of d rows)) ≡ rows
   unfolding rows_of
   rows-return = rw view-is (seen-rows d (proper d ok) all_said 0)
 
-  pub view-accepted : viewTold (view (messageOf d rows)) ≡ accepted (counted Spm rows) (counted Obr rows) (counted Obx rows)
-  unfolding viewTold countsTold
+  pub view-accepted : view_told (view (message_of d rows)) ≡ accepted (counted Spm rows) (counted Obr rows) (counted Obx rows)
+  unfolding view_told counts_told
   view-accepted =
       rw (
         view-is,

@@ -11,18 +11,18 @@ use lib.ListN.{get_or}
 use Rattle.rules.specs.declared.Delims.{Delims}
 use Rattle.rules.specs.declared.Name.TheVariants.{Msh, Pv1, Spm, Obr, Orc, Other}
 use Rattle.rules.specs.Told.{gives}
-use Rattle.rules.specs.Lists.{bytes, empty, same, has, any, all, split, onto, nth, isOneOf, decimalTo, decimal}
-use Rattle.rules.specs.Shift.{step, isOne, mark, marks, met}
+use Rattle.rules.specs.Lists.{bytes, empty, same, has, any, all, split, onto, nth, is_one_of, decimal_to, decimal}
+use Rattle.rules.specs.Shift.{step, is_one, mark, marks, met}
 use Rattle.rules.specs.Escape.{escape}
-use Rattle.rules.specs.Value.{fault, tooLong, holds}
+use Rattle.rules.specs.Value.{fault, too_long, holds}
 use Rattle.rules.specs.Frame.{spelling, Known, is}
 use Rattle.rules.specs.Proper.{Proper}
-use Rattle.rules.specs.Places.{Place, Field, reads, closed, places, entryIn, entry_of}
-use Rattle.rules.specs.View.{piece_of, field_of, componentOf, firstRepetition, seenIn, part_of, Segment, segmentOf, Part, whole, seen_at, part_at}
-use Rattle.rules.specs.Judge.{plain_of, judgeAll}
-use Rattle.rules.specs.Check.{Context, ownFault, laterFault, partFault, partNo, faultTold, partsTold, contextAfter}
-use Rattle.rules.specs.Row.{Line, line, lines, fourAt, Row, header, visit, specimen, order, row_of}
-use Rattle.rules.specs.Message.{blanks, encoding, Piece, Numbers, piece, pieces_of, segmentText}
+use Rattle.rules.specs.Places.{Place, Field, reads, closed, places, entry_in, entry_of}
+use Rattle.rules.specs.View.{piece_of, field_of, component_of, first_repetition, seen_in, part_of, Segment, segment_of, Part, whole, seen_at, part_at}
+use Rattle.rules.specs.Judge.{plain_of, judge_all}
+use Rattle.rules.specs.Check.{Context, own_fault, later_fault, part_fault, part_no, fault_told, parts_told, context_after}
+use Rattle.rules.specs.Row.{Line, line, lines, four_at, Row, header, visit, specimen, order, row_of}
+use Rattle.rules.specs.Message.{blanks, encoding, Piece, Numbers, piece, pieces_of, segment_text}
 use Rattle.rules.proofs.Logic.{cases}
 use Rattle.rules.proofs.Lists.{same_self, in-range, all_append}
 use Rattle.rules.proofs.Clean.{Cleans}
@@ -42,48 +42,48 @@ pub data Read (d : Delims) (k : Known) (n : ℕ) (qs : List Place) : Type 0 wher
 -- the table of a segment's places, one by one
 abbrev pub Meets : Delims → Context → Known → List Field → Type 0
 Meets d ctx k [] = Unit
-Meets d ctx k (reads n qs ∷ fs) = Read d k n qs × (laterFault d ctx (segmentOf d k) n ≡ 0) × Meets d ctx k fs
+Meets d ctx k (reads n qs ∷ fs) = Read d k n qs × (later_fault d ctx (segment_of d k) n ≡ 0) × Meets d ctx k fs
 Meets d ctx k (closed n form ∷ fs) =
-    (ownFault d (segmentOf d k) (whole n form (field_of d k n)) ≡ 0) × (laterFault d ctx (segmentOf d k) n ≡ 0) × Meets d ctx k fs
+    (own_fault d (segment_of d k) (whole n form (field_of d k n)) ≡ 0) × (later_fault d ctx (segment_of d k) n ≡ 0) × Meets d ctx k fs
 
 module _ (d : Delims) (p : Proper d) where
   judge-kept : {f : List ℕ} {cs vs : List (List ℕ)} → FieldIs d f cs vs → (qs : List Place) → Kept vs qs
-      → judgeAll d (map (seenIn d (firstRepetition d (met f))) qs) ≡ 0
-  unfolding judgeAll seenIn
+      → judge_all d (map (seen_in d (first_repetition d (met f))) qs) ≡ 0
+  unfolding judge_all seen_in
   judge-kept x [] h = refl
   judge-kept {f} {cs} {vs} x (q ∷ qs) h =
       rw (judge-at d p f cs vs x q.required q.rule q.component h.0.0, no-fault q.required q.rule (nth vs (q.component - 1)) h.0.1, judge-kept x qs h.1)
 
-  read-own : (k : Known) (n : ℕ) (qs : List Place) → Read d k n qs → ownFault d (segmentOf d k) (part_of d k (reads n qs)) ≡ 0
-  unfolding ownFault part_of
+  read-own : (k : Known) (n : ℕ) (qs : List Place) → Read d k n qs → own_fault d (segment_of d k) (part_of d k (reads n qs)) ≡ 0
+  unfolding own_fault part_of
   read-own k n qs (seen x e h) = rw (e, x.once, judge-kept x qs h)
 
   -- the value of a read component
   pub read-value : {f : List ℕ} {cs vs : List (List ℕ)} → FieldIs d f cs vs → (k : Known) (n c : ℕ) → field_of d k n ≡ met f
-      → plain_of d (componentOf d (firstRepetition d (field_of d k n)) c) ≡ nth vs (c - 1)
+      → plain_of d (component_of d (first_repetition d (field_of d k n)) c) ≡ nth vs (c - 1)
   read-value {f} {cs} {vs} x k n c e = rw e (value-at d p f cs vs x c)
 
-  part_gives : (ctx : Context) (i : ℕ) (s : Segment) (q : Part) (qs : List Part) → ownFault d s q ≡ 0 → laterFault d ctx s (partNo q) ≡ 0
-      → partsTold d ctx i s qs ≡ gives tt → partsTold d ctx i s (q ∷ qs) ≡ gives tt
-  unfolding partsTold partFault faultTold
+  part_gives : (ctx : Context) (i : ℕ) (s : Segment) (q : Part) (qs : List Part) → own_fault d s q ≡ 0 → later_fault d ctx s (part_no q) ≡ 0
+      → parts_told d ctx i s qs ≡ gives tt → parts_told d ctx i s (q ∷ qs) ≡ gives tt
+  unfolding parts_told part_fault fault_told
   part_gives ctx i s q qs h k g = rw (h, k) g
 
-  pub meets : (ctx : Context) (i : ℕ) (k : Known) (fs : List Field) → Meets d ctx k fs → partsTold d ctx i (segmentOf d k) (map (part_of d k) fs) ≡ gives tt
-  unfolding part_of partNo
-  meets ctx i k [] h = unfold partsTold in refl
-  meets ctx i k (reads n qs ∷ fs) h = part_gives ctx i (segmentOf d k) (part_of d k (reads n qs)) (map (part_of d k) fs) (read-own k n qs h.0) h.1 (meets ctx i k fs h.2)
-  meets ctx i k (closed n form ∷ fs) h = part_gives ctx i (segmentOf d k) (part_of d k (closed n form)) (map (part_of d k) fs) h.0 h.1 (meets ctx i k fs h.2)
+  pub meets : (ctx : Context) (i : ℕ) (k : Known) (fs : List Field) → Meets d ctx k fs → parts_told d ctx i (segment_of d k) (map (part_of d k) fs) ≡ gives tt
+  unfolding part_of part_no
+  meets ctx i k [] h = unfold parts_told in refl
+  meets ctx i k (reads n qs ∷ fs) h = part_gives ctx i (segment_of d k) (part_of d k (reads n qs)) (map (part_of d k) fs) (read-own k n qs h.0) h.1 (meets ctx i k fs h.2)
+  meets ctx i k (closed n form ∷ fs) h = part_gives ctx i (segment_of d k) (part_of d k (closed n form)) (map (part_of d k) fs) h.0 h.1 (meets ctx i k fs h.2)
 
 -- ---- what is shown of a segment: its fields, its row, that it has no fault, and what is known before and after it
-abbrev pub knownAs : Delims → ℕ → Piece → Known
-knownAs d at q = record { name = q.name; start = at; body = met (segmentText d q) }
+abbrev pub known_as : Delims → ℕ → Piece → Known
+known_as d at q = record { name = q.name; start = at; body = met (segment_text d q) }
 
 pub record Says (d : Delims) (q : Piece) (before after : Context) (rows : List Row) : Type 0 where
   pub known : is q.name Other ≡ false
   pub oks : Oks d (spelling q.name ∷ q.fields)
-  pub row : (at : ℕ) → let s = segmentOf d (knownAs d at q) in row_of q.name (map (λ (l : Line). l.source d s) (lines q.name)) ≡ rows
-  pub faults : (at : ℕ) → Meets d before (knownAs d at q) (places q.name)
-  pub context : (at : ℕ) → contextAfter d before (segmentOf d (knownAs d at q)) ≡ after
+  pub row : (at : ℕ) → let s = segment_of d (known_as d at q) in row_of q.name (map (λ (l : Line). l.source d s) (lines q.name)) ≡ rows
+  pub faults : (at : ℕ) → Meets d before (known_as d at q) (places q.name)
+  pub context : (at : ℕ) → context_after d before (segment_of d (known_as d at q)) ≡ after
 
 -- the pieces of a row, each with what it says
 pub data Said (d : Delims) : Context → List Piece → List Row → Type 0 where
@@ -95,33 +95,33 @@ piece_at qs n = get_or qs n (piece Other [])
 
 -- to unfold this name is to unfold the table of places, the lines and the writer, and what words and numbers are compared by
 unfoldable pub tables : Unit {0}
-unfolding pieces_of segmentText spelling blanks lines line row_of segmentOf places part_of seenIn part_at seen_at piece_of entryIn entry_of bytes laterFault contextAfter same fault empty tooLong holds isOneOf any split onto all plain_byte ownFault encoding fourAt has isOne step
+unfolding pieces_of segment_text spelling blanks lines line row_of segment_of places part_of seen_in part_at seen_at piece_of entry_in entry_of bytes later_fault context_after same fault empty too_long holds is_one_of any split onto all plain_byte own_fault encoding four_at has is_one step
 tables = tt
 
 -- ---- a number's digits
 digit-plain : (n : ℕ) → n < 10 → plain_byte (48 + n) ≡ true
 digit-plain n h = in-range plain_byte 48 10 (unfold bytewise in refl) (48 + n) (omega arith) (omega arith)
 
-decimal-plain : (k n : ℕ) → all plain_byte (decimalTo k n) ≡ true
-unfolding decimalTo all
+decimal-plain : (k n : ℕ) → all plain_byte (decimal_to k n) ≡ true
+unfolding decimal_to all
 decimal-plain zero n = refl
 decimal-plain (suc k) n =
     cases (ltb n 10)
     (λ e. cc (digit-plain n (ltb-true n 10 e)))
     (λ e.
     let z : all plain_byte ((48 + n % 10) ∷ []) ≡ true = cc (digit-plain (n % 10) (mod-lt n {m = 10} (omega arith))) in
-    cc (all_append plain_byte (decimalTo k (n / 10)) ((48 + n % 10) ∷ []) (decimal-plain k (n / 10)) z))
+    cc (all_append plain_byte (decimal_to k (n / 10)) ((48 + n % 10) ∷ []) (decimal-plain k (n / 10)) z))
 
 module _ (d : Delims) (p : Proper d) where
-  pub wordOk : (w : List ℕ) → all plain_byte w ≡ true → Ok d w
-  wordOk w h = comp-ok d p (plain d p w h)
+  pub word_ok : (w : List ℕ) → all plain_byte w ≡ true → Ok d w
+  word_ok w h = comp-ok d p (plain d p w h)
 
-  pub countOk : (n : ℕ) → Ok d (decimal n)
+  pub count_ok : (n : ℕ) → Ok d (decimal n)
   unfolding decimal
-  countOk n = wordOk (decimal n) (decimal-plain (suc n) n)
+  count_ok n = word_ok (decimal n) (decimal-plain (suc n) n)
 
-  pub blankOk : Ok d []
-  blankOk = comp-ok d p (nothing d p)
+  pub blank_ok : Ok d []
+  blank_ok = comp-ok d p (nothing d p)
 
   pub spm : (n : Numbers) (kind collected : List ℕ) (ctx : Context) → Facts (lines Spm) [] (kind ∷ collected ∷ []) → Cleans (kind ∷ collected ∷ [])
       → Says d (piece_at (pieces_of d n (specimen kind collected)) 0) ctx ctx (specimen kind collected ∷ [])
@@ -129,7 +129,7 @@ module _ (d : Delims) (p : Proper d) where
   spm n kind collected ctx F C =
       let x4 = several d p (escaped d p kind C.0) (also (nothing d p) (also (plain d p (bytes "JC10") refl) end)) in
       let x17 = single d p (escaped d p collected C.1.0) in
-      let o = next (wordOk (bytes "SPM") refl) (next (countOk n.specimen) (next blankOk (next blankOk (next x4.ok (oks-blanks d p 12 (next x17.ok last)))))) in
+      let o = next (word_ok (bytes "SPM") refl) (next (count_ok n.specimen) (next blank_ok (next blank_ok (next x4.ok (oks-blanks d p 12 (next x17.ok last)))))) in
       let e = field_at d p o Spm in
       record {
         known = refl;
@@ -144,7 +144,7 @@ module _ (d : Delims) (p : Proper d) where
   unfolding tables
   pv1 n class ctx F C =
       let x2 = single d p (escaped d p class C.0) in
-      let o = next (wordOk (bytes "PV1") refl) (next blankOk (next x2.ok last)) in
+      let o = next (word_ok (bytes "PV1") refl) (next blank_ok (next x2.ok last)) in
       let e = field_at d p o Pv1 in
       record {
         known = refl;
@@ -160,7 +160,7 @@ module _ (d : Delims) (p : Proper d) where
   obr n id group ctx F C =
       let x2 = single d p (escaped d p id C.0) in
       let x4 = several d p (escaped d p group C.1.0) (also (nothing d p) (also (plain d p (bytes "99003") refl) end)) in
-      let o = next (wordOk (bytes "OBR") refl) (next blankOk (next x2.ok (next blankOk (next x4.ok last)))) in
+      let o = next (word_ok (bytes "OBR") refl) (next blank_ok (next x2.ok (next blank_ok (next x4.ok last)))) in
       let e = field_at d p o Obr in
       record {
         known = refl;
@@ -176,7 +176,7 @@ module _ (d : Delims) (p : Proper d) where
   orc n id group F C =
       let x1 = single d p (plain d p (bytes "RE") refl) in
       let x2 = single d p (escaped d p id C.0) in
-      let o = next (wordOk (bytes "ORC") refl) (next x1.ok (next x2.ok last)) in
+      let o = next (word_ok (bytes "ORC") refl) (next x1.ok (next x2.ok last)) in
       let e = field_at d p o Orc in
       record {
         known = refl;
@@ -200,17 +200,17 @@ module _ (d : Delims) (p : Proper d) where
       let x10 = single d p (escaped d p control C.1.1.1.0) in
       let x11 = single d p (escaped d p mode C.1.0) in
       let x12 = single d p (plain d p (bytes "2.5") refl) in
-      let o2 = ok-cons d p d.sub [] p.sub p.sub-field blankOk in
+      let o2 = ok-cons d p d.sub [] p.sub p.sub-field blank_ok in
       let o2 = ok-cons d p d.escape _ p.escape p.escape-field o2.0 in
       let o2 = ok-cons d p d.repetition _ p.repetition p.repetition-field o2.0 in
       let o2 = ok-cons d p d.component _ p.component p.component-field o2.0 in
-      let o18 = ok-cons d p d.repetition (bytes "ISO IR87") p.repetition p.repetition-field (wordOk (bytes "ISO IR87") refl) in
+      let o18 = ok-cons d p d.repetition (bytes "ISO IR87") p.repetition p.repetition-field (word_ok (bytes "ISO IR87") refl) in
       let o =
-      next (wordOk (bytes "MSH") refl) (next o2.0 (oks-blanks d p 4 (next x7.ok (next blankOk (next x9.ok (next x10.ok (next x11.ok (next x12.ok
-      (oks-blanks d p 5 (next o18.0 (next blankOk (next (wordOk (bytes "ISO 2022-1994") refl) last)))))))))))) in
+      next (word_ok (bytes "MSH") refl) (next o2.0 (oks-blanks d p 4 (next x7.ok (next blank_ok (next x9.ok (next x10.ok (next x11.ok (next x12.ok
+      (oks-blanks d p 5 (next o18.0 (next blank_ok (next (word_ok (bytes "ISO 2022-1994") refl) last)))))))))))) in
       let e = field_at d p o Msh in
       let m : met (bytes "ISO IR87") ≡ bytes "ISO IR87" = unfold met marks mark in refl in
-      let e18 : (at : ℕ) → field_of d (knownAs d at (piece_at (pieces_of d n (header mode sent control)) 0)) 18 ≡ d.repetition ∷ bytes "ISO IR87" =
+      let e18 : (at : ℕ) → field_of d (known_as d at (piece_at (pieces_of d n (header mode sent control)) 0)) 18 ≡ d.repetition ∷ bytes "ISO IR87" =
       λ at. e at 18 ∙ (o18.1 ∙ rw m) in
       record {
         known = refl;

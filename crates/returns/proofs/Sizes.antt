@@ -10,17 +10,17 @@ use lib.ListN.{length, length-append}
 use Rattle.rules.specs.declared.Delims.{Delims}
 use Rattle.rules.specs.declared.Name.{Name}
 use Rattle.rules.specs.declared.Name.TheVariants.{Msh, Spm, Obr, Obx}
-use Rattle.rules.specs.Lists.{bytes, empty, filled, same, all, split, onto, join, isOneOf, decimal}
+use Rattle.rules.specs.Lists.{bytes, empty, filled, same, all, split, onto, join, is_one_of, decimal}
 use Rattle.rules.specs.Shift.{marks, met}
-use Rattle.rules.specs.Frame.{capitalOrDigit, spelling, is, counting, Reached}
+use Rattle.rules.specs.Frame.{capital_or_digit, spelling, is, counting, Reached}
 use Rattle.rules.specs.Proper.{Proper}
-use Rattle.rules.specs.Value.{Rule, time, date, numeric, text, digits, capitals, words, digitsOk, dayOk, clockOk, holds, tooLong, fits}
-use Rattle.rules.specs.Escape.{escape, escapeMet}
-use Rattle.rules.specs.Places.{places, entryIn, entry_of, valueRules}
-use Rattle.rules.specs.Judge.{isSN}
-use Rattle.rules.specs.Row.{line, lines, fourAt, Row, header, patient, visit, specimen, order, result, group_of, values}
-use Rattle.rules.specs.Sheet.{pastGroup, valid}
-use Rattle.rules.specs.Message.{composed, blanks, encoding, nameText, namesText, valueText, Piece, Numbers, counted, pieces_of, pieces, segmentText}
+use Rattle.rules.specs.Value.{Rule, time, date, numeric, text, digits, capitals, words, digits_ok, day_ok, clock_ok, holds, too_long, fits}
+use Rattle.rules.specs.Escape.{escape, escape_met}
+use Rattle.rules.specs.Places.{places, entry_in, entry_of, value_rules}
+use Rattle.rules.specs.Judge.{is_sn}
+use Rattle.rules.specs.Row.{line, lines, four_at, Row, header, patient, visit, specimen, order, result, group_of, values}
+use Rattle.rules.specs.Sheet.{past_group, valid}
+use Rattle.rules.specs.Message.{composed, blanks, encoding, name_text, names_text, value_text, Piece, Numbers, counted, pieces_of, pieces, segment_text}
 use Rattle.rules.proofs.Logic.{cases, both}
 use Rattle.rules.proofs.Lists.{empty-is, one_of}
 use Rattle.rules.proofs.Measures.{total, join-total, tens, decimal-few}
@@ -49,32 +49,32 @@ module _ (d : Delims) (p : Proper d) where
   plainly : (n k : ℕ) (v : List ℕ) → leb k n ≡ true → length v ≤ k → all plain_byte v ≡ true → length (escape d v) ≤ n
   plainly n k v a l h = rw (word d p v h).0 (omega (arith, leb-true k n a))
 
-  digitly : (n k : ℕ) (v : List ℕ) → leb k n ≡ true → digitsOk k v ≡ true → length (escape d v) ≤ n
+  digitly : (n k : ℕ) (v : List ℕ) → leb k n ≡ true → digits_ok k v ≡ true → length (escape d v) ≤ n
   digitly n k v a h = plainly n k v a (omega (arith, eqb-true (length v) k (both (eqb (length v) k) _ h).0)) (digits-plain k v h)
 
-  filled-sized : (n : ℕ) (r : Rule) (v : List ℕ) → at_most n r ≡ true → tooLong r v ≡ false → holds r v ≡ true → length (escape d v) ≤ n
-  unfolding at_most tooLong holds
-  filled-sized n time v a t h = digitly n 14 v a (both (digitsOk 14 v) (dayOk v) (both (digitsOk 14 v && dayOk v) (clockOk v) h).0).0
-  filled-sized n date v a t h = digitly n 8 v a (both (digitsOk 8 v) (dayOk v) h).0
+  filled-sized : (n : ℕ) (r : Rule) (v : List ℕ) → at_most n r ≡ true → too_long r v ≡ false → holds r v ≡ true → length (escape d v) ≤ n
+  unfolding at_most too_long holds
+  filled-sized n time v a t h = digitly n 14 v a (both (digits_ok 14 v) (day_ok v) (both (digits_ok 14 v && day_ok v) (clock_ok v) h).0).0
+  filled-sized n date v a t h = digitly n 8 v a (both (digits_ok 8 v) (day_ok v) h).0
   filled-sized n numeric v a t h = plainly n 16 v a (ltb-false 16 (length v) t) (number-plain v h)
   filled-sized n (text k) v a t h = omega (arith, leb-true (3 * k) n a, escaped-length d v, ltb-false k (length v) t)
   filled-sized n (digits k) v a t h = digitly n k v a h
   filled-sized n (capitals k) v a t h =
-      let q = both (leb (length v) k) (all capitalOrDigit v) h in
+      let q = both (leb (length v) k) (all capital_or_digit v) h in
       plainly n k v a (leb-true (length v) k q.0) (capitals-plain v q.1)
   filled-sized n (words ws) v a t h =
-      let q = both (leb (length v) n) (all plain_byte v) (one_of (λ (w : List ℕ). leb (length w) n && all plain_byte w) v (split 0x20 (bytes ws)) (unfold isOneOf in h) a) in
+      let q = both (leb (length v) n) (all plain_byte v) (one_of (λ (w : List ℕ). leb (length w) n && all plain_byte w) v (split 0x20 (bytes ws)) (unfold is_one_of in h) a) in
       rw (word d p v q.1).0 (leb-true (length v) n q.0)
 
   sized : (n : ℕ) (q : Bool) (r : Rule) (v : List ℕ) → at_most n r ≡ true → fits q r v ≡ true → length (escape d v) ≤ n
   sized n q r v a h =
       cases (empty v)
-      (λ e. rw (empty-is v e) (unfold escape escapeMet met marks in omega arith))
+      (λ e. rw (empty-is v e) (unfold escape escape_met met marks in omega arith))
       (λ e. let m = meets-rule q r v e h in filled-sized n r v a m.0 m.1)
 
 -- ---- joined fields
-segment-total : (d : Delims) (q : Piece) → length (segmentText d q) ≡ length (spelling q.name) + total q.fields
-unfolding segmentText
+segment-total : (d : Delims) (q : Piece) → length (segment_text d q) ≡ length (spelling q.name) + total q.fields
+unfolding segment_text
 segment-total d q = join-total d.field (spelling q.name) q.fields
 
 composed-total : (d : Delims) (c : List ℕ) (cs : List (List ℕ)) → length (composed d (c ∷ cs)) ≡ length c + total cs
@@ -108,30 +108,30 @@ one_more n k g h = (counting_more Spm Msh n.specimen k g h.0, counting_more Obx 
 -- ---- each row's segments
 abbrev pub Short : Delims → List Piece → Type 0
 Short d [] = Unit
-Short d (q ∷ qs) = (length (segmentText d q) < 850) × Short d qs
+Short d (q ∷ qs) = (length (segment_text d q) < 850) × Short d qs
 
 module _ (d : Delims) (p : Proper d) where
-  name-short : (f g mark : List ℕ) → length mark ≤ 1 → length (escape d f) ≤ 144 → length (escape d g) ≤ 144 → length (nameText d f g mark) ≤ 297
-  unfolding nameText total bytes
+  name-short : (f g mark : List ℕ) → length mark ≤ 1 → length (escape d f) ≤ 144 → length (escape d g) ≤ 144 → length (name_text d f g mark) ≤ 297
+  unfolding name_text total bytes
   name-short f g mark n hf hg = omega (arith, composed-total d (escape d f) (escape d g ∷ [] ∷ [] ∷ [] ∷ [] ∷ bytes "L" ∷ mark ∷ []))
 
   names-short : (f g kf kg : List ℕ) → length (escape d f) ≤ 144 → length (escape d g) ≤ 144 → length (escape d kf) ≤ 144 → length (escape d kg) ≤ 144
-      → length (namesText d f g kf kg) ≤ 595
-  unfolding namesText bytes
+      → length (names_text d f g kf kg) ≤ 595
+  unfolding names_text bytes
   names-short f g kf kg hf hg hkf hkg =
       rw length-append
       (omega (
         arith,
         name-short f g (bytes "I") (omega arith) hf hg,
         name-short kf kg (bytes "P") (omega arith) hkf hkg,
-        cond-length (empty kf) [] (d.repetition ∷ nameText d kf kg (bytes "P")),
+        cond-length (empty kf) [] (d.repetition ∷ name_text d kf kg (bytes "P")),
       ))
 
-  value-short : (type c v j s : List ℕ) → fits false (valueRules type).compare c ≡ true → fits false (valueRules type).value v ≡ true
-      → fits false (valueRules type).join j ≡ true → fits false (valueRules type).second s ≡ true → length (valueText d type c v j s) ≤ 600
-  unfolding valueText valueRules total
+  value-short : (type c v j s : List ℕ) → fits false (value_rules type).compare c ≡ true → fits false (value_rules type).value v ≡ true
+      → fits false (value_rules type).join j ≡ true → fits false (value_rules type).second s ≡ true → length (value_text d type c v j s) ≤ 600
+  unfolding value_text value_rules total
   value-short type c v j s fc fv fj fs =
-      cases (isSN type)
+      cases (is_sn type)
       (λ e.
       rw e
       (omega (
@@ -150,7 +150,7 @@ module _ (d : Delims) (p : Proper d) where
       (λ f. sized d p 600 false (text 200) v (unfold bounded in refl) (rw (e, f) at fv))))
 
   row-short : (r : Row) (n : Numbers) (qs : List Piece) → AtMost 999 n → Facts (lines (group_of r)) [] (values r) → Short d qs → Short d (pieces_of d n r ++ qs)
-  unfolding pieces_of values blanks encoding lines line fourAt entryIn entry_of places total spelling bytes
+  unfolding pieces_of values blanks encoding lines line four_at entry_in entry_of places total spelling bytes
   row-short (header mode sent control) n qs N F S =
       let q = pieces_of d n (header mode sent control) in (
         omega (
@@ -203,7 +203,7 @@ module _ (d : Delims) (p : Proper d) where
   row-short (result item name type c v k s unit flag status) n qs N F S =
       let Fc = F.1.1.1 in
       let Fu = Fc.1.1.1.1 in
-      let r = valueRules type in (
+      let r = value_rules type in (
         omega (
           arith,
           segment-total d (piece_at (pieces_of d n (result item name type c v k s unit flag status)) 0),
@@ -244,4 +244,4 @@ module _ (d : Delims) (p : Proper d) where
       let s = some-piece r m in
       let o = one_more n k (group_of r) N in
       row-short r m (pieces d m rs) (at-most (suc k) 999 m (omega arith) o) (facts (lines (group_of r)) [] (values r) f.holds)
-      (short (pastGroup a (group_of r)) (suc k) m rs f.rest o (omega arith))
+      (short (past_group a (group_of r)) (suc k) m rs f.rest o (omega arith))

@@ -13,20 +13,20 @@ use Rattle.rules.specs.declared.Delims.{Delims}
 use Rattle.rules.specs.declared.Mode.{Mode}
 use Rattle.rules.specs.declared.Mode.TheVariants.{One, Bad}
 use Rattle.rules.specs.Told.{◌when◌}
-use Rattle.rules.specs.Lists.{bytes, empty, orEmpty, same, has, any, split, nth}
-use Rattle.rules.specs.Shift.{walk, isOne, step, mark, marks, met, byte_of}
+use Rattle.rules.specs.Lists.{bytes, empty, or_empty, same, has, any, split, nth}
+use Rattle.rules.specs.Shift.{walk, is_one, step, mark, marks, met, byte_of}
 use Rattle.rules.specs.Frame.{twelve}
 use Rattle.rules.specs.Proper.{Delim, Proper}
 use Rattle.rules.specs.Value.{Rule, fault}
-use Rattle.rules.specs.Escape.{Letter, letters, meaning, At, plain, opened, named, unescapeAt, unescape}
-use Rattle.rules.specs.Judge.{plain_of, faultOr23, judge}
-use Rattle.rules.proofs.Logic.{cases, optionCases, never, then-none, when-none, nothing-some}
+use Rattle.rules.specs.Escape.{Letter, letters, meaning, At, plain, opened, named, unescape_at, unescape}
+use Rattle.rules.specs.Judge.{plain_of, fault_or23, judge}
+use Rattle.rules.proofs.Logic.{cases, option_cases, never, then-none, when-none, nothing-some}
 use Rattle.rules.proofs.Lists.{same-eq, same_self}
 use Rattle.rules.proofs.Modes.{one-is, length-marks, met-one}
 use Rattle.rules.proofs.Header.{delim-one, delim-small}
 use Rattle.rules.proofs.Clean.{Clean, not-bad, agree, clean-keeps, keeps-clean, clean_free, end-0D}
 use Rattle.rules.proofs.Pieces.{piece_bytes}
-use Rattle.rules.proofs.Escaped.{pushCases, small_one, byte-far, byte-near}
+use Rattle.rules.proofs.Escaped.{push_cases, small_one, byte-far, byte-near}
 use Rattle.rules.proofs.Where.{cut}
 use Rattle.returns.proofs.Groups.{Keeps}
 
@@ -59,12 +59,12 @@ FitsAt (named x) m = (m ≡ One) × Delim x
 byte-mark : (m : Mode) (b : ℕ) → (step 0x20 m b ≡ Bad → ⊥) → byte_of (mark m b) ≡ b
 unfolding mark
 byte-mark m b n =
-    cases (isOne m)
+    cases (is_one m)
     (λ e. let q = one-is m e in rw e (byte-near b (small_one b (rw q at n))))
     (λ e. rw e (byte-far b))
 
 mark-one : (m : Mode) (b : ℕ) → m ≡ One → mark m b ≡ b
-unfolding mark isOne
+unfolding mark is_one
 mark-one m b e = rw e
 
 -- what a letter stands for is a delimiter, and the letter is allowed
@@ -83,32 +83,32 @@ means d p l x h =
     (λ h. let z : none ≡ some x = unfold meaning in h in nothing-some z)))))
 
 module _ (d : Delims) (b : ℕ) (s v : List ℕ) {P : Type 0} where
-  plain_step : unescapeAt d plain (b ∷ s) ≡ some v → (eqb b d.escape ≡ true → unescapeAt d opened s ≡ some v → P)
-      → ((w : List ℕ) → eqb b d.escape ≡ false → unescapeAt d plain s ≡ some w → v ≡ byte_of b ∷ w → P) → P
-  unfolding unescapeAt
+  plain_step : unescape_at d plain (b ∷ s) ≡ some v → (eqb b d.escape ≡ true → unescape_at d opened s ≡ some v → P)
+      → ((w : List ℕ) → eqb b d.escape ≡ false → unescape_at d plain s ≡ some w → v ≡ byte_of b ∷ w → P) → P
+  unfolding unescape_at
   plain_step u f g =
       cases (eqb b d.escape)
       (λ e. f e (cc))
       (λ e. cases (eqb b d.sub)
       (λ q. let z : none ≡ some v = cc in nothing-some z)
-      (λ q. pushCases (byte_of b) (unescapeAt d plain s) v (cc) (λ w h k. g w e h k)))
+      (λ q. push_cases (byte_of b) (unescape_at d plain s) v (cc) (λ w h k. g w e h k)))
 
-  opened-step : unescapeAt d opened (b ∷ s) ≡ some v → ((x : ℕ) → meaning (letters d) b ≡ some x → unescapeAt d (named x) s ≡ some v → P) → P
-  unfolding unescapeAt
-  opened-step u f = optionCases (meaning (letters d) b) (λ x e. f x e (cc)) (λ e. let z : none ≡ some v = cc in nothing-some z)
+  opened-step : unescape_at d opened (b ∷ s) ≡ some v → ((x : ℕ) → meaning (letters d) b ≡ some x → unescape_at d (named x) s ≡ some v → P) → P
+  unfolding unescape_at
+  opened-step u f = option_cases (meaning (letters d) b) (λ x e. f x e (cc)) (λ e. let z : none ≡ some v = cc in nothing-some z)
 
-  named_step : (x : ℕ) → unescapeAt d (named x) (b ∷ s) ≡ some v → ((w : List ℕ) → eqb b d.escape ≡ true → unescapeAt d plain s ≡ some w → v ≡ x ∷ w → P) → P
-  unfolding unescapeAt
+  named_step : (x : ℕ) → unescape_at d (named x) (b ∷ s) ≡ some v → ((w : List ℕ) → eqb b d.escape ≡ true → unescape_at d plain s ≡ some w → v ≡ x ∷ w → P) → P
+  unfolding unescape_at
   named_step x u f =
       cases (eqb b d.escape)
-      (λ e. pushCases x (unescapeAt d plain s) v (cc) (λ w h k. f w e h k))
+      (λ e. push_cases x (unescape_at d plain s) v (cc) (λ w h k. f w e h k))
       (λ e. let z : none ≡ some v = cc in nothing-some z)
 
 module _ (d : Delims) (p : Proper d) where
   -- the mode goes on through what is unescaped, and it is no longer
-  unescaped-law : (c : List ℕ) (a : At) (m : Mode) (v : List ℕ) → FitsAt a m → walk 0x20 m c ≡ One → unescapeAt d a (marks 0x0D m c) ≡ some v
+  unescaped-law : (c : List ℕ) (a : At) (m : Mode) (v : List ℕ) → FitsAt a m → walk 0x20 m c ≡ One → unescape_at d a (marks 0x0D m c) ≡ some v
       → (walk 0x20 m v ≡ One) × (length v ≤ length c)
-  unfolding FitsAt walk marks unescapeAt
+  unfolding FitsAt walk marks unescape_at
   unescaped-law [] plain m v f h u = let q : [] ≡ v = cc in (rw (← q) h, rw (← q) (omega arith))
   unescaped-law [] opened m v f h u = nothing-some u
   unescaped-law [] (named x) m v f h u = nothing-some u
@@ -146,24 +146,24 @@ module _ (d : Delims) (p : Proper d) where
       (rw (k, o') (rw o at r.0), rw k (omega (arith, r.1))))
 
   -- an escape gives a delimiter, and so never an empty text nor a quote
-  opened-first : (r v : List ℕ) {P : Type 0} → unescapeAt d opened r ≡ some v → ((y : ℕ) (w : List ℕ) → v ≡ y ∷ w → Delim y → P) → P
-  unfolding unescapeAt
+  opened-first : (r v : List ℕ) {P : Type 0} → unescape_at d opened r ≡ some v → ((y : ℕ) (w : List ℕ) → v ≡ y ∷ w → Delim y → P) → P
+  unfolding unescape_at
   opened-first [] v u f = nothing-some u
   opened-first (b ∷ []) v u f = opened-step d b [] v u (λ x e u'. nothing-some u')
   opened-first (b ∷ c ∷ r) v u f =
       opened-step d b (c ∷ r) v u (λ x e u'. named_step d c r v x u' (λ w q h k. f x w k (means d p b x e).0))
 
-  nothing-of : (r : List ℕ) → unescapeAt d plain r ≡ some [] → r ≡ []
+  nothing-of : (r : List ℕ) → unescape_at d plain r ≡ some [] → r ≡ []
   nothing-of [] u = refl
   nothing-of (b ∷ s) u =
       plain_step d b s [] u
       (λ e u'. opened-first s [] u' (λ y w k h. cc))
       (λ w e u' k. cc)
 
-  quote-first : (c w : List ℕ) {P : Type 0} → Clean c → unescapeAt d plain (met c) ≡ some (34 ∷ w)
-      → ((c' : List ℕ) → met c ≡ 34 ∷ met c' → Clean c' → unescapeAt d plain (met c') ≡ some w → P) → P
-  unfolding met marks walk mark isOne
-  quote-first [] w h u f = let z : ◌≡◌ {A = ℕ} 0 1 = (unfold unescapeAt in cc) in absurd (omega arith)
+  quote-first : (c w : List ℕ) {P : Type 0} → Clean c → unescape_at d plain (met c) ≡ some (34 ∷ w)
+      → ((c' : List ℕ) → met c ≡ 34 ∷ met c' → Clean c' → unescape_at d plain (met c') ≡ some w → P) → P
+  unfolding met marks walk mark is_one
+  quote-first [] w h u f = let z : ◌≡◌ {A = ℕ} 0 1 = (unfold unescape_at in cc) in absurd (omega arith)
   quote-first (b ∷ c) w h u f =
       let n = not-bad 0x20 (step 0x20 One b) c h in
       let g = agree 0x0D One b n in
@@ -201,17 +201,17 @@ module _ (d : Delims) (p : Proper d) where
       (l.0, rw (W.is, length-marks) l.1)
 
   blank_of : (raw v : List ℕ) → unescape d raw ≡ some v → empty v ≡ empty raw
-  unfolding unescape unescapeAt empty
+  unfolding unescape unescape_at empty
   blank_of raw [] u = rw (nothing-of d p raw u)
   blank_of [] (x ∷ v) u = cc
   blank_of (b ∷ raw) (x ∷ v) u = refl
 
   pub fair : (q : Bool) (r : Rule) (raw : List ℕ) → Whole raw → judge d q r raw ≡ 0 → Fair q r raw (plain_of d raw)
-  unfolding judge faultOr23 orEmpty
+  unfolding judge fault_or23 or_empty
   fair q r raw W h =
-      let z = then-none (21 when same raw (bytes "\"\"")) (faultOr23 q r (unescape d raw)) h in
+      let z = then-none (21 when same raw (bytes "\"\"")) (fault_or23 q r (unescape d raw)) h in
       let n = when-none 20 (same raw (bytes "\"\"")) z.0 in
-      optionCases (unescape d raw)
+      option_cases (unescape d raw)
       (λ v e.
       let c = unescaped-clean raw v W e in
       let m : same v (bytes "\"\"") ≡ false =

@@ -9,13 +9,13 @@ use lib.Dec.{eqb, leb}
 use lib.ListN.{get_or-map}
 use Rattle.rules.specs.declared.Mode.{Mode}
 use Rattle.rules.specs.declared.Mode.TheVariants.{One, Bad}
-use Rattle.rules.specs.Lists.{nth, same, all, has, split, allButLast, last, led, join, ended, since}
-use Rattle.rules.specs.Shift.{within, step, isOne, walk, keeps, mark, marks, met}
+use Rattle.rules.specs.Lists.{nth, same, all, has, split, all_but_last, last, led, join, ended, since}
+use Rattle.rules.specs.Shift.{within, step, is_one, walk, keeps, mark, marks, met}
 use Rattle.rules.proofs.Logic.{cases, both, not-true}
 use Rattle.rules.proofs.Lists.{all_first, has-nil, has_first, has_there}
 use Rattle.rules.specs.Frame.{here}
 use Rattle.rules.proofs.Split.{frees, ended-split}
-use Rattle.rules.proofs.Modes.{inModes, one-is, walk-append, walk_step, walk-bad, marks-cons, met-append, still_one}
+use Rattle.rules.proofs.Modes.{in_modes, one-is, walk-append, walk_step, walk-bad, marks-cons, met-append, still_one}
 
 abbrev pub Clean : List ℕ → Type 0
 Clean s = walk 0x20 One s ≡ One
@@ -42,7 +42,7 @@ agree-one end b h =
 pub agree : (end : ℕ) (m : Mode) (b : ℕ) → (step 0x20 m b ≡ Bad → ⊥) → step end m b ≡ step 0x20 m b
 unfolding step
 agree end m b =
-    inModes (λ m. (step 0x20 m b ≡ Bad → ⊥) → step end m b ≡ step 0x20 m b)
+    in_modes (λ m. (step 0x20 m b ≡ Bad → ⊥) → step end m b ≡ step 0x20 m b)
     (agree-one end b) (λ h. refl) (λ h. refl) (λ h. refl) (λ h. refl) (λ h. refl) (λ h. refl) (λ h. refl) m
 
 walk_any : (end : ℕ) (m : Mode) (s : List ℕ) → walk 0x20 m s ≡ One → walk end m s ≡ One
@@ -51,7 +51,7 @@ walk_any end m [] h = h
 walk_any end m (b ∷ s) h = rw (agree end m b (not-bad 0x20 (step 0x20 m b) s h)) (walk_any end (step 0x20 m b) s h)
 
 pub clean-keeps : (end : ℕ) (s : List ℕ) → Clean s → keeps end s ≡ true
-unfolding keeps isOne
+unfolding keeps is_one
 clean-keeps end s h = rw (walk_any end One s h)
 
 pub clean-append : (a b : List ℕ) → Clean a → Clean b → Clean (a ++ b)
@@ -70,23 +70,23 @@ cleans-parts (p ∷ ps) qs h = let r = cleans-parts ps qs h.1 in ((h.0, r.0), r.
 
 -- ---- an end of lines: it acts in one-byte mode only, and no text that keeps the rule by itself holds it
 pub record End (x : ℕ) : Type 0 where
-  pub acts : (m : Mode) → step x m x ≡ cond (isOne m) One Bad
+  pub acts : (m : Mode) → step x m x ≡ cond (is_one m) One Bad
   pub never : (m : Mode) → step 0x20 m x ≡ Bad
 
 pub end-0A : End 0x0A
-unfolding step isOne
+unfolding step is_one
 end-0A =
     record {
-      acts = inModes (λ m. step 0x0A m 0x0A ≡ cond (isOne m) One Bad) refl refl refl refl refl refl refl refl;
-      never = inModes (λ m. step 0x20 m 0x0A ≡ Bad) refl refl refl refl refl refl refl refl;
+      acts = in_modes (λ m. step 0x0A m 0x0A ≡ cond (is_one m) One Bad) refl refl refl refl refl refl refl refl;
+      never = in_modes (λ m. step 0x20 m 0x0A ≡ Bad) refl refl refl refl refl refl refl refl;
     }
 
 pub end-0D : End 0x0D
-unfolding step isOne
+unfolding step is_one
 end-0D =
     record {
-      acts = inModes (λ m. step 0x0D m 0x0D ≡ cond (isOne m) One Bad) refl refl refl refl refl refl refl refl;
-      never = inModes (λ m. step 0x20 m 0x0D ≡ Bad) refl refl refl refl refl refl refl refl;
+      acts = in_modes (λ m. step 0x0D m 0x0D ≡ cond (is_one m) One Bad) refl refl refl refl refl refl refl refl;
+      never = in_modes (λ m. step 0x20 m 0x0D ≡ Bad) refl refl refl refl refl refl refl refl;
     }
 
 pub clean_free : (x : ℕ) → End x → (m : Mode) (s : List ℕ) → walk 0x20 m s ≡ One → has x s ≡ false
@@ -109,7 +109,7 @@ other-one end b h = cases (eqb b 0x20) (λ e. cc (eqb-true b 0x20 e)) (λ e. cc)
 
 other : (end : ℕ) (m : Mode) (b : ℕ) → eqb b end ≡ false → step end m b ≡ step 0x20 m b
 unfolding step
-other end m b h = inModes (λ m. step end m b ≡ step 0x20 m b) (other-one end b h) refl refl refl refl refl refl refl m
+other end m b h = in_modes (λ m. step end m b ≡ step 0x20 m b) (other-one end b h) refl refl refl refl refl refl refl m
 
 walk-free : (end : ℕ) (m : Mode) (s : List ℕ) → has end s ≡ false → walk end m s ≡ walk 0x20 m s
 unfolding walk
@@ -123,7 +123,7 @@ keeps-clean end s h f = sym (walk-free end One s f) ∙ one-is (walk end One s) 
 
 after-end : (end : ℕ) → End end → (m : Mode) (s : List ℕ) → walk end (step end m end) s ≡ One → (m ≡ One) × (walk end One s ≡ One)
 after-end end E m s h =
-    cases (isOne m)
+    cases (is_one m)
     (λ e. (one-is m e, rw (E.acts m, e) at h))
     (λ e. absurd (not-bad end (step end m end) s h (rw (E.acts m, e))))
 
@@ -141,18 +141,18 @@ unfolding keeps
 ended-cleans end E ps f h = walk-cleans end E ps f (one-is (walk end One (ended end ps)) h)
 
 cleans-walk : (end : ℕ) → End end → (ps : List (List ℕ)) → Cleans ps → walk end One (ended end ps) ≡ One
-unfolding ended walk isOne
+unfolding ended walk is_one
 cleans-walk end E [] h = refl
 cleans-walk end E (p ∷ ps) h =
     cc (walk-append end One p (end ∷ ended end ps), walk_any end One p h.0, walk_step end One end (ended end ps) (E.acts One), cleans-walk end E ps h.1)
 
 pub cleans-ended : (end : ℕ) → End end → (ps : List (List ℕ)) → Cleans ps → keeps end (ended end ps) ≡ true
-unfolding keeps isOne
+unfolding keeps is_one
 cleans-ended end E ps h = rw (cleans-walk end E ps h)
 
 -- an end between two texts, a list of ended lines before one
 pub keeps-parts : (a b : List ℕ) → keeps 0x0D (a ++ (0x0D ∷ b)) ≡ true → (keeps 0x0D a ≡ true) × (keeps 0x0D b ≡ true)
-unfolding keeps walk isOne
+unfolding keeps walk is_one
 keeps-parts a b h =
     let w = one-is (walk 0x0D One (a ++ (0x0D ∷ b))) h in
     let r = after-end 0x0D end-0D (walk 0x0D One a) b (rw (walk-append 0x0D One a (0x0D ∷ b)) at w) in
@@ -164,7 +164,7 @@ keeps-joined a b h k = rw (walk-append 0x0D One a (0x0D ∷ b), one-is (walk 0x0
 
 pub ended-keeps : (ss : List (List ℕ)) (z : List ℕ) → keeps 0x0D (ended 0x0D ss ++ z) ≡ true → (keeps 0x0D (ended 0x0D ss) ≡ true) × (keeps 0x0D z ≡ true)
 unfolding ended
-ended-keeps [] z h = (unfold keeps walk isOne in refl, h)
+ended-keeps [] z h = (unfold keeps walk is_one in refl, h)
 ended-keeps (s ∷ ss) z h =
     let a = keeps-parts s (ended 0x0D ss ++ z) (rw append_assoc at h) in
     let b = ended-keeps ss z a.1 in
@@ -173,7 +173,7 @@ ended-keeps (s ∷ ss) z h =
 -- what stands after the last end of a segment keeps the rule, where the whole does
 pub here-keeps : (p : List ℕ) → keeps 0x0D p ≡ true → keeps 0x0D (here p) ≡ true
 unfolding since
-here-keeps p h = (ended-keeps (allButLast (split 0x0D p)) (last (split 0x0D p)) (rw (ended-split 0x0D p) h)).1
+here-keeps p h = (ended-keeps (all_but_last (split 0x0D p)) (last (split 0x0D p)) (rw (ended-split 0x0D p) h)).1
 
 -- ---- pieces as they are met
 pub nth-met : (ps : List (List ℕ)) (i : ℕ) → nth (map met ps) i ≡ met (nth ps i)
@@ -187,7 +187,7 @@ module _ (x : ℕ) (t : step 0x20 One x ≡ One) where
 
   -- a byte of one-byte mode is met as itself
   pub met-cons : (s : List ℕ) → met (x ∷ s) ≡ x ∷ met s
-  unfolding met mark isOne
+  unfolding met mark is_one
   met-cons s = marks-cons 0x0D One x s ∙ rw stays
 
   pub clean-cons : (s : List ℕ) → Clean s → Clean (x ∷ s)
@@ -234,7 +234,7 @@ pub plain-kept : (s : List ℕ) → all (within 0x20 0x7E) s ≡ true → keeps 
 plain-kept s h = clean-keeps 0x0D s (plain-clean s h)
 
 pub same_met : (s w : List ℕ) → all (within 0x20 0x7E) w ≡ true → same (met s) w ≡ same s w
-unfolding met marks same mark isOne
+unfolding met marks same mark is_one
 same_met [] [] h = refl
 same_met [] (b ∷ w) h = refl
 same_met (a ∷ s) [] h = refl

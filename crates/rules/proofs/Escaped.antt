@@ -13,11 +13,11 @@ use Rattle.rules.specs.declared.Delims.{Delims}
 use Rattle.rules.specs.declared.Mode.{Mode}
 use Rattle.rules.specs.declared.Mode.TheVariants.{One, Bad}
 use Rattle.rules.specs.Lists.{bytes, empty, same, has, any, all}
-use Rattle.rules.specs.Shift.{step, isOne, walk, mark, marks, met, byte_of}
+use Rattle.rules.specs.Shift.{step, is_one, walk, mark, marks, met, byte_of}
 use Rattle.rules.specs.Frame.{twelve}
 use Rattle.rules.specs.Proper.{Delim, Proper}
-use Rattle.rules.specs.Escape.{Letter, letters, meaning, letterFor, plain, push, unescapeAt, unescape, escapeMet, escape}
-use Rattle.rules.proofs.Logic.{cases, optionCases, nothing-some, both, not-true, eqb-self}
+use Rattle.rules.specs.Escape.{Letter, letters, meaning, letter_for, plain, push, unescape_at, unescape, escape_met, escape}
+use Rattle.rules.proofs.Logic.{cases, option_cases, nothing-some, both, not-true, eqb-self}
 use Rattle.rules.proofs.Lists.{same-eq, same_self, all_first}
 use Rattle.rules.proofs.Modes.{one-is, walk_step, length-met}
 use Rattle.rules.proofs.Clean.{Clean, not-bad, agree, stays, met-cons, clean-cons}
@@ -25,36 +25,36 @@ use Rattle.rules.proofs.Header.{delim-one, delim-ne, delim-far}
 
 -- a byte that is written as itself: allowed in one-byte mode, and no delimiter
 unfoldable pub plain_byte : ℕ → Bool
-plain_byte b = isOne (step 0x20 One b) && not (has b twelve)
+plain_byte b = is_one (step 0x20 One b) && not (has b twelve)
 
 plain-one : (b : ℕ) → plain_byte b ≡ true → (step 0x20 One b ≡ One) × (has b twelve ≡ false)
 unfolding plain_byte
 plain-one b h =
-    let p = both (isOne (step 0x20 One b)) (not (has b twelve)) h in
+    let p = both (is_one (step 0x20 One b)) (not (has b twelve)) h in
     (one-is (step 0x20 One b) p.0, not-true (has b twelve) p.1)
 
 -- ---- no byte takes more than three, in any text and under any delimiters
-units-length : (d : Delims) (s : List ℕ) → length (escapeMet d s) ≤ 3 * length s
-unfolding escapeMet
+units-length : (d : Delims) (s : List ℕ) → length (escape_met d s) ≤ 3 * length s
+unfolding escape_met
 units-length d [] = omega arith
 units-length d (x ∷ s) =
-    optionCases (letterFor (letters d) x)
-    (λ l q. rw (q, escapeMet) (omega (arith, units-length d s)))
-    (λ q. rw (q, escapeMet) (omega (arith, units-length d s)))
+    option_cases (letter_for (letters d) x)
+    (λ l q. rw (q, escape_met) (omega (arith, units-length d s)))
+    (λ q. rw (q, escape_met) (omega (arith, units-length d s)))
 
 pub escaped-length : (d : Delims) (v : List ℕ) → length (escape d v) ≤ 3 * length v
 unfolding escape
 escaped-length d v = omega (arith, units-length d (met v), length-met v)
 
 -- ---- what is read where a byte is read first
-pub pushCases : {P : Type 0} (b : ℕ) (o : Option (List ℕ)) (v : List ℕ) → push b o ≡ some v → ((w : List ℕ) → o ≡ some w → v ≡ b ∷ w → P) → P
+pub push_cases : {P : Type 0} (b : ℕ) (o : Option (List ℕ)) (v : List ℕ) → push b o ≡ some v → ((w : List ℕ) → o ≡ some w → v ≡ b ∷ w → P) → P
 unfolding push
-pushCases b none v h f = nothing-some h
-pushCases b (some w) v h f = f w refl (cc)
+push_cases b none v h f = nothing-some h
+push_cases b (some w) v h f = f w refl (cc)
 
 -- ---- the table of letters
-none_first : (r : Letter) (rs : List Letter) (b : ℕ) → letterFor (r ∷ rs) b ≡ none → (eqb b r.stands ≡ false) × (letterFor rs b ≡ none)
-unfolding letterFor
+none_first : (r : Letter) (rs : List Letter) (b : ℕ) → letter_for (r ∷ rs) b ≡ none → (eqb b r.stands ≡ false) × (letter_for rs b ≡ none)
+unfolding letter_for
 none_first r rs b h = cases (eqb b r.stands) (λ e. (cc, cc)) (λ e. (e, cc))
 
 -- a byte for which no letter stands is no delimiter
@@ -65,7 +65,7 @@ pub record Apart (d : Delims) (b : ℕ) : Type 0 where
   pub e : eqb b d.escape ≡ false
   pub s : eqb b d.sub ≡ false
 
-apart : (d : Delims) (b : ℕ) → letterFor (letters d) b ≡ none → Apart d b
+apart : (d : Delims) (b : ℕ) → letter_for (letters d) b ≡ none → Apart d b
 unfolding letters
 apart d b h =
     let a0 = none_first _ _ b h in
@@ -98,17 +98,17 @@ record Coded (d : Delims) (b l : ℕ) : Type 0 where
 
 -- a byte that is none of the five has no letter
 pub no-letter : (d : Delims) (y : ℕ) → eqb y d.field ≡ false → eqb y d.component ≡ false → eqb y d.sub ≡ false
-    → eqb y d.repetition ≡ false → eqb y d.escape ≡ false → letterFor (letters d) y ≡ none
-unfolding letterFor letters
+    → eqb y d.repetition ≡ false → eqb y d.escape ≡ false → letter_for (letters d) y ≡ none
+unfolding letter_for letters
 no-letter d y f c s r e = cc
 
 module _ (d : Delims) (p : Proper d) where
   -- so one other than the twelve, or outside one-byte mode
-  pub unlettered : (y : ℕ) → ((x : ℕ) → Delim x → eqb y x ≡ false) → letterFor (letters d) y ≡ none
+  pub unlettered : (y : ℕ) → ((x : ℕ) → Delim x → eqb y x ≡ false) → letter_for (letters d) y ≡ none
   unlettered y n = no-letter d y (n d.field p.field) (n d.component p.component) (n d.sub p.sub) (n d.repetition p.repetition) (n d.escape p.escape)
 
-  coded-is : (b l : ℕ) → letterFor (letters d) b ≡ some l → Coded d b l
-  unfolding letterFor letters meaning plain_byte bytes has any isOne step
+  coded-is : (b l : ℕ) → letter_for (letters d) b ≡ some l → Coded d b l
+  unfolding letter_for letters meaning plain_byte bytes has any is_one step
   coded-is b l h =
       cases (eqb b d.field) (λ e0. is 70 d.field (cc) e0 refl p.field refl)
       (λ e0. cases (eqb b d.component) (λ e1. is 83 d.component (cc) e1 refl p.component refl)
@@ -124,7 +124,7 @@ module _ (d : Delims) (p : Proper d) where
 data Esc (d : Delims) : List ℕ → List ℕ → Type 0 where
   done : Esc d [] []
   far : {b : ℕ} {r v : List ℕ} → Esc d r v → Esc d ((256 + b) ∷ r) (b ∷ v)
-  near : {b : ℕ} {r v : List ℕ} → letterFor (letters d) b ≡ none → b < 256 → Esc d r v → Esc d (b ∷ r) (b ∷ v)
+  near : {b : ℕ} {r v : List ℕ} → letter_for (letters d) b ≡ none → b < 256 → Esc d r v → Esc d (b ∷ r) (b ∷ v)
   coded : {b l : ℕ} {r v : List ℕ} → Coded d b l → Esc d r v → Esc d (d.escape ∷ l ∷ d.escape ∷ r) (b ∷ v)
 
 pub small_one : (b : ℕ) → (step 0x20 One b ≡ Bad → ⊥) → b < 256
@@ -141,21 +141,21 @@ pub byte-near : (b : ℕ) → b < 256 → byte_of b ≡ b
 byte-near b h = rw (lt-ltb b 256 h)
 
 -- a byte met outside one-byte mode is written as it is
-pub escape-far : (d : Delims) (b : ℕ) (t : List ℕ) → letterFor (letters d) (256 + b) ≡ none → escapeMet d ((256 + b) ∷ t) ≡ b ∷ escapeMet d t
-unfolding escapeMet
+pub escape-far : (d : Delims) (b : ℕ) (t : List ℕ) → letter_for (letters d) (256 + b) ≡ none → escape_met d ((256 + b) ∷ t) ≡ b ∷ escape_met d t
+unfolding escape_met
 escape-far d b t h = cc (byte-far b)
 
 module _ (d : Delims) (p : Proper d) where
-  escape-near : (b : ℕ) (t : List ℕ) → letterFor (letters d) b ≡ none → b < 256 → escapeMet d (b ∷ t) ≡ b ∷ escapeMet d t
-  unfolding escapeMet
+  escape-near : (b : ℕ) (t : List ℕ) → letter_for (letters d) b ≡ none → b < 256 → escape_met d (b ∷ t) ≡ b ∷ escape_met d t
+  unfolding escape_met
   escape-near b t h l = cc (byte-near b l)
 
-  escape-coded : (b l : ℕ) (t : List ℕ) → letterFor (letters d) b ≡ some l → escapeMet d (b ∷ t) ≡ d.escape ∷ l ∷ d.escape ∷ escapeMet d t
-  unfolding escapeMet
+  escape-coded : (b l : ℕ) (t : List ℕ) → letter_for (letters d) b ≡ some l → escape_met d (b ∷ t) ≡ d.escape ∷ l ∷ d.escape ∷ escape_met d t
+  unfolding escape_met
   escape-coded b l t h = cc
 
   three-marks : (l : ℕ) (w : List ℕ) → step 0x20 One l ≡ One → marks 0x0D One (d.escape ∷ l ∷ d.escape ∷ w) ≡ d.escape ∷ l ∷ d.escape ∷ marks 0x0D One w
-  unfolding marks mark isOne
+  unfolding marks mark is_one
   three-marks l w h = simp (stays d.escape (delim-one d.escape p.escape), stays l h)
 
   three-walk : (l : ℕ) (w : List ℕ) → step 0x20 One l ≡ One → walk 0x20 One (d.escape ∷ l ∷ d.escape ∷ w) ≡ walk 0x20 One w
@@ -164,11 +164,11 @@ module _ (d : Delims) (p : Proper d) where
 
   -- the text as it is written from a mode on
   abbrev wrote : Mode → List ℕ → List ℕ
-  wrote m v = escapeMet d (marks 0x0D m v)
+  wrote m v = escape_met d (marks 0x0D m v)
 
-  wrote-step : (m : Mode) (b : ℕ) (v : List ℕ) → (step 0x20 m b ≡ Bad → ⊥) → wrote m (b ∷ v) ≡ escapeMet d (mark m b ∷ marks 0x0D (step 0x20 m b) v)
+  wrote-step : (m : Mode) (b : ℕ) (v : List ℕ) → (step 0x20 m b ≡ Bad → ⊥) → wrote m (b ∷ v) ≡ escape_met d (mark m b ∷ marks 0x0D (step 0x20 m b) v)
   unfolding marks
-  wrote-step m b v h = ap (λ (z : Mode). escapeMet d (mark m b ∷ marks 0x0D z v)) (agree 0x0D m b h)
+  wrote-step m b v h = ap (λ (z : Mode). escape_met d (mark m b ∷ marks 0x0D z v)) (agree 0x0D m b h)
 
   marks-step : (m : Mode) (b : ℕ) (w : List ℕ) → (step 0x20 m b ≡ Bad → ⊥) → marks 0x0D m (b ∷ w) ≡ mark m b ∷ marks 0x0D (step 0x20 m b) w
   unfolding marks
@@ -187,9 +187,9 @@ module _ (d : Delims) (p : Proper d) where
       }
 
   one-shape : (b : ℕ) (v : List ℕ) → (step 0x20 One b ≡ Bad → ⊥) → Shape (step 0x20 One b) v → Shape One (b ∷ v)
-  unfolding mark isOne
+  unfolding mark is_one
   one-shape b v n s =
-      optionCases (letterFor (letters d) b)
+      option_cases (letter_for (letters d) b)
       (λ l h.
       let c = coded-is d p b l h in
       let o = delim-one b c.delim in
@@ -204,24 +204,24 @@ module _ (d : Delims) (p : Proper d) where
       let l = small_one b n in
       itself One b v n (wrote-step One b v n ∙ escape-near b (marks 0x0D (step 0x20 One b) v) h l) s (near h l s.esc))
 
-  far-shape : (m : Mode) (b : ℕ) (v : List ℕ) → isOne m ≡ false → (step 0x20 m b ≡ Bad → ⊥) → Shape (step 0x20 m b) v → Shape m (b ∷ v)
+  far-shape : (m : Mode) (b : ℕ) (v : List ℕ) → is_one m ≡ false → (step 0x20 m b ≡ Bad → ⊥) → Shape (step 0x20 m b) v → Shape m (b ∷ v)
   far-shape m b v o n s =
       let k : mark m b ≡ 256 + b = unfold mark in rw o in
       itself m b v n (wrote-step m b v n ∙ (rw k (escape-far d b (marks 0x0D (step 0x20 m b) v) (unlettered d p (256 + b) (λ x h. delim-far x h b))))) s (rw k (far s.esc))
 
   shape : (m : Mode) (v : List ℕ) → walk 0x20 m v ≡ One → Shape m v
   unfolding walk
-  shape m [] h = record { esc = unfold marks escapeMet in done; walks = unfold marks escapeMet in h }
+  shape m [] h = record { esc = unfold marks escape_met in done; walks = unfold marks escape_met in h }
   shape m (b ∷ v) h =
       let n = not-bad 0x20 (step 0x20 m b) v h in
       let s = shape (step 0x20 m b) v h in
-      cases (isOne m)
+      cases (is_one m)
       (λ e. let q = one-is m e in rw q (one-shape b v (rw q at n) (rw q at s)))
       (λ e. far-shape m b v e n s)
 
   -- ---- what the shape says
-  esc-unescaped : {r v : List ℕ} → Esc d r v → unescapeAt d plain r ≡ some v
-  unfolding unescapeAt push
+  esc-unescaped : {r v : List ℕ} → Esc d r v → unescape_at d plain r ≡ some v
+  unfolding unescape_at push
   esc-unescaped done = refl
   esc-unescaped (far {b} x) = cc (delim-far d.escape p.escape b, delim-far d.sub p.sub b, byte-far b, esc-unescaped x)
   esc-unescaped (near {b} h l x) = let a = apart d b h in cc (a.e, a.s, byte-near b l, esc-unescaped x)
@@ -269,7 +269,7 @@ module _ (d : Delims) (p : Proper d) where
         let q = same-eq (met (escape d v)) (bytes "\"\"") e in
         let e1 = delim-ne d.escape p.escape 34 (unfold has any bytes in refl) in
         let e2 = delim-ne d.sub p.sub 34 (unfold has any bytes in refl) in
-        let u : unescape d (bytes "\"\"") ≡ some (bytes "\"\"") = unfold unescape unescapeAt bytes push in cc in
+        let u : unescape d (bytes "\"\"") ≡ some (bytes "\"\"") = unfold unescape unescape_at bytes push in cc in
         let w : v ≡ bytes "\"\"" = cc (escaped-back) in
         cc (same_self (bytes "\"\"")))
         (λ e. e)
@@ -283,5 +283,5 @@ module _ (d : Delims) (p : Proper d) where
       (rw (met-cons b q.0 v) (escape-near b (met v) (unlettered d p b (λ x i. delim-ne x i b q.1)) l ∙ (rw r.0)), clean-cons b q.0 v r.1)
 
   pub word : (v : List ℕ) → all plain_byte v ≡ true → (escape d v ≡ v) × Clean v
-  word [] h = (unfold escape escapeMet met marks in refl, unfold walk in refl)
+  word [] h = (unfold escape escape_met met marks in refl, unfold walk in refl)
   word (b ∷ v) h = let a = all_first plain_byte b v h in word_on b v a.0 (word v a.1)

@@ -12,7 +12,7 @@ use Rattle.rules.specs.declared.Delims.{Delims}
 use Rattle.rules.specs.declared.Mode.TheVariants.{One}
 use Rattle.rules.specs.Lists.{bytes, starts, all, has, distinct}
 use Rattle.rules.specs.Shift.{within, step}
-use Rattle.rules.specs.Frame.{delimsOf, fiveOf, twelve, delimsOk, headerOk}
+use Rattle.rules.specs.Frame.{delims_of, five_of, twelve, delims_ok, header_ok}
 use Rattle.rules.specs.Proper.{Delim, Proper}
 use Rattle.rules.proofs.Logic.{both, not-true, never, eqb-self, eqb-sym, or-true}
 use Rattle.rules.proofs.Lists.{starts-eq, all_first, has-cons, has_first, has_here, in_all}
@@ -48,11 +48,11 @@ distinct-first : (x : ℕ) (s : List ℕ) → distinct (x ∷ s) ≡ true → (h
 unfolding distinct
 distinct-first x s h = let p = both (not (has x s)) (distinct s) h in (not-true (has x s) p.0, p.1)
 
-pub proper : (d : Delims) → delimsOk d ≡ true → Proper d
-unfolding delimsOk
+pub proper : (d : Delims) → delims_ok d ≡ true → Proper d
+unfolding delims_ok
 proper d h =
     let p : ℕ → Bool = λ b. has b twelve in
-    let b = both (all p (fiveOf d)) (distinct (fiveOf d)) h in
+    let b = both (all p (five_of d)) (distinct (five_of d)) h in
     let a0 = all_first p d.field _ b.0 in
     let a1 = all_first p d.component _ a0.1 in
     let a2 = all_first p d.repetition _ a1.1 in
@@ -89,15 +89,15 @@ proper d h =
 pub record Header (m : List ℕ) : Type 0 where
   pub long : 9 ≤ length m
   pub name : starts (bytes "MSH") m ≡ true
-  pub proper : Proper (delimsOf m)
-  pub again : get_or m 8 0 ≡ (delimsOf m).field
+  pub proper : Proper (delims_of m)
+  pub again : get_or m 8 0 ≡ (delims_of m).field
 
-pub header : (m : List ℕ) → headerOk m ≡ true → Header m
-unfolding headerOk
+pub header : (m : List ℕ) → header_ok m ≡ true → Header m
+unfolding header_ok
 header m h =
-    let d = delimsOf m in
-    let a = both (leb 9 (length m) && starts (bytes "MSH") m && delimsOk d) (eqb (get_or m 8 0) d.field) h in
-    let b = both (leb 9 (length m) && starts (bytes "MSH") m) (delimsOk d) a.0 in
+    let d = delims_of m in
+    let a = both (leb 9 (length m) && starts (bytes "MSH") m && delims_ok d) (eqb (get_or m 8 0) d.field) h in
+    let b = both (leb 9 (length m) && starts (bytes "MSH") m) (delims_ok d) a.0 in
     let c = both (leb 9 (length m)) (starts (bytes "MSH") m) b.0 in
     record {
       long = leb-true 9 (length m) c.0;
@@ -108,8 +108,8 @@ header m h =
 
 -- ---- after the first nine bytes
 -- the delimiters stand in what has eight bytes
-pub delims-stay : (p q : List ℕ) → 8 ≤ length p → delimsOf (p ++ q) ≡ delimsOf p
-unfolding delimsOf
+pub delims-stay : (p q : List ℕ) → 8 ≤ length p → delims_of (p ++ q) ≡ delims_of p
+unfolding delims_of
 delims-stay p q h =
     cc (
       get_or-append p q 0 3 (omega arith),
@@ -121,8 +121,8 @@ delims-stay p q h =
 
 -- the message begins with its name and its delimiters
 pub header-bytes : (m : List ℕ) → Header m
-    → m ≡ bytes "MSH" ++ ((delimsOf m).field ∷ (delimsOf m).component ∷ (delimsOf m).repetition ∷ (delimsOf m).escape ∷ (delimsOf m).sub ∷ (delimsOf m).field ∷ drop 9 m)
-unfolding bytes delimsOf
+    → m ≡ bytes "MSH" ++ ((delims_of m).field ∷ (delims_of m).component ∷ (delims_of m).repetition ∷ (delims_of m).escape ∷ (delims_of m).sub ∷ (delims_of m).field ∷ drop 9 m)
+unfolding bytes delims_of
 header-bytes m g =
     let l = g.long in
     cc (

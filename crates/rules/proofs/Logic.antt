@@ -20,21 +20,21 @@ pub cases : {P : Type 0} (t : Bool) → (t ≡ true → P) → (t ≡ false → 
 cases true f g = f refl
 cases false f g = g refl
 
-pub optionCases : {A P : Type 0} (o : Option A) → ((v : A) → o ≡ some v → P) → (o ≡ none → P) → P
-optionCases none f g = g refl
-optionCases (some v) f g = f v refl
+pub option_cases : {A P : Type 0} (o : Option A) → ((v : A) → o ≡ some v → P) → (o ≡ none → P) → P
+option_cases none f g = g refl
+option_cases (some v) f g = f v refl
 
-pub listCases : {A P : Type 0} (s : List A) → (s ≡ [] → P) → ((x : A) (r : List A) → s ≡ x ∷ r → P) → P
-listCases [] f g = f refl
-listCases (x ∷ r) f g = g x r refl
+pub list_cases : {A P : Type 0} (s : List A) → (s ≡ [] → P) → ((x : A) (r : List A) → s ≡ x ∷ r → P) → P
+list_cases [] f g = f refl
+list_cases (x ∷ r) f g = g x r refl
 
-pub toldCases : {A P : Type 0} (t : Told A) → ((a : A) → t ≡ gives a → P) → ((n s f : ℕ) → t ≡ refused n s f → P) → P
-toldCases (gives a) f g = f a refl
-toldCases (refused n s k) f g = g n s k refl
+pub told_cases : {A P : Type 0} (t : Told A) → ((a : A) → t ≡ gives a → P) → ((n s f : ℕ) → t ≡ refused n s f → P) → P
+told_cases (gives a) f g = f a refl
+told_cases (refused n s k) f g = g n s k refl
 
-pub zeroCases : {P : Type 0} (n : ℕ) → (n ≡ 0 → P) → ((k : ℕ) → n ≡ suc k → P) → P
-zeroCases zero f g = f refl
-zeroCases (suc n) f g = g n refl
+pub zero_cases : {P : Type 0} (n : ℕ) → (n ≡ 0 → P) → ((k : ℕ) → n ≡ suc k → P) → P
+zero_cases zero f g = f refl
+zero_cases (suc n) f g = g n refl
 
 -- what is both so and not so is nowhere
 pub never : {P : Type 0} → true ≡ false → P

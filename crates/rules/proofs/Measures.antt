@@ -8,7 +8,7 @@ use borrow.Author.Tests.{ltb-true, ltb-false}
 use lib.Dec.{ltb}
 use lib.ListN.{length, get_or, drop, length-append, drop_of_length-le, get_or-eq_default}
 use lib.Seq.{drop-cons}
-use Rattle.rules.specs.Lists.{nth, split, led, join, decimalTo, decimal, front, later}
+use Rattle.rules.specs.Lists.{nth, split, led, join, decimal_to, decimal, front, later}
 use Rattle.rules.proofs.Logic.{cases}
 use Rattle.rules.proofs.Lists.{from}
 use Rattle.rules.proofs.Split.{split-cons, join-split}
@@ -90,14 +90,14 @@ unfoldable pub tens : ℕ → ℕ
 tens zero = 10
 tens (suc k) = tens k * 10
 
-digits_of : (c k n : ℕ) → n < tens c → length (decimalTo k n) ≤ suc c
-unfolding tens decimalTo
+digits_of : (c k n : ℕ) → n < tens c → length (decimal_to k n) ≤ suc c
+unfolding tens decimal_to
 digits_of c zero n h = omega arith
-digits_of zero (suc k) n h = cases (ltb n 10) (λ e. rw (e, decimalTo) (omega arith)) (λ e. absurd (omega (arith, ltb-false n 10 e)))
+digits_of zero (suc k) n h = cases (ltb n 10) (λ e. rw (e, decimal_to) (omega arith)) (λ e. absurd (omega (arith, ltb-false n 10 e)))
 digits_of (suc c) (suc k) n h =
     cases (ltb n 10)
-    (λ e. rw (e, decimalTo) (omega arith))
-    (λ e. rw (e, decimalTo, length-append) (omega (arith, digits_of c k (n / 10) ((div-lt_iff_lt-mul {k = 10} (omega arith)).1 h))))
+    (λ e. rw (e, decimal_to) (omega arith))
+    (λ e. rw (e, decimal_to, length-append) (omega (arith, digits_of c k (n / 10) ((div-lt_iff_lt-mul {k = 10} (omega arith)).1 h))))
 
 pub decimal-few : (c n : ℕ) → n < tens c → length (decimal n) ≤ suc c
 unfolding decimal

@@ -9,23 +9,23 @@ use lib.Dec.{eqb}
 use lib.ListN.{length, get_or, take, drop}
 use Rattle.rules.specs.declared.Mode.{Mode}
 use Rattle.rules.specs.declared.Mode.TheVariants.{One, Esc1, Esc2, Two, Second, Back1, Back2, Bad}
-use Rattle.rules.specs.Shift.{step, isOne, walk, keeps, mark, marks, met, byte_of}
+use Rattle.rules.specs.Shift.{step, is_one, walk, keeps, mark, marks, met, byte_of}
 use Rattle.rules.proofs.Logic.{cases, or-true}
 use Rattle.rules.proofs.Lists.{here, over}
 
 -- ---- what holds in each mode
-pub inModes : (P : Mode → Type 0) → P One → P Esc1 → P Esc2 → P Two → P Second → P Back1 → P Back2 → P Bad → (m : Mode) → P m
-inModes P a b c d e f g h One = a
-inModes P a b c d e f g h Esc1 = b
-inModes P a b c d e f g h Esc2 = c
-inModes P a b c d e f g h Two = d
-inModes P a b c d e f g h Second = e
-inModes P a b c d e f g h Back1 = f
-inModes P a b c d e f g h Back2 = g
-inModes P a b c d e f g h Bad = h
+pub in_modes : (P : Mode → Type 0) → P One → P Esc1 → P Esc2 → P Two → P Second → P Back1 → P Back2 → P Bad → (m : Mode) → P m
+in_modes P a b c d e f g h One = a
+in_modes P a b c d e f g h Esc1 = b
+in_modes P a b c d e f g h Esc2 = c
+in_modes P a b c d e f g h Two = d
+in_modes P a b c d e f g h Second = e
+in_modes P a b c d e f g h Back1 = f
+in_modes P a b c d e f g h Back2 = g
+in_modes P a b c d e f g h Bad = h
 
-pub one-is : (m : Mode) → isOne m ≡ true → m ≡ One
-unfolding isOne
+pub one-is : (m : Mode) → is_one m ≡ true → m ≡ One
+unfolding is_one
 one-is One e = refl
 one-is Esc1 e = cc
 one-is Esc2 e = cc
@@ -84,7 +84,7 @@ length-met s = length-marks 0x0D One s
 mark-unique : (m : Mode) (x y : ℕ) → mark m x ≡ mark m y → x ≡ y
 unfolding mark
 mark-unique m x y e =
-    cases (isOne m) (λ o. rw o at e) (λ o. let z : 256 + x ≡ 256 + y = rw o at e in omega arith)
+    cases (is_one m) (λ o. rw o at e) (λ o. let z : 256 + x ≡ 256 + y = rw o at e in omega arith)
 
 marks-unique : (m : Mode) (a b : List ℕ) → marks 0x0D m a ≡ marks 0x0D m b → a ≡ b
 unfolding marks
@@ -116,22 +116,22 @@ take-marks end (suc n) m [] = refl
 take-marks end (suc n) m (b ∷ s) = cc (take-marks end n (step end m b) s)
 
 -- ---- one byte as it is met
-pub met-as : (m : Mode) (b a : ℕ) → a < 256 → eqb (mark m b) a ≡ (isOne m && eqb b a)
+pub met-as : (m : Mode) (b a : ℕ) → a < 256 → eqb (mark m b) a ≡ (is_one m && eqb b a)
 unfolding mark
-met-as m b a h = cases (isOne m) (λ e. rw e) (λ e. rw e (ne_eqb (256 + b) a (omega arith)))
+met-as m b a h = cases (is_one m) (λ e. rw e) (λ e. rw e (ne_eqb (256 + b) a (omega arith)))
 
 -- a separator that is met stands in one-byte mode
 pub met-one : (m : Mode) (b a : ℕ) → a < 256 → eqb (mark m b) a ≡ true → (m ≡ One) × (b ≡ a)
-unfolding mark isOne
+unfolding mark is_one
 met-one m b a h e =
-    cases (isOne m) (λ o. let q : eqb b a ≡ true = rw o at e in (one-is m o, eqb-true b a q))
+    cases (is_one m) (λ o. let q : eqb b a ≡ true = rw o at e in (one-is m o, eqb-true b a q))
     (λ o. let q : eqb (256 + b) a ≡ true = rw o at e in let z : 256 + b ≡ a = eqb-true (256 + b) a q in absurd (omega arith))
 
 -- the byte behind the mark
 pub byte-met : (m : Mode) (b : ℕ) → b < 256 → byte_of (mark m b) ≡ b
 unfolding mark
 byte-met m b h =
-    cases (isOne m) (λ o. rw (o, lt-ltb b 256 h))
+    cases (is_one m) (λ o. rw (o, lt-ltb b 256 h))
     (λ o. rw (o, le-ltb (256 + b) 256 (omega arith)) (let z : 256 + b - 256 ≡ b = omega arith in z))
 
 -- after a printable byte of one-byte mode, one-byte mode

@@ -11,7 +11,7 @@ use Rattle.rules.specs.declared.Name.{Name}
 use Rattle.rules.specs.declared.Name.TheVariants.{Msh, Pid, Pv1, Spm, Obr, Orc, Obx, Other}
 use Rattle.rules.specs.Lists.{bytes, starts, all, any, has, split, front, later}
 use Rattle.rules.specs.Shift.{within, met}
-use Rattle.rules.specs.Frame.{knownNames, spelling, nameAmong, name_of, rank, is, twelve}
+use Rattle.rules.specs.Frame.{known_names, spelling, name_among, name_of, rank, is, twelve}
 use Rattle.rules.specs.Proper.{Delim}
 use Rattle.rules.proofs.Logic.{cases, both, never, not-true}
 use Rattle.rules.proofs.Lists.{starts-eq, in_all}
@@ -20,15 +20,15 @@ use Rattle.rules.proofs.Modes.{met-append}
 use Rattle.rules.proofs.Clean.{plain-met, plain-kept}
 
 -- ---- what holds of each name
-pub inNames : (P : Name → Type 0) → P Msh → P Pid → P Pv1 → P Spm → P Obr → P Orc → P Obx → P Other → (n : Name) → P n
-inNames P a b c d e f g h Msh = a
-inNames P a b c d e f g h Pid = b
-inNames P a b c d e f g h Pv1 = c
-inNames P a b c d e f g h Spm = d
-inNames P a b c d e f g h Obr = e
-inNames P a b c d e f g h Orc = f
-inNames P a b c d e f g h Obx = g
-inNames P a b c d e f g h Other = h
+pub in_names : (P : Name → Type 0) → P Msh → P Pid → P Pv1 → P Spm → P Obr → P Orc → P Obx → P Other → (n : Name) → P n
+in_names P a b c d e f g h Msh = a
+in_names P a b c d e f g h Pid = b
+in_names P a b c d e f g h Pv1 = c
+in_names P a b c d e f g h Spm = d
+in_names P a b c d e f g h Obr = e
+in_names P a b c d e f g h Orc = f
+in_names P a b c d e f g h Obx = g
+in_names P a b c d e f g h Other = h
 
 -- a name is known by its rank
 named : ℕ → Name
@@ -39,13 +39,13 @@ unfolding named
 name-is a b e = sym (back a) ∙ ap named (eqb-true (rank a) (rank b) e) ∙ back b
   where
     back : (n : Name) → named (rank n) ≡ n
-    back n = inNames (λ n. named (rank n) ≡ n) refl refl refl refl refl refl refl refl n
+    back n = in_names (λ n. named (rank n) ≡ n) refl refl refl refl refl refl refl refl n
 
 -- ---- how it is spelled
-among : (ns : List Name) (s : List ℕ) → is (nameAmong ns s) Other ≡ false → starts (spelling (nameAmong ns s)) s ≡ true
-unfolding nameAmong
+among : (ns : List Name) (s : List ℕ) → is (name_among ns s) Other ≡ false → starts (spelling (name_among ns s)) s ≡ true
+unfolding name_among
 among [] s h = never h
-among (n ∷ ns) s h = cases (starts (spelling n) s) (λ e. rw (e, nameAmong) e) (λ e. rw (e, nameAmong) (among ns s (rw (e, nameAmong) at h)))
+among (n ∷ ns) s h = cases (starts (spelling n) s) (λ e. rw (e, name_among) e) (λ e. rw (e, name_among) (among ns s (rw (e, name_among) at h)))
 
 -- what is so of every known name
 letters : Name → Bool
@@ -54,7 +54,7 @@ letters n = eqb (length (spelling n)) 3 && (all (within 0x20 0x7E) (spelling n) 
 lettered : (n : Name) → is n Other ≡ false → letters n ≡ true
 unfolding letters spelling bytes all has any
 lettered n =
-    inNames (λ n. is n Other ≡ false → letters n ≡ true)
+    in_names (λ n. is n Other ≡ false → letters n ≡ true)
     (λ h. refl) (λ h. refl) (λ h. refl) (λ h. refl) (λ h. refl) (λ h. refl) (λ h. refl) (λ h. never h) n
 
 pub record Spelling (n : Name) : Type 0 where
@@ -75,14 +75,14 @@ spelling-of n h =
 
 pub spelled : (s : List ℕ) → is (name_of s) Other ≡ false → s ≡ spelling (name_of s) ++ drop 3 s
 unfolding name_of
-spelled s h = rw (spelling-of (name_of s) h).three at (starts-eq (spelling (name_of s)) s (among knownNames s h))
+spelled s h = rw (spelling-of (name_of s) h).three at (starts-eq (spelling (name_of s)) s (among known_names s h))
 
 -- the name stands in the first three bytes
 pub name-three : (s x : List ℕ) → 3 ≤ length s → name_of (s ++ x) ≡ name_of s
 name-three [] x h = absurd (omega arith)
 name-three (a ∷ []) x h = absurd (omega arith)
 name-three (a ∷ b ∷ []) x h = absurd (omega arith)
-name-three (a ∷ b ∷ c ∷ s) x h = unfold name_of nameAmong knownNames spelling bytes starts in refl
+name-three (a ∷ b ∷ c ∷ s) x h = unfold name_of name_among known_names spelling bytes starts in refl
 
 pub name-stays : (s x : List ℕ) → is (name_of s) Other ≡ false → name_of (s ++ x) ≡ name_of s
 name-stays s x h =

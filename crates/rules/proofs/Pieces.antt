@@ -11,7 +11,7 @@ use lib.ListN.{length, length-append}
 use Rattle.rules.specs.declared.Mode.{Mode}
 use Rattle.rules.specs.declared.Mode.TheVariants.{One}
 use Rattle.rules.specs.Lists.{nth, has, split, later, before, since}
-use Rattle.rules.specs.Shift.{step, isOne, walk, keeps, mark, marks, met}
+use Rattle.rules.specs.Shift.{step, is_one, walk, keeps, mark, marks, met}
 use Rattle.rules.specs.Fetch.{span, start_of}
 use Rattle.rules.proofs.Logic.{cases}
 use Rattle.rules.proofs.Lists.{has-nil, has_there, has_parts}
@@ -43,7 +43,7 @@ module _ (sep : ℕ) (low : 0x20 ≤ sep) (high : sep ≤ 0x7E) where
 
   pub first-sep : {P : Type 0} (s : List ℕ) → (has sep (met s) ≡ false → P)
       → ((a b : List ℕ) → s ≡ a ++ (sep ∷ b) → keeps 0x0D a ≡ true → has sep (met a) ≡ false → P) → P
-  unfolding met keeps isOne
+  unfolding met keeps is_one
   first-sep s f g = first-from One s f (λ a b e w h. g a b e (rw w) h)
 
 -- ---- the n-th piece
@@ -85,7 +85,7 @@ module _ {sep n : ℕ} {s : List ℕ} (c : Piece sep n s) (x : ℕ) where
 module _ (sep : ℕ) (low : 0x20 ≤ sep) (high : sep ≤ 0x7E) where
   -- the first piece of a text with one; with more
   only : (s : List ℕ) → keeps 0x0D s ≡ true → has sep (met s) ≡ false → Piece sep 0 s
-  unfolding keeps walk isOne before since
+  unfolding keeps walk is_one before since
   only s k h =
       record {
         left = [];
@@ -100,7 +100,7 @@ module _ (sep : ℕ) (low : 0x20 ≤ sep) (high : sep ≤ 0x7E) where
       }
 
   foremost : (a b : List ℕ) → keeps 0x0D a ≡ true → has sep (met a) ≡ false → Piece sep 0 (a ++ (sep ∷ b))
-  unfolding keeps walk isOne before since
+  unfolding keeps walk is_one before since
   foremost a b k h =
       record {
         left = [];
@@ -116,7 +116,7 @@ module _ (sep : ℕ) (low : 0x20 ≤ sep) (high : sep ≤ 0x7E) where
 
   -- a later one, of a text with one
   beyond : (n : ℕ) (s : List ℕ) → keeps 0x0D s ≡ true → has sep (met s) ≡ false → Piece sep (suc n) s
-  unfolding keeps walk isOne met marks
+  unfolding keeps walk is_one met marks
   beyond n s k h =
       let z : length (split sep (met s)) ≡ 1 = rw (split-none sep (met s) h) in
       record {

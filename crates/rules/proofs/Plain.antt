@@ -8,16 +8,16 @@ use borrow.Author.Tests.{leb-true, eqb-true}
 use lib.Dec.{eqb, leb}
 use lib.ListN.{length}
 use Rattle.rules.specs.Lists.{bytes, has, any, all, count}
-use Rattle.rules.specs.Shift.{within, step, isOne}
-use Rattle.rules.specs.Frame.{digit, capital, capitalOrDigit}
-use Rattle.rules.specs.Value.{digitsOk, point, unsigned, spelled}
+use Rattle.rules.specs.Shift.{within, step, is_one}
+use Rattle.rules.specs.Frame.{digit, capital, capital_or_digit}
+use Rattle.rules.specs.Value.{digits_ok, point, unsigned, spelled}
 use Rattle.rules.proofs.Logic.{cases, both, either}
 use Rattle.rules.proofs.Lists.{all_cons, range, in-range, all-each}
 use Rattle.rules.proofs.Escaped.{plain_byte}
 
 -- to unfold this name is to see whether a given byte is plain
 unfoldable pub bytewise : Unit {0}
-unfolding all range plain_byte isOne step has any bytes
+unfolding all range plain_byte is_one step has any bytes
 bytewise = tt
 
 -- ---- digits, capitals, signs and points are written as themselves
@@ -30,7 +30,7 @@ digit-plain b h = within-plain 48 9 b h (in-range plain_byte 48 10 (unfold bytew
 capital-plain : (b : ℕ) → capital b ≡ true → plain_byte b ≡ true
 capital-plain b h = within-plain 65 25 b h (in-range plain_byte 65 26 (unfold bytewise in refl))
 
-both-plain : (b : ℕ) → capitalOrDigit b ≡ true → plain_byte b ≡ true
+both-plain : (b : ℕ) → capital_or_digit b ≡ true → plain_byte b ≡ true
 both-plain b h = either (capital b) (digit b) h (capital-plain b) (digit-plain b)
 
 as_byte : (b k : ℕ) → eqb b k ≡ true → plain_byte k ≡ true → plain_byte b ≡ true
@@ -53,8 +53,8 @@ number-plain (b ∷ s) h =
     rw (all_cons plain_byte b s, p) (spelled-plain s (rw e at h)))
     (λ e. spelled-plain (b ∷ s) (rw e at h))
 
-pub digits-plain : (n : ℕ) (v : List ℕ) → digitsOk n v ≡ true → all plain_byte v ≡ true
+pub digits-plain : (n : ℕ) (v : List ℕ) → digits_ok n v ≡ true → all plain_byte v ≡ true
 digits-plain n v h = all-each digit plain_byte digit-plain v (both (eqb (length v) n) (all digit v) h).1
 
-pub capitals-plain : (v : List ℕ) → all capitalOrDigit v ≡ true → all plain_byte v ≡ true
-capitals-plain v h = all-each capitalOrDigit plain_byte both-plain v h
+pub capitals-plain : (v : List ℕ) → all capital_or_digit v ≡ true → all plain_byte v ≡ true
+capitals-plain v h = all-each capital_or_digit plain_byte both-plain v h

@@ -6,7 +6,7 @@ use Prim.Native.Nat.{ℕ, suc}
 use borrow.Author.Tests.{eqb-true}
 use lib.Dec.{eqb}
 use lib.ListN.{length, drop}
-use Rattle.rules.specs.Lists.{empty, nth, has, onto, split, allButLast, last, front, later, before, since, led, join, ended}
+use Rattle.rules.specs.Lists.{empty, nth, has, onto, split, all_but_last, last, front, later, before, since, led, join, ended}
 use Rattle.rules.proofs.Logic.{cases, both, not-true, eqb-self}
 use Rattle.rules.proofs.Lists.{empty-is, has_first, has-nil, has_there, one_free, has-neither}
 
@@ -75,21 +75,21 @@ split-next sep (b ∷ p) s h =
 
 -- ---- the pieces of two texts, one after the other: the last of the one and the first of the other are one piece
 onto-glue : (b : ℕ) (ps : List (List ℕ)) (x : List ℕ) (r : List (List ℕ))
-    → onto b (allButLast ps ++ ((last ps ++ x) ∷ r)) ≡ allButLast (onto b ps) ++ ((last (onto b ps) ++ x) ∷ r)
-unfolding onto allButLast last
+    → onto b (all_but_last ps ++ ((last ps ++ x) ∷ r)) ≡ all_but_last (onto b ps) ++ ((last (onto b ps) ++ x) ∷ r)
+unfolding onto all_but_last last
 onto-glue b [] x r = refl
 onto-glue b (p ∷ []) x r = refl
 onto-glue b (p ∷ q ∷ ps) x r = refl
 
 glue-cons : (p : List ℕ) (ps : List (List ℕ)) (q : List ℕ) (qs : List (List ℕ)) → ps ≡ q ∷ qs
-    → (allButLast (p ∷ ps) ≡ p ∷ allButLast ps) × (last (p ∷ ps) ≡ last ps)
-unfolding allButLast last
+    → (all_but_last (p ∷ ps) ≡ p ∷ all_but_last ps) × (last (p ∷ ps) ≡ last ps)
+unfolding all_but_last last
 glue-cons p [] q qs e = (cc, cc)
 glue-cons p (x ∷ ps) q qs e = (refl, refl)
 
 pub split-glue : (sep : ℕ) (p q : List ℕ)
-    → split sep (p ++ q) ≡ allButLast (split sep p) ++ ((last (split sep p) ++ front sep q) ∷ later sep q)
-split-glue sep [] q = unfold allButLast last split in split-cons sep q
+    → split sep (p ++ q) ≡ all_but_last (split sep p) ++ ((last (split sep p) ++ front sep q) ∷ later sep q)
+split-glue sep [] q = unfold all_but_last last split in split-cons sep q
 split-glue sep (b ∷ p) q =
     cases (eqb b sep)
     (λ e. let g = glue-cons [] (split sep p) (front sep p) (later sep p) (split-cons sep p) in cc (split-here sep b p e, split-here sep b (p ++ q) e, split-glue sep p q, g.0, g.1))
@@ -97,19 +97,19 @@ split-glue sep (b ∷ p) q =
 
 -- the pieces of a v r, with v without separators
 pub split-three : (sep : ℕ) (a v r : List ℕ) → has sep v ≡ false
-    → split sep (a ++ (v ++ r)) ≡ allButLast (split sep a) ++ ((since sep a ++ (v ++ front sep r)) ∷ later sep r)
+    → split sep (a ++ (v ++ r)) ≡ all_but_last (split sep a) ++ ((since sep a ++ (v ++ front sep r)) ∷ later sep r)
 unfolding since
 split-three sep a v r h = cc (split-glue sep a (v ++ r), front-free sep v r h, later-free sep v r h)
 
-pub butLast-glue : (a : List (List ℕ)) (x : List ℕ) (r : List (List ℕ)) → allButLast (a ++ (x ∷ r)) ≡ a ++ allButLast (x ∷ r)
-unfolding allButLast
-butLast-glue [] x r = refl
-butLast-glue (p ∷ []) x r = refl
-butLast-glue (p ∷ q ∷ a) x r = ap (λ (t : List (List ℕ)). p ∷ t) (butLast-glue (q ∷ a) x r)
+pub but_last-glue : (a : List (List ℕ)) (x : List ℕ) (r : List (List ℕ)) → all_but_last (a ++ (x ∷ r)) ≡ a ++ all_but_last (x ∷ r)
+unfolding all_but_last
+but_last-glue [] x r = refl
+but_last-glue (p ∷ []) x r = refl
+but_last-glue (p ∷ q ∷ a) x r = ap (λ (t : List (List ℕ)). p ∷ t) (but_last-glue (q ∷ a) x r)
 
 -- a text that begins with a separator, or is empty, puts pieces at the end
-rejoin : (p : List ℕ) (ps r : List (List ℕ)) → allButLast (p ∷ ps) ++ (last (p ∷ ps) ∷ r) ≡ (p ∷ ps) ++ r
-unfolding allButLast last
+rejoin : (p : List ℕ) (ps r : List (List ℕ)) → all_but_last (p ∷ ps) ++ (last (p ∷ ps) ∷ r) ≡ (p ∷ ps) ++ r
+unfolding all_but_last last
 rejoin p [] r = refl
 rejoin p (q ∷ ps) r = ap (λ (t : List (List ℕ)). p ∷ t) (rejoin q ps r)
 
@@ -118,26 +118,26 @@ split-added sep a x h =
     rw (split-glue sep a x, h, append-nil (last (split sep a)), split-cons sep a) (rejoin (front sep a) (later sep a) (later sep x))
 
 -- ---- all but the last, and the last
-but_last : (p : List ℕ) (ps : List (List ℕ)) → length (p ∷ ps) ≡ suc (length (allButLast (p ∷ ps)))
-unfolding allButLast
-but_last p [] = refl
-but_last p (q ∷ ps) = ap suc (but_last q ps)
+but_last_lem : (p : List ℕ) (ps : List (List ℕ)) → length (p ∷ ps) ≡ suc (length (all_but_last (p ∷ ps)))
+unfolding all_but_last
+but_last_lem p [] = refl
+but_last_lem p (q ∷ ps) = ap suc (but_last_lem q ps)
 
-pub pieces-length : (sep : ℕ) (s : List ℕ) → length (split sep s) ≡ suc (length (allButLast (split sep s)))
-pieces-length sep s = rw (split-cons sep s) (but_last (front sep s) (later sep s))
+pub pieces-length : (sep : ℕ) (s : List ℕ) → length (split sep s) ≡ suc (length (all_but_last (split sep s)))
+pieces-length sep s = rw (split-cons sep s) (but_last_lem (front sep s) (later sep s))
 
 -- a first piece with more after it is before the last
-pub butLast-split : (sep : ℕ) (p s : List ℕ) → allButLast (p ∷ split sep s) ≡ p ∷ allButLast (split sep s)
-butLast-split sep p s = (glue-cons p (split sep s) (front sep s) (later sep s) (split-cons sep s)).0
+pub but_last-split : (sep : ℕ) (p s : List ℕ) → all_but_last (p ∷ split sep s) ≡ p ∷ all_but_last (split sep s)
+but_last-split sep p s = (glue-cons p (split sep s) (front sep s) (later sep s) (split-cons sep s)).0
 
 pub last-split : (sep : ℕ) (p s : List ℕ) → last (p ∷ split sep s) ≡ last (split sep s)
 last-split sep p s = (glue-cons p (split sep s) (front sep s) (later sep s) (split-cons sep s)).1
 
-pub butLast-snoc : (ps : List (List ℕ)) → allButLast (ps ++ ([] ∷ [])) ≡ ps
-unfolding allButLast
-butLast-snoc [] = refl
-butLast-snoc (p ∷ []) = refl
-butLast-snoc (p ∷ q ∷ ps) = ap (λ (r : List (List ℕ)). p ∷ r) (butLast-snoc (q ∷ ps))
+pub but_last-snoc : (ps : List (List ℕ)) → all_but_last (ps ++ ([] ∷ [])) ≡ ps
+unfolding all_but_last
+but_last-snoc [] = refl
+but_last-snoc (p ∷ []) = refl
+but_last-snoc (p ∷ q ∷ ps) = ap (λ (r : List (List ℕ)). p ∷ r) (but_last-snoc (q ∷ ps))
 
 pub last_snoc : (ps : List (List ℕ)) → last (ps ++ ([] ∷ [])) ≡ []
 unfolding last
@@ -202,13 +202,13 @@ split-frees x (b ∷ s) =
     (λ e. rw (split-here x b s e, has-nil x) (split-frees x s))
     (λ e. rw (split-there x b s e) (onto-frees x b (split x s) e (split-frees x s)))
 
-pub butLast-frees : (x : ℕ) (ps : List (List ℕ)) → frees x ps ≡ true → frees x (allButLast ps) ≡ true
-unfolding frees allButLast
-butLast-frees x [] h = refl
-butLast-frees x (p ∷ []) h = refl
-butLast-frees x (p ∷ q ∷ ps) h =
+pub but_last-frees : (x : ℕ) (ps : List (List ℕ)) → frees x ps ≡ true → frees x (all_but_last ps) ≡ true
+unfolding frees all_but_last
+but_last-frees x [] h = refl
+but_last-frees x (p ∷ []) h = refl
+but_last-frees x (p ∷ q ∷ ps) h =
     let r = both (not (has x p)) (frees x (q ∷ ps)) h in
-    cc (r.0, butLast-frees x (q ∷ ps) r.1)
+    cc (r.0, but_last-frees x (q ∷ ps) r.1)
 
 pub has-led : (x y : ℕ) → eqb y x ≡ false → (ps : List (List ℕ)) → frees x ps ≡ true → has x (led y ps) ≡ false
 unfolding led frees
@@ -239,19 +239,19 @@ unfolding ended
 ended-append sep [] qs = refl
 ended-append sep (p ∷ ps) qs = rw (ended-append sep ps qs, append_assoc)
 
-ended-last : (sep : ℕ) (p : List ℕ) (ps : List (List ℕ)) → ended sep (allButLast (p ∷ ps)) ++ last (p ∷ ps) ≡ join sep (p ∷ ps)
-unfolding ended allButLast last join led
+ended-last : (sep : ℕ) (p : List ℕ) (ps : List (List ℕ)) → ended sep (all_but_last (p ∷ ps)) ++ last (p ∷ ps) ≡ join sep (p ∷ ps)
+unfolding ended all_but_last last join led
 ended-last sep p [] = sym (append-nil p)
 ended-last sep p (q ∷ ps) =
-    append_assoc p (sep ∷ ended sep (allButLast (q ∷ ps))) (last (q ∷ ps)) ∙ ap (λ (r : List ℕ). p ++ (sep ∷ r)) (ended-last sep q ps)
+    append_assoc p (sep ∷ ended sep (all_but_last (q ∷ ps))) (last (q ∷ ps)) ∙ ap (λ (r : List ℕ). p ++ (sep ∷ r)) (ended-last sep q ps)
 
 -- a text is its ended lines, and what stands after the last
-pub ended-split : (sep : ℕ) (s : List ℕ) → ended sep (allButLast (split sep s)) ++ last (split sep s) ≡ s
+pub ended-split : (sep : ℕ) (s : List ℕ) → ended sep (all_but_last (split sep s)) ++ last (split sep s) ≡ s
 ended-split sep s = cc (split-cons sep s, ended-last sep (front sep s) (later sep s), join-split sep s)
 
 -- a text that is cut at its ends and ended again
-pub ended-lines : (sep : ℕ) (s : List ℕ) → empty (last (split sep s)) ≡ true → ended sep (allButLast (split sep s)) ≡ s
-ended-lines sep s h = sym (append-nil (ended sep (allButLast (split sep s)))) ∙ cc (empty-is (last (split sep s)) h, ended-split sep s)
+pub ended-lines : (sep : ℕ) (s : List ℕ) → empty (last (split sep s)) ≡ true → ended sep (all_but_last (split sep s)) ≡ s
+ended-lines sep s h = sym (append-nil (ended sep (all_but_last (split sep s)))) ∙ cc (empty-is (last (split sep s)) h, ended-split sep s)
 
 pub split-ended : (sep : ℕ) (ps : List (List ℕ)) → frees sep ps ≡ true → split sep (ended sep ps) ≡ ps ++ ([] ∷ [])
 unfolding frees ended
@@ -263,7 +263,7 @@ split-ended sep (p ∷ ps) h =
 -- ---- how many separators, and what stands after the last: one separator more; more bytes without one
 pub before-next : (sep : ℕ) (p s : List ℕ) → has sep p ≡ false → before sep (p ++ (sep ∷ s)) ≡ suc (before sep s)
 unfolding before
-before-next sep p s h = rw (split-next sep p s h, butLast-split sep p s)
+before-next sep p s h = rw (split-next sep p s h, but_last-split sep p s)
 
 pub last_end : (ps : List (List ℕ)) (x : List ℕ) → last (ps ++ (x ∷ [])) ≡ x
 unfolding last

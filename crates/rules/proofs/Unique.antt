@@ -14,8 +14,8 @@ use Rattle.rules.specs.declared.Fetched.{Fetched}
 use Rattle.rules.specs.declared.Fetched.TheVariants.{At, NotFetched}
 use Rattle.rules.specs.declared.Written.{Written}
 use Rattle.rules.specs.declared.Written.TheVariants.{Wrote, NotWritten}
-use Rattle.rules.specs.Told.{number, refusal, told, toldSpan, toldLength}
-use Rattle.rules.proofs.Logic.{zeroCases}
+use Rattle.rules.specs.Told.{number, refusal, told, told_span, told_length}
+use Rattle.rules.proofs.Logic.{zero_cases}
 
 -- the kind that has a number: the first of some with it
 unfoldable kinds : List Kind
@@ -59,19 +59,19 @@ number-unique k l e = sym (kind-back k) ∙ ap (numbered kinds) e ∙ kind-back 
 pub number-some : (k : Kind) → 0 < number k
 unfolding kinds numbered
 number-some k =
-    zeroCases (number k)
+    zero_cases (number k)
     (λ z. let e : Room ≡ k = ap (numbered kinds) (sym z) ∙ kind-back k in absurd (omega (arith, ap number e)))
     (λ n e. omega arith)
 
 -- ---- a refusal by what is told of it
-abbrev refusalOf : Kind → ℕ → ℕ → Refusal
-refusalOf k s f = record { kind = k; segment = s; field = f }
+abbrev refusal_of : Kind → ℕ → ℕ → Refusal
+refusal_of k s f = record { kind = k; segment = s; field = f }
 
 pub refusal-unique : (A : Type 0) (r s : Refusal) → refusal {A = A} r ≡ refusal {A = A} s → r ≡ s
 refusal-unique A r s e =
-    ap (λ k. refusalOf k r.segment r.field) (number-unique r.kind s.kind (cc))
-    ∙ ap (λ n. refusalOf s.kind n r.field) (cc)
-    ∙ ap (λ n. refusalOf s.kind s.segment n) (cc)
+    ap (λ k. refusal_of k r.segment r.field) (number-unique r.kind s.kind (cc))
+    ∙ ap (λ n. refusal_of s.kind n r.field) (cc)
+    ∙ ap (λ n. refusal_of s.kind s.segment n) (cc)
 
 pub told-unique : (a b : Answer) → told a ≡ told b → a ≡ b
 told-unique (Accepted c) (Accepted e) h = cc
@@ -79,18 +79,18 @@ told-unique (Accepted c) (Refused r) h = cc
 told-unique (Refused r) (Accepted c) h = cc
 told-unique (Refused r) (Refused s) h = ap Refused (refusal-unique _ r s h)
 
-pub span-unique : (a b : Fetched) → toldSpan a ≡ toldSpan b → a ≡ b
+pub span-unique : (a b : Fetched) → told_span a ≡ told_span b → a ≡ b
 span-unique (At p) (At q) h = cc
 span-unique (At p) (NotFetched r) h = cc
 span-unique (NotFetched r) (At p) h = cc
 span-unique (NotFetched r) (NotFetched s) h = ap NotFetched (refusal-unique _ r s h)
 
-pub length-unique : (a b : Written) → toldLength a ≡ toldLength b → a ≡ b
+pub length-unique : (a b : Written) → told_length a ≡ told_length b → a ≡ b
 length-unique (Wrote n) (Wrote k) h = cc
 length-unique (Wrote n) (NotWritten r) h = cc
 length-unique (NotWritten r) (Wrote n) h = cc
 length-unique (NotWritten r) (NotWritten s) h = ap NotWritten (refusal-unique _ r s h)
 
 -- the number of a kind that is known
-pub number_is : (kind k : Kind) (n : ℕ) → kind ≡ k → number k ≡ n → n ≡ number kind
-number_is kind k n e g = cc
+pub number_is_lem : (kind k : Kind) (n : ℕ) → kind ≡ k → number k ≡ n → n ≡ number kind
+number_is_lem kind k n e g = cc

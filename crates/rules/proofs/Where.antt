@@ -15,14 +15,14 @@ use Rattle.rules.specs.declared.Name.TheVariants.{Other}
 use Rattle.rules.specs.Told.{gives}
 use Rattle.rules.specs.Lists.{empty, split, last, ended}
 use Rattle.rules.specs.Shift.{keeps, met}
-use Rattle.rules.specs.Frame.{start, orderFault, headerOk, delimsOf, segments, segmentsOk, name_of, is, Known, knownFrom, known}
+use Rattle.rules.specs.Frame.{start, order_fault, header_ok, delims_of, segments, segments_ok, name_of, is, Known, known_from, known}
 use Rattle.rules.specs.Proper.{Delim}
-use Rattle.rules.specs.View.{View, view, piece_of, field_of, componentOf, firstRepetition}
-use Rattle.rules.specs.Check.{unsaid, placesTold, names_of, countsTold, viewTold, frameTold, checkTold}
+use Rattle.rules.specs.View.{View, view, piece_of, field_of, component_of, first_repetition}
+use Rattle.rules.specs.Check.{unsaid, places_told, names_of, counts_told, view_told, frame_told, check_told}
 use Rattle.rules.specs.Fetch.{stretch, start_of, bytes_at}
 use Rattle.rules.proofs.Logic.{cases, not-given, both, not-false, guard, then-gives, nothing-some}
 use Rattle.rules.proofs.Lists.{drop_own, take_own}
-use Rattle.rules.proofs.Split.{frees, split-frees, butLast-frees, ended-append, ended-lines}
+use Rattle.rules.proofs.Split.{frees, split-frees, but_last-frees, ended-append, ended-lines}
 use Rattle.rules.proofs.Modes.{length-met}
 use Rattle.rules.proofs.Header.{printable, Header}
 use Rattle.rules.proofs.Clean.{keeps-parts, ended-keeps}
@@ -31,51 +31,51 @@ use Rattle.rules.proofs.Pieces.{Piece, piece, start_first}
 -- ---- what rules 10 to 14 say of a message
 pub record Passes (m : List ℕ) : Type 0 where
   pub short : length m ≤ 32768
-  pub headed : headerOk m ≡ true
+  pub headed : header_ok m ≡ true
   pub kept : keeps 0x0D m ≡ true
-  pub cut : segmentsOk (delimsOf m).field m ≡ true
+  pub cut : segments_ok (delims_of m).field m ≡ true
   pub few : length (segments m) ≤ 512
 
-pub passes : (m : List ℕ) → frameTold m ≡ gives tt → Passes m
-unfolding frameTold
+pub passes : (m : List ℕ) → frame_told m ≡ gives tt → Passes m
+unfolding frame_told
 passes m h =
     let a = guard 10 0 0 (ltb 32768 (length m)) _ tt h in
-    let b = guard 11 0 0 (not (headerOk m)) _ tt a.1 in
+    let b = guard 11 0 0 (not (header_ok m)) _ tt a.1 in
     let c = guard 12 0 0 (not (keeps 0x0D m)) _ tt b.1 in
-    let e = guard 13 0 0 (not (segmentsOk (delimsOf m).field m)) _ tt c.1 in
+    let e = guard 13 0 0 (not (segments_ok (delims_of m).field m)) _ tt c.1 in
     let f = guard 14 0 0 (ltb 512 (length (segments m))) _ tt e.1 in
     record {
       short = ltb-false 32768 (length m) a.0;
-      headed = not-false (headerOk m) b.0;
+      headed = not-false (header_ok m) b.0;
       kept = not-false (keeps 0x0D m) c.0;
-      cut = not-false (segmentsOk (delimsOf m).field m) e.0;
+      cut = not-false (segments_ok (delims_of m).field m) e.0;
       few = ltb-false 512 (length (segments m)) f.0;
     }
 
 -- as an accepted message does
-pub accepted-passes : (m : List ℕ) (c : Counts) → checkTold m ≡ gives c → Passes m
-unfolding checkTold
-accepted-passes m c h = passes m (then-gives (frameTold m) (viewTold (view m)) c h).0
+pub accepted-passes : (m : List ℕ) (c : Counts) → check_told m ≡ gives c → Passes m
+unfolding check_told
+accepted-passes m c h = passes m (then-gives (frame_told m) (view_told (view m)) c h).0
 
 -- 15, 20 to 27 and the counts of an accepted message
-pub view-passes : (v : View) (c : Counts) → viewTold v ≡ gives c
-    → (orderFault start 1 (names_of v) ≡ 0) × (placesTold v.delims unsaid 1 v.segs ≡ gives tt) × (countsTold (names_of v) ≡ gives c)
-unfolding viewTold
+pub view-passes : (v : View) (c : Counts) → view_told v ≡ gives c
+    → (order_fault start 1 (names_of v) ≡ 0) × (places_told v.delims unsaid 1 v.segs ≡ gives tt) × (counts_told (names_of v) ≡ gives c)
+unfolding view_told
 view-passes v c h =
-    cases (eqb (orderFault start 1 (names_of v)) 0)
+    cases (eqb (order_fault start 1 (names_of v)) 0)
     (λ e.
-    let b = then-gives (placesTold v.delims unsaid 1 v.segs) (countsTold (names_of v)) c (rw e at h) in
-    (eqb-true (orderFault start 1 (names_of v)) 0 e, b.0, b.1))
+    let b = then-gives (places_told v.delims unsaid 1 v.segs) (counts_told (names_of v)) c (rw e at h) in
+    (eqb-true (order_fault start 1 (names_of v)) 0 e, b.0, b.1))
     (λ e. not-given (rw e at h))
 
 -- a message with a header, that keeps the byte and shift rule and ends in 0D
 pub record Framed (m : List ℕ) : Type 0 where
-  pub headed : headerOk m ≡ true
+  pub headed : header_ok m ≡ true
   pub kept : keeps 0x0D m ≡ true
   pub ends : empty (last (split 0x0D m)) ≡ true
 
-pub framed : (m : List ℕ) → frameTold m ≡ gives tt → Framed m
-unfolding segmentsOk
+pub framed : (m : List ℕ) → frame_told m ≡ gives tt → Framed m
+unfolding segments_ok
 framed m h =
     let p = passes m h in
     record { headed = p.headed; kept = p.kept; ends = (both (empty (last (split 0x0D m))) _ p.cut).0 }
@@ -88,7 +88,7 @@ ended-segments m g = ended-lines 0x0D m g.ends
 -- no segment has 0D in it
 pub segments-free : (m : List ℕ) → frees 0x0D (segments m) ≡ true
 unfolding segments
-segments-free m = butLast-frees 0x0D (split 0x0D m) (split-frees 0x0D m)
+segments-free m = but_last-frees 0x0D (split 0x0D m) (split-frees 0x0D m)
 
 -- ---- x stands in s, after so many bytes
 pub record Lies (s x : List ℕ) (place : ℕ) : Type 0 where
@@ -135,16 +135,16 @@ further place s ss k a =
       body = a.body;
     }
 
-among : (place : ℕ) (ss : List (List ℕ)) (i : ℕ) (k : Known) → get_elem? (knownFrom place ss) i ≡ some k → Among place ss k
-unfolding knownFrom ended
+among : (place : ℕ) (ss : List (List ℕ)) (i : ℕ) (k : Known) → get_elem? (known_from place ss) i ≡ some k → Among place ss k
+unfolding known_from ended
 among place [] i k e = nothing-some e
 among place (s ∷ ss) i k e =
     cases (is (name_of s) Other)
     (λ t. further place s ss k (among (place + suc (length s)) ss i k (rw t at e)))
     (λ t. at-index i (rw t at e) (λ j h. among (place + suc (length s)) ss j k h))
   where
-    at-index : (i : ℕ) → get_elem? ((record { name = name_of s; start = place; body = met s }) ∷ knownFrom (place + suc (length s)) ss) i ≡ some k
-        → ((j : ℕ) → get_elem? (knownFrom (place + suc (length s)) ss) j ≡ some k → Among (place + suc (length s)) ss k) → Among place (s ∷ ss) k
+    at-index : (i : ℕ) → get_elem? ((record { name = name_of s; start = place; body = met s }) ∷ known_from (place + suc (length s)) ss) i ≡ some k
+        → ((j : ℕ) → get_elem? (known_from (place + suc (length s)) ss) j ≡ some k → Among (place + suc (length s)) ss k) → Among place (s ∷ ss) k
     at-index zero e f =
         let q : k ≡ record { name = name_of s; start = place; body = met s } = cc in
         record {
@@ -196,19 +196,19 @@ shows {own = own} l part e =
 
 -- the component c of the first repetition of the field f, at the stretch that fetch tells
 pub component-shown : (m : List ℕ) → Header m → (k : Known) → Stands m k → (f c : ℕ)
-    → let d = delimsOf m in
-    let r = firstRepetition d (field_of d k f) in
-    Shows m (componentOf d r c)
-    (stretch (k.start + start_of d.field (piece_of k.name f) k.body + start_of d.component (c - 1) r) (length (componentOf d r c)))
-unfolding field_of firstRepetition componentOf
+    → let d = delims_of m in
+    let r = first_repetition d (field_of d k f) in
+    Shows m (component_of d r c)
+    (stretch (k.start + start_of d.field (piece_of k.name f) k.body + start_of d.component (c - 1) r) (length (component_of d r c)))
+unfolding field_of first_repetition component_of
 component-shown m g k s f c =
-    let d = delimsOf m in
+    let d = delims_of m in
     let F = cut d.field (piece_of k.name f) s.raw g.proper.field s.kept in
     let R = cut d.repetition 0 F.own g.proper.repetition F.own-kept in
     let C = cut d.component (c - 1) R.own g.proper.component R.own-kept in
     let field : met F.own ≡ field_of d k f = cc (F.is, s.body) in
-    let first : met R.own ≡ firstRepetition d (field_of d k f) = cc (R.is, field) in
-    let own : met C.own ≡ componentOf d (firstRepetition d (field_of d k f)) c = cc (C.is, first) in
+    let first : met R.own ≡ first_repetition d (field_of d k f) = cc (R.is, field) in
+    let own : met C.own ≡ component_of d (first_repetition d (field_of d k f)) c = cc (C.is, first) in
     let l = inside (inside (inside s.lies (piece-lies F)) (piece-lies R)) (piece-lies C) in
     shows (rw (first, ← s.body, start_first d.repetition (met F.own), add-zero (k.start + start_of d.field (piece_of k.name f) k.body)) at l) _ own
   where

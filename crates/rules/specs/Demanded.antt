@@ -8,22 +8,22 @@ use Rattle.rules.specs.declared.Name.TheVariants.{Msh, Pid, Pv1, Spm, Obr, Orc, 
 use Rattle.rules.specs.Told.{Told, gives, accepted, ◌>>=◌}
 use Rattle.rules.specs.Lists.{bytes, ended}
 use Rattle.rules.specs.Places.{Place, Field, reads, closed, places}
-use Rattle.rules.specs.Check.{checkTold}
-use Rattle.rules.specs.Fetch.{partTold}
-use Rattle.rules.specs.Sheet.{toSheet}
-use Rattle.rules.specs.Message.{toMessage}
+use Rattle.rules.specs.Check.{check_told}
+use Rattle.rules.specs.Fetch.{part_told}
+use Rattle.rules.specs.Sheet.{to_sheet}
+use Rattle.rules.specs.Message.{to_message}
 use Rattle.rules.specs.All.{rules}
-use Rattle.rules.specs.WholeCase.{wholeSheet, wholeMessage, theCase}
+use Rattle.rules.specs.WholeCase.{whole_sheet, whole_message, the_case}
 
 -- ---- demand 2: "A sheet that is written and read returns byte for byte."
-unfoldable pub writtenAndRead : List ℕ → Told (List ℕ)
-writtenAndRead s = toMessage s 32768 >>= λ m. toSheet m 65536
+unfoldable pub written_and_read : List ℕ → Told (List ℕ)
+written_and_read s = to_message s 32768 >>= λ m. to_sheet m 65536
 
 abbrev pub Returns : List ℕ → Type 0
-Returns s = writtenAndRead s ≡ gives s
+Returns s = written_and_read s ≡ gives s
 
-pub whole-returns : Returns wholeSheet
-unfolding theCase writtenAndRead
+pub whole-returns : Returns whole_sheet
+unfolding the_case written_and_read
 whole-returns = refl
 
 -- 日 is 46 7C, and its 7C is no bar; every delimiter in a name and in an ST; `\F\` as a name; a kana name; a filled SN; an X result between two
@@ -31,8 +31,8 @@ whole-returns = refl
 abbrev day : List ℕ
 day = 0x1B ∷ 0x24 ∷ 0x42 ∷ 0x46 ∷ 0x7C ∷ 0x1B ∷ 0x28 ∷ 0x42 ∷ []
 
-unfoldable pub hardSheet : List ℕ
-hardSheet =
+unfoldable pub hard_sheet : List ℕ
+hard_sheet =
     ended 0x0A (map bytes ("version=1" ∷ "mode=P" ∷ "sent=20240229235959" ∷ "control=K|2" ∷ "patient=P^8" ∷ [])
     ++ ((bytes "family=" ++ day) ∷ map bytes (
     "given=a|b^c~d\\e&f" ∷ "kanafamily=Hi" ∷ "kanagiven=" ∷ "birth=" ∷ "sex=U" ∷ "class=I"
@@ -46,8 +46,8 @@ hardSheet =
     ∷ "item=A3" ∷ "name=GPT" ∷ "type=NM" ∷ "compare=" ∷ "value=.5" ∷ "join=" ∷ "second=" ∷ "unit=U/L" ∷ "flag=" ∷ "status=F"
     ∷ [])))
 
-unfoldable pub hardMessage : List ℕ
-hardMessage =
+unfoldable pub hard_message : List ℕ
+hard_message =
     ended 0x0D (bytes "MSH|^~\\&|||||20240229235959||OUL^R22^OUL_R22|K\\F\\2|P|2.5||||||~ISO IR87||ISO 2022-1994"
     ∷ (bytes "PID|||P\\S\\8||" ++ (day ++ bytes "^a\\F\\b\\S\\c\\R\\d\\E\\e\\T\\f^^^^^L^I~Hi^^^^^^L^P|||U"))
     ∷ map bytes (
@@ -64,31 +64,31 @@ hardMessage =
     ∷ "OBX|1|NM|A3^GPT^JC10||.5|U/L|||||F"
     ∷ []))
 
-pub hard-returns : Returns hardSheet
-unfolding rules hardSheet writtenAndRead
+pub hard-returns : Returns hard_sheet
+unfolding rules hard_sheet written_and_read
 hard-returns = refl
 
-pub hard-is-written : toMessage hardSheet 32768 ≡ gives hardMessage
-unfolding rules hardSheet hardMessage
+pub hard-is-written : to_message hard_sheet 32768 ≡ gives hard_message
+unfolding rules hard_sheet hard_message
 hard-is-written = refl
 
 -- ---- demand 3: "content in places that the profile doesn't read never changes an answer."
 -- the parts that are read of the i-th known segment
-unfoldable pub partsShown : List ℕ → ℕ → List Field → List (Told (List ℕ))
-partsShown m i [] = []
-partsShown m i (reads f ps ∷ fs) = map (λ (p : Place). partTold m i f p.component) ps ++ partsShown m i fs
-partsShown m i (closed f form ∷ fs) = map (partTold m i f) (1 ∷ 2 ∷ []) ++ partsShown m i fs
+unfoldable pub parts_shown : List ℕ → ℕ → List Field → List (Told (List ℕ))
+parts_shown m i [] = []
+parts_shown m i (reads f ps ∷ fs) = map (λ (p : Place). part_told m i f p.component) ps ++ parts_shown m i fs
+parts_shown m i (closed f form ∷ fs) = map (part_told m i f) (1 ∷ 2 ∷ []) ++ parts_shown m i fs
 
 -- of known segments with these names, the first with the ordinal i
-unfoldable pub shownFrom : List ℕ → ℕ → List Name → List (Told (List ℕ))
-shownFrom m i [] = []
-shownFrom m i (n ∷ ns) = partsShown m i (places n) ++ shownFrom m (suc i) ns
+unfoldable pub shown_from : List ℕ → ℕ → List Name → List (Told (List ℕ))
+shown_from m i [] = []
+shown_from m i (n ∷ ns) = parts_shown m i (places n) ++ shown_from m (suc i) ns
 
 unfoldable pub shown : List ℕ → List (Told (List ℕ))
-shown m = shownFrom m 1 (Msh ∷ Pid ∷ Pv1 ∷ Spm ∷ Obr ∷ Orc ∷ Obx ∷ Obx ∷ [])
+shown m = shown_from m 1 (Msh ∷ Pid ∷ Pv1 ∷ Spm ∷ Obr ∷ Orc ∷ Obx ∷ Obx ∷ [])
 
-unfoldable pub wholeParts : List (Told (List ℕ))
-wholeParts =
+unfoldable pub whole_parts : List (Told (List ℕ))
+whole_parts =
     map (λ (s : String). gives (bytes s)) (
     "20240401093000" ∷ "OUL" ∷ "R22" ∷ "OUL_R22" ∷ "K0001" ∷ "T" ∷ "2.5" ∷ "" ∷ ""
     ∷ "P7" ∷ "Hara" ∷ "Jun" ∷ "19700228" ∷ "M"
@@ -102,9 +102,9 @@ wholeParts =
 
 -- the answers of the whole case: the check's, the sheet, each part that is read
 pub record AsWhole (m : List ℕ) : Type 0 where
-  pub check : checkTold m ≡ accepted 1 1 2
-  pub sheet : toSheet m 65536 ≡ gives wholeSheet
-  pub parts : shown m ≡ wholeParts
+  pub check : check_told m ≡ accepted 1 1 2
+  pub sheet : to_sheet m 65536 ≡ gives whole_sheet
+  pub parts : shown m ≡ whole_parts
 
 -- each `?` of a text replaced by x
 unfoldable pub put : List ℕ → List ℕ → List ℕ
@@ -112,8 +112,8 @@ put x [] = []
 put x (b ∷ s) = elim (eqb b (code "?")) [ true ↦ x ++ put x s | false ↦ b ∷ put x s ]
 
 -- the whole case with x in every field and component that the profile doesn't read, and with segments of other names
-unfoldable pub newerWith : List ℕ → List ℕ
-newerWith x =
+unfoldable pub newer_with : List ℕ → List ℕ
+newer_with x =
     ended 0x0D (map (λ (s : String). put x (bytes s)) (
     "MSH|^~\\&|?|?|?|?|20240401093000^?|?^?~?|OUL^R22^OUL_R22^?|K0001^?|T^?|2.5^?|?|?|?|?|?|~ISO IR87|?|?|?"
     ∷ "ZZZ|\u{1b}$BF|\u{1b}(B"
@@ -130,13 +130,13 @@ newerWith x =
     ∷ []))
 
 -- 日本 (46 7C, 4B 5C), a subcomponent separator, a bad escape, and what would be a null
-unfoldable pub unreadText : List ℕ
-unreadText = bytes "\u{1b}$BF|K\\\u{1b}(B&\\Q\\\"\""
+unfoldable pub unread_text : List ℕ
+unread_text = bytes "\u{1b}$BF|K\\\u{1b}(B&\\Q\\\"\""
 
-pub whole-answers : AsWhole wholeMessage
-unfolding theCase partsShown shownFrom shown wholeParts
+pub whole-answers : AsWhole whole_message
+unfolding the_case parts_shown shown_from shown whole_parts
 whole-answers = record { check = refl; sheet = refl; parts = refl }
 
-pub newer-answers : AsWhole (newerWith unreadText)
-unfolding theCase partsShown shownFrom shown wholeParts put newerWith unreadText
+pub newer-answers : AsWhole (newer_with unread_text)
+unfolding the_case parts_shown shown_from shown whole_parts put newer_with unread_text
 newer-answers = record { check = refl; sheet = refl; parts = refl }

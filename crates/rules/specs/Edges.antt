@@ -8,8 +8,8 @@ use Rattle.rules.specs.Told.{Told, refused}
 use Rattle.rules.specs.declared.Counts.{Counts}
 use Rattle.rules.specs.Value as Value
 use Rattle.rules.specs.Escape.{unescape}
-use Rattle.rules.specs.Judge.{valueFault}
-use Rattle.rules.specs.Check.{checkTold}
+use Rattle.rules.specs.Judge.{value_fault}
+use Rattle.rules.specs.Check.{check_told}
 use Rattle.rules.specs.Message.{base}
 use Rattle.rules.specs.All.{rules}
 
@@ -21,10 +21,10 @@ pub data Edge : Type 0 where
   escape : String → Option (List ℕ) → Edge  -- a component unescaped
 
 unfoldable pub Right : Edge → Type 0
-Right (message s t) = checkTold (bytes s) ≡ t
+Right (message s t) = check_told (bytes s) ≡ t
 Right (number s n) = Value.fault true Value.numeric (bytes s) ≡ n
 Right (date s n) = Value.fault true Value.date (bytes s) ≡ n
-Right (sn s n) = valueFault base (bytes "SN") (met (bytes s)) ≡ n
+Right (sn s n) = value_fault base (bytes "SN") (met (bytes s)) ≡ n
 Right (escape s v) = unescape base (met (bytes s)) ≡ v
 
 unfoldable pub Every : List Edge → Type 0

@@ -3,32 +3,32 @@ use Rattle.std.specs.Prelude.{Bool, true, false, cond, ◌&&◌, ◌||◌, List,
 use Rattle.rules.specs.declared.Delims.{Delims}
 use Rattle.rules.specs.declared.Name.{Name}
 use Rattle.rules.specs.declared.Name.TheVariants.{Msh, Pid, Pv1, Spm, Obr, Orc, Obx, Other}
-use Rattle.rules.specs.Lists.{bytes, empty, starts, all, any, has, distinct, split, allButLast, last, since}
+use Rattle.rules.specs.Lists.{bytes, empty, starts, all, any, has, distinct, split, all_but_last, last, since}
 use Rattle.rules.specs.Shift.{within, met}
 
 -- "In order they are field, component, repetition, escape, subcomponent."
-unfoldable pub delimsOf : List ℕ → Delims
-delimsOf m =
+unfoldable pub delims_of : List ℕ → Delims
+delims_of m =
     record { field = get_or m 3 0; component = get_or m 4 0; repetition = get_or m 5 0; escape = get_or m 6 0; sub = get_or m 7 0 }
 
-abbrev pub fiveOf : Delims → List ℕ
-fiveOf d = d.field ∷ d.component ∷ d.repetition ∷ d.escape ∷ d.sub ∷ []
+abbrev pub five_of : Delims → List ℕ
+five_of d = d.field ∷ d.component ∷ d.repetition ∷ d.escape ∷ d.sub ∷ []
 
 -- "Each is one of `! # % & * ; ? @ \ ^ | ~`."
 abbrev pub twelve : List ℕ
 twelve = bytes "!#%&*;?@\\^|~"
 
 -- "five different delimiters"
-unfoldable pub delimsOk : Delims → Bool
-delimsOk d = all (λ (b : ℕ). has b twelve) (fiveOf d) && distinct (fiveOf d)
+unfoldable pub delims_ok : Delims → Bool
+delims_ok d = all (λ (b : ℕ). has b twelve) (five_of d) && distinct (five_of d)
 
 -- 11. "The first nine bytes are `MSH`, five different delimiters and the first of these again."
-unfoldable pub headerOk : List ℕ → Bool
-headerOk m = leb 9 (length m) && starts (bytes "MSH") m && delimsOk (delimsOf m) && eqb (get_or m 8 0) (delimsOf m).field
+unfoldable pub header_ok : List ℕ → Bool
+header_ok m = leb 9 (length m) && starts (bytes "MSH") m && delims_ok (delims_of m) && eqb (get_or m 8 0) (delims_of m).field
 
 -- 13. "Each ends in 0D, the last too. A segment has at most 4,096 bytes without its 0D"
 unfoldable pub segments : List ℕ → List (List ℕ)
-segments m = allButLast (split 0x0D m)
+segments m = all_but_last (split 0x0D m)
 
 -- of a part of a message, the bytes so far of the segment in which it ends
 abbrev pub here : List ℕ → List ℕ
@@ -40,21 +40,21 @@ capital b = within 65 90 b
 abbrev pub digit : ℕ → Bool
 digit b = within 48 57 b
 
-abbrev pub capitalOrDigit : ℕ → Bool
-capitalOrDigit b = capital b || digit b
+abbrev pub capital_or_digit : ℕ → Bool
+capital_or_digit b = capital b || digit b
 
 -- "A name is a capital and two capitals or digits, followed by the field separator or the end."
-unfoldable pub nameOk : ℕ → List ℕ → Bool
-nameOk bar s =
-    leb 3 (length s) && capital (get_or s 0 0) && capitalOrDigit (get_or s 1 0) && capitalOrDigit (get_or s 2 0)
+unfoldable pub name_ok : ℕ → List ℕ → Bool
+name_ok bar s =
+    leb 3 (length s) && capital (get_or s 0 0) && capital_or_digit (get_or s 1 0) && capital_or_digit (get_or s 2 0)
     && (eqb (length s) 3 || eqb (get_or s 3 0) bar)
 
-unfoldable pub segmentsOk : ℕ → List ℕ → Bool
-segmentsOk bar m = empty (last (split 0x0D m)) && all (λ (s : List ℕ). leb (length s) 4096 && nameOk bar s) (segments m)
+unfoldable pub segments_ok : ℕ → List ℕ → Bool
+segments_ok bar m = empty (last (split 0x0D m)) && all (λ (s : List ℕ). leb (length s) 4096 && name_ok bar s) (segments m)
 
 -- "The known names are MSH PID PV1 SPM OBR ORC OBX. Others are skipped."
-unfoldable pub knownNames : List Name
-knownNames = Msh ∷ Pid ∷ Pv1 ∷ Spm ∷ Obr ∷ Orc ∷ Obx ∷ []
+unfoldable pub known_names : List Name
+known_names = Msh ∷ Pid ∷ Pv1 ∷ Spm ∷ Obr ∷ Orc ∷ Obx ∷ []
 
 unfoldable pub spelling : Name → List ℕ
 spelling Msh = bytes "MSH"
@@ -67,12 +67,12 @@ spelling Obx = bytes "OBX"
 spelling Other = []
 
 -- the first of some names that a segment starts with
-unfoldable pub nameAmong : List Name → List ℕ → Name
-nameAmong [] s = Other
-nameAmong (n ∷ ns) s = elim (starts (spelling n) s) [ true ↦ n | false ↦ nameAmong ns s ]
+unfoldable pub name_among : List Name → List ℕ → Name
+name_among [] s = Other
+name_among (n ∷ ns) s = elim (starts (spelling n) s) [ true ↦ n | false ↦ name_among ns s ]
 
 unfoldable pub name_of : List ℕ → Name
-name_of s = nameAmong knownNames s
+name_of s = name_among known_names s
 
 abbrev pub rank : Name → ℕ
 rank Msh = 1
@@ -93,16 +93,16 @@ pub record Known : Type 0 where
   pub start : ℕ
   pub body : List ℕ
 
-unfoldable pub knownFrom : ℕ → List (List ℕ) → List Known
-knownFrom at [] = []
-knownFrom at (s ∷ ss) =
-    let rest = knownFrom (at + suc (length s)) ss in
+unfoldable pub known_from : ℕ → List (List ℕ) → List Known
+known_from at [] = []
+known_from at (s ∷ ss) =
+    let rest = known_from (at + suc (length s)) ss in
     let here : Known = record { name = name_of s; start = at; body = met s } in
     cond (is (name_of s) Other) rest (here ∷ rest)
 
 -- "Ordinals count known segments only, from 1."
 unfoldable pub known : List ℕ → List Known
-known m = knownFrom 0 (segments m)
+known m = known_from 0 (segments m)
 
 -- "MSH PID PV1, then one or more specimens: SPM and one or more orders: OBR ORC and one or more OBX."
 -- What may follow each name; `Other` stands for the start.
@@ -126,17 +126,17 @@ start = record { last = Other }
 unfoldable pub past : Reached → Name → Reached
 past a b = record { last = b }
 
-unfoldable pub mayFollow : Reached → Name → Bool
-mayFollow a b = any (is b) (after a.last)
+unfoldable pub may_follow : Reached → Name → Bool
+may_follow a b = any (is b) (after a.last)
 
-unfoldable pub mayEnd : Reached → Bool
-mayEnd a = is a.last Obx
+unfoldable pub may_end : Reached → Bool
+may_end a = is a.last Obx
 
 -- 15. The ordinal of the first name out of order, "at an early end, the known count plus 1"; 0 where there is none. The names before have
 -- led to a; the first has the ordinal i.
-unfoldable pub orderFault : Reached → ℕ → List Name → ℕ
-orderFault a i [] = cond (mayEnd a) 0 i
-orderFault a i (b ∷ bs) = elim (mayFollow a b) [ true ↦ orderFault (past a b) (suc i) bs | false ↦ i ]
+unfoldable pub order_fault : Reached → ℕ → List Name → ℕ
+order_fault a i [] = cond (may_end a) 0 i
+order_fault a i (b ∷ bs) = elim (may_follow a b) [ true ↦ order_fault (past a b) (suc i) bs | false ↦ i ]
 
 -- how many x there are with the name g, where there were n before it: counted anew at each r
 unfoldable pub counting : Name → Name → ℕ → Name → ℕ
@@ -144,5 +144,5 @@ counting x r n g = cond (is g x) (suc n) (cond (is g r) 0 n)
 
 -- to unfold this name is to unfold the definitions above
 unfoldable pub defined : Unit {0}
-unfolding delimsOf delimsOk headerOk segments nameOk segmentsOk knownNames spelling nameAmong name_of knownFrom known past mayFollow mayEnd orderFault counting
+unfolding delims_of delims_ok header_ok segments name_ok segments_ok known_names spelling name_among name_of known_from known past may_follow may_end order_fault counting
 defined = tt

@@ -18,9 +18,9 @@ abbrev pub filled : {A : Type 0} → List A → Bool
 filled s = not (empty s)
 
 -- a text that there may be; empty where there is none
-unfoldable pub orEmpty : Option (List ℕ) → List ℕ
-orEmpty none = []
-orEmpty (some s) = s
+unfoldable pub or_empty : Option (List ℕ) → List ℕ
+or_empty none = []
+or_empty (some s) = s
 
 -- the n-th of some texts, from 0; empty where there are fewer ("missing and empty are the same")
 abbrev pub nth : List (List ℕ) → ℕ → List ℕ
@@ -72,10 +72,10 @@ split sep [] = [] ∷ []
 split sep (x ∷ s) = elim (eqb x sep) [ true ↦ [] ∷ split sep s | false ↦ onto x (split sep s) ]
 
 -- each piece but the last; the last
-unfoldable pub allButLast : List (List ℕ) → List (List ℕ)
-allButLast [] = []
-allButLast (p ∷ []) = []
-allButLast (p ∷ q ∷ ps) = p ∷ allButLast (q ∷ ps)
+unfoldable pub all_but_last : List (List ℕ) → List (List ℕ)
+all_but_last [] = []
+all_but_last (p ∷ []) = []
+all_but_last (p ∷ q ∷ ps) = p ∷ all_but_last (q ∷ ps)
 
 unfoldable pub last : List (List ℕ) → List ℕ
 last [] = []
@@ -91,7 +91,7 @@ later sep s = drop 1 (split sep s)
 
 -- how many separators stand in s, and what stands after the last of them
 unfoldable pub before : ℕ → List ℕ → ℕ
-before sep s = length (allButLast (split sep s))
+before sep s = length (all_but_last (split sep s))
 
 unfoldable pub since : ℕ → List ℕ → List ℕ
 since sep s = last (split sep s)
@@ -111,19 +111,19 @@ ended sep [] = []
 ended sep (p ∷ ps) = p ++ (sep ∷ ended sep ps)
 
 -- s is one of some words, written with a blank between each two
-unfoldable pub isOneOf : String → List ℕ → Bool
-isOneOf words s = any (same s) (split 0x20 (bytes words))
+unfoldable pub is_one_of : String → List ℕ → Bool
+is_one_of words s = any (same s) (split 0x20 (bytes words))
 
 -- n in decimal: at most k digits, the last after those of a tenth
-unfoldable pub decimalTo : ℕ → ℕ → List ℕ
-decimalTo zero n = []
-decimalTo (suc k) n = elim (ltb n 10) [ true ↦ (48 + n) ∷ [] | false ↦ decimalTo k (n / 10) ++ ((48 + n % 10) ∷ []) ]
+unfoldable pub decimal_to : ℕ → ℕ → List ℕ
+decimal_to zero n = []
+decimal_to (suc k) n = elim (ltb n 10) [ true ↦ (48 + n) ∷ [] | false ↦ decimal_to k (n / 10) ++ ((48 + n % 10) ∷ []) ]
 
 unfoldable pub decimal : ℕ → List ℕ
-unfolding decimalTo
-decimal n = decimalTo (suc n) n
+unfolding decimal_to
+decimal n = decimal_to (suc n) n
 
 -- to unfold this name is to unfold the definitions above
 unfoldable pub defined : Unit {0}
-unfolding bytes empty same starts all any count has distinct onto split allButLast last front later before since led join ended isOneOf orEmpty decimalTo decimal
+unfolding bytes empty same starts all any count has distinct onto split all_but_last last front later before since led join ended is_one_of or_empty decimal_to decimal
 defined = tt

@@ -8,9 +8,9 @@ use Rattle.rules.specs.Told.{Told, gives, refuse◌if◌else◌, ◌>>=◌}
 use Rattle.rules.specs.Lists.{bytes, empty, filled, join, ended, decimal}
 use Rattle.rules.specs.Frame.{spelling, counting}
 use Rattle.rules.specs.Escape.{escape}
-use Rattle.rules.specs.Judge.{isSN}
+use Rattle.rules.specs.Judge.{is_sn}
 use Rattle.rules.specs.Row.{Row, header, patient, visit, specimen, order, result, group_of}
-use Rattle.rules.specs.Sheet.{readSheet}
+use Rattle.rules.specs.Sheet.{read_sheet}
 
 unfoldable pub base : Delims
 base = record { field = code "|"; component = code "^"; repetition = code "~"; escape = code "\\"; sub = code "&" }
@@ -28,15 +28,15 @@ unfoldable pub encoding : Delims → List ℕ
 encoding d = d.component ∷ d.repetition ∷ d.escape ∷ d.sub ∷ []
 
 -- PID-5: FAMILY^GIVEN^^^^^L^I, "a kana name is a second repetition with P"
-unfoldable pub nameText : Delims → List ℕ → List ℕ → List ℕ → List ℕ
-nameText d f g mark = composed d (escape d f ∷ escape d g ∷ [] ∷ [] ∷ [] ∷ [] ∷ bytes "L" ∷ mark ∷ [])
+unfoldable pub name_text : Delims → List ℕ → List ℕ → List ℕ → List ℕ
+name_text d f g mark = composed d (escape d f ∷ escape d g ∷ [] ∷ [] ∷ [] ∷ [] ∷ bytes "L" ∷ mark ∷ [])
 
-unfoldable pub namesText : Delims → List ℕ → List ℕ → List ℕ → List ℕ → List ℕ
-namesText d f g kf kg = nameText d f g (bytes "I") ++ cond (empty kf) [] (d.repetition ∷ nameText d kf kg (bytes "P"))
+unfoldable pub names_text : Delims → List ℕ → List ℕ → List ℕ → List ℕ → List ℕ
+names_text d f g kf kg = name_text d f g (bytes "I") ++ cond (empty kf) [] (d.repetition ∷ name_text d kf kg (bytes "P"))
 
 -- OBX-5: "A filled SN has all three component separators"
-unfoldable pub valueText : Delims → List ℕ → List ℕ → List ℕ → List ℕ → List ℕ → List ℕ
-valueText d type c v j s = cond (isSN type && filled v) (composed d (escape d c ∷ escape d v ∷ escape d j ∷ escape d s ∷ [])) (escape d v)
+unfoldable pub value_text : Delims → List ℕ → List ℕ → List ℕ → List ℕ → List ℕ → List ℕ
+value_text d type c v j s = cond (is_sn type && filled v) (composed d (escape d c ∷ escape d v ∷ escape d j ∷ escape d s ∷ [])) (escape d v)
 
 -- ---- segments
 -- a segment to be written: its name, and what stands after it, each after a field separator
@@ -66,7 +66,7 @@ pieces_of d n (header mode sent control) =
     ++ blanks 5 ++ ((d.repetition ∷ bytes "ISO IR87") ∷ [] ∷ bytes "ISO 2022-1994" ∷ []))
     ∷ []
 pieces_of d n (patient id f g kf kg birth sex) =
-    piece Pid ([] ∷ [] ∷ escape d id ∷ [] ∷ namesText d f g kf kg ∷ [] ∷ escape d birth ∷ escape d sex ∷ []) ∷ []
+    piece Pid ([] ∷ [] ∷ escape d id ∷ [] ∷ names_text d f g kf kg ∷ [] ∷ escape d birth ∷ escape d sex ∷ []) ∷ []
 pieces_of d n (visit class) = piece Pv1 ([] ∷ escape d class ∷ []) ∷ []
 pieces_of d n (specimen kind collected) =
     piece Spm ((decimal n.specimen ∷ [] ∷ [] ∷ composed d (escape d kind ∷ [] ∷ bytes "JC10" ∷ []) ∷ []) ++ blanks 12 ++ (escape d collected ∷ [])) ∷ []
@@ -76,7 +76,7 @@ pieces_of d n (order id group) =
     ∷ []
 pieces_of d n (result item name type compare value join second unit flag status) =
     piece Obx (decimal n.result ∷ escape d type ∷ composed d (escape d item ∷ escape d name ∷ bytes "JC10" ∷ []) ∷ []
-    ∷ valueText d type compare value join second ∷ escape d unit ∷ [] ∷ escape d flag ∷ [] ∷ [] ∷ escape d status ∷ [])
+    ∷ value_text d type compare value join second ∷ escape d unit ∷ [] ∷ escape d flag ∷ [] ∷ [] ∷ escape d status ∷ [])
     ∷ []
 
 -- the segments of some rows, with the numbers before them
@@ -84,28 +84,28 @@ unfoldable pub pieces : Delims → Numbers → List Row → List Piece
 pieces d n [] = []
 pieces d n (r ∷ rs) = let now = counted n (group_of r) in pieces_of d now r ++ pieces d now rs
 
-unfoldable pub segmentText : Delims → Piece → List ℕ
-segmentText d p = join d.field (spelling p.name ∷ p.fields)
+unfoldable pub segment_text : Delims → Piece → List ℕ
+segment_text d p = join d.field (spelling p.name ∷ p.fields)
 
 -- ---- the message
 unfoldable pub written : Delims → List Row → List (List ℕ)
-written d rows = map (segmentText d) (pieces d zeros rows)
+written d rows = map (segment_text d) (pieces d zeros rows)
 
-unfoldable pub messageOf : Delims → List Row → List ℕ
-messageOf d rows = ended 0x0D (written d rows)
+unfoldable pub message_of : Delims → List Row → List ℕ
+message_of d rows = ended 0x0D (written d rows)
 
 -- "message would pass 32,768 bytes or 512 segments": 44; "lent buffer too short": 45
-unfoldable pub messageTold : Delims → List Row → ℕ → Told (List ℕ)
-messageTold d rows room =
-    let m = messageOf d rows in
+unfoldable pub message_told : Delims → List Row → ℕ → Told (List ℕ)
+message_told d rows room =
+    let m = message_of d rows in
     refuse 44 if ltb 32768 (length m) || ltb 512 (length (written d rows)) else
     refuse 45 if ltb room (length m) else
     gives m
 
-unfoldable pub toMessage : List ℕ → ℕ → Told (List ℕ)
-toMessage s room = readSheet s >>= λ rows. messageTold base rows room
+unfoldable pub to_message : List ℕ → ℕ → Told (List ℕ)
+to_message s room = read_sheet s >>= λ rows. message_told base rows room
 
 -- to unfold this name is to unfold the definitions above
 unfoldable pub defined : Unit {0}
-unfolding base composed blanks encoding nameText namesText valueText pieces_of counted pieces segmentText written messageOf messageTold toMessage
+unfolding base composed blanks encoding name_text names_text value_text pieces_of counted pieces segment_text written message_of message_told to_message
 defined = tt

@@ -9,20 +9,20 @@ use Rattle.rules.specs.declared.Fetched.TheVariants as Fetched
 use Rattle.rules.specs.declared.Found.{Found}
 use Rattle.rules.specs.declared.Found.TheVariants as Found
 use Rattle.rules.specs.declared.Written.{Written}
-use Rattle.rules.specs.Told.{told, toldSpan, Call}
+use Rattle.rules.specs.Told.{told, told_span, Call}
 use Rattle.rules.specs.Frame.{known}
-use Rattle.rules.specs.Check.{checkTold}
-use Rattle.rules.specs.Fetch.{ordinal, fetchTold, bytes_at, spanTold, spanIn, foundTold, textTold}
-use Rattle.rules.specs.Sheet.{toSheet}
-use Rattle.rules.specs.Message.{toMessage}
+use Rattle.rules.specs.Check.{check_told}
+use Rattle.rules.specs.Fetch.{ordinal, fetch_told, bytes_at, span_told, span_in, found_told, text_told}
+use Rattle.rules.specs.Sheet.{to_sheet}
+use Rattle.rules.specs.Message.{to_message}
 
 -- check
 abbrev pub Checked : List ℕ → Answer → Type 0
-Checked m r = told r ≡ checkTold m
+Checked m r = told r ≡ check_told m
 
 -- locate: a stretch that it names lies in the message
 pub record Located (m : List ℕ) (o f c : ℕ) (r : Fetched) : Type 0 where
-  pub told : toldSpan r ≡ fetchTold m o f c
+  pub told : told_span r ≡ fetch_told m o f c
   pub within : (p : Span) → r ≡ Fetched.At p → p.start + p.len ≤ length m
 
 -- a part of m that is given back, x, is the very stretch p: its bytes, and where it lies, at `x-lies` where m lies at `m-lies`
@@ -32,22 +32,22 @@ pub record Stretch (m : List ℕ) (m-lies : ℕ × ℕ) (p : Span) (x : List ℕ
 
 -- fetch; bytes_of
 abbrev pub PartGiven : List ℕ → ℕ × ℕ → ℕ → ℕ → ℕ → List ℕ → ℕ × ℕ → Type 0
-PartGiven m m-lies o f c x x-lies = Stretch m m-lies (spanTold (fetchTold m o f c)) x x-lies
+PartGiven m m-lies o f c x x-lies = Stretch m m-lies (span_told (fetch_told m o f c)) x x-lies
 
 abbrev pub StretchGiven : List ℕ → ℕ × ℕ → Fetched → List ℕ → ℕ × ℕ → Type 0
-StretchGiven m m-lies answer x x-lies = Stretch m m-lies (spanIn (length m) answer) x x-lies
+StretchGiven m m-lies answer x x-lies = Stretch m m-lies (span_in (length m) answer) x x-lies
 
 -- known_segment: its name, where it starts and its bytes, or none; it lies in the message
 pub record SegmentFound (m : List ℕ) (o : ℕ) (r : Found) : Type 0 where
-  pub told : foundTold m r ≡ ordinal (known m) o
+  pub told : found_told m r ≡ ordinal (known m) o
   pub within : (s : KnownSegment) → r ≡ Found.At s → s.start + s.len ≤ length m
 
 -- part_text, to_sheet, to_message: what they answer, and what they leave of a buffer that held `before`
 abbrev pub TextWritten : List ℕ → ℕ → ℕ → ℕ → List ℕ → Written → List ℕ → Type 0
-TextWritten m o f c before r after = Call (textTold m o f c (length before)) before r after
+TextWritten m o f c before r after = Call (text_told m o f c (length before)) before r after
 
 abbrev pub SheetWritten : List ℕ → List ℕ → Written → List ℕ → Type 0
-SheetWritten m before r after = Call (toSheet m (length before)) before r after
+SheetWritten m before r after = Call (to_sheet m (length before)) before r after
 
 abbrev pub MessageWritten : List ℕ → List ℕ → Written → List ℕ → Type 0
-MessageWritten s before r after = Call (toMessage s (length before)) before r after
+MessageWritten s before r after = Call (to_message s (length before)) before r after

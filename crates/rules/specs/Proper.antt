@@ -1,5 +1,5 @@
 -- What the header rule (11) says of five delimiters, fact by fact, as those calls require it that run behind that rule.
--- Each fact follows from `delimsOk`: proofs/Header, `proper`.
+-- Each fact follows from `delims_ok`: proofs/Header, `proper`.
 use Rattle.std.specs.Prelude.{◌≡◌, true, false, ℕ, eqb}
 use Rattle.rules.specs.declared.Delims.{Delims}
 use Rattle.rules.specs.Lists.{has}

@@ -13,7 +13,7 @@ use lib.Seq.{drop-drop}
 use Rattle.rules.specs.declared.Delims.{Delims}
 use Rattle.rules.specs.declared.Mode.{Mode}
 use Rattle.rules.specs.declared.Mode.TheVariants.{One, Two, Second}
-use Rattle.rules.specs.Shift.{step, isOne, walk, keeps, mark, marks, met, within, byte_of}
+use Rattle.rules.specs.Shift.{step, is_one, walk, keeps, mark, marks, met, within, byte_of}
 use Rattle.rules.specs.Lists.{bytes, has, all, later}
 use Rattle.rules.specs.Proper.{Delim, Proper}
 use Rattle.rules.proofs.Logic.{both, not-true, not-false, never, and-true, and_assoc, or-false, or_assoc}
@@ -21,12 +21,12 @@ use Rattle.rules.proofs.Lists.{here, over, rest-is, has-cons, has-nil}
 use Rattle.rules.proofs.Modes.{one-is, met-as, byte-met, still_one, marks-here, marks-over, length-marks, met-rest}
 use Rattle.rules.proofs.Header.{printable, delim-small, delim-apart}
 use Rattle.bytes.specs.Bytes.{is_byte, until}
-use Rattle.scan.specs.Scan.{meetsOf, afterSep, onward, between, hidden, Hides, Units, Reaches, ends, escapes, plainText, next_from, next, alnum, CutOf, TailOf}
+use Rattle.scan.specs.Scan.{meets_of, after_sep, onward, between, hidden, Hides, Units, Reaches, ends, escapes, plain_text, next_from, next, alnum, CutOf, TailOf}
 use Rattle.scan.proofs.Laws.{map-append, between_none, between-one, between_first, between-then, between-take, between-length, until-yes, until-no, until-nil, until-stops, after-drop, Far, far-is, far-escapes, ends-far, hidden-append, hidden-nil, hidden-length, hidden-bytes, hidden-until, hidden-has, hidden-plain, plain-cons, plain-nil, from-met, alnum-plain}
 
 -- ---- meets
-pub meets-is : (m : Mode) (b a : ℕ) (t : Bool) → a < 256 → t ≡ isOne m → (t && eqb b a) ≡ meetsOf a (mark m b)
-unfolding meetsOf
+pub meets-is : (m : Mode) (b a : ℕ) (t : Bool) → a < 256 → t ≡ is_one m → (t && eqb b a) ≡ meets_of a (mark m b)
+unfolding meets_of
 meets-is m b a t h e = rw e (sym (met-as m b a h))
 
 -- ---- simple
@@ -51,7 +51,7 @@ hides-then end s m n o i j k a b =
       mode = a.mode ∙ b.mode;
     }
 
-hides-byte : (end : ℕ) (s : List ℕ) (m : Mode) (i : ℕ) → isOne m ≡ false → i < length s → Hides end s m i (step end m (get_or s i 0)) (i + 1)
+hides-byte : (end : ℕ) (s : List ℕ) (m : Mode) (i : ℕ) → is_one m ≡ false → i < length s → Hides end s m i (step end m (get_or s i 0)) (i + 1)
 unfolding walk mark hidden
 hides-byte end s m i e h =
     record {
@@ -70,7 +70,7 @@ unfolding step
 unit-second end b e = rw e
 
 hides-unit : (end : ℕ) (s : List ℕ) (i : ℕ) → i + 1 < length s → (within 0x21 0x7E (get_or s i 0) && within 0x21 0x7E (get_or s (i + 1) 0)) ≡ true → Hides end s Two i Two (i + 1 + 1)
-unfolding isOne
+unfolding is_one
 hides-unit end s i h e =
     let w = both (within 0x21 0x7E (get_or s i 0)) (within 0x21 0x7E (get_or s (i + 1) 0)) e in
     hides-then end s Two Second Two i (i + 1) (i + 1 + 1)
@@ -101,32 +101,32 @@ Away end s at mode i = Hides end s (step end One (get_or s at 0)) (at + 1) mode 
 pub away-starts : (end : ℕ) (s : List ℕ) (at : ℕ) (r : Mode) → at < length s → r ≡ step end One (get_or s at 0) → Away end s at r (at + 1)
 away-starts end s at r h e = rw (← e) (hides-none end s r (at + 1) (omega arith))
 
-pub away-on : (end : ℕ) (s : List ℕ) (at : ℕ) (mode r : Mode) (i j : ℕ) (t : Bool) → Away end s at mode i → i < length s → t ≡ isOne mode → t ≡ false
+pub away-on : (end : ℕ) (s : List ℕ) (at : ℕ) (mode r : Mode) (i j : ℕ) (t : Bool) → Away end s at mode i → i < length s → t ≡ is_one mode → t ≡ false
     → r ≡ step end mode (get_or s i 0) → Units s r (i + 1) j → Away end s at r j
 away-on end s at mode r i j t inv h e n g u =
     let b : Hides end s mode i r (i + 1) = rw g (hides-byte end s mode i (sym e ∙ n) h) in
     hides-then end s (step end One (get_or s at 0)) mode r (at + 1) i j inv (hides-then end s mode r r i (i + 1) j b (u.hides end))
 
 reaches : (end : ℕ) (s : List ℕ) (at : ℕ) (mode : Mode) (i : ℕ) (k : Bool) → Away end s at mode i → at < length s → get_or s at 0 < 256
-    → marks end mode (drop i s) ≡ marks end One (drop i s) → isOne (walk end mode (drop i s)) ≡ (k && keeps end (drop i s)) → Reaches end s at i k
-unfolding keeps walk mark isOne
+    → marks end mode (drop i s) ≡ marks end One (drop i s) → is_one (walk end mode (drop i s)) ≡ (k && keeps end (drop i s)) → Reaches end s at i k
+unfolding keeps walk mark is_one
 reaches end s at mode i k a h b m e =
     record {
       later = omega (arith, a.later);
       inside = a.inside;
       byte = b;
       met = marks-here end s at One h ∙ ap (λ l. get_or s at 0 ∷ l) (a.met ∙ ap (λ l. hidden (between (at + 1) i s) ++ l) m);
-      keeps = ap (λ l. isOne (walk end One l)) (here 0 s at h) ∙ ap isOne a.mode ∙ e;
+      keeps = ap (λ l. is_one (walk end One l)) (here 0 s at h) ∙ ap is_one a.mode ∙ e;
     }
 
 pub away-back : (end : ℕ) (s : List ℕ) (at : ℕ) (mode : Mode) (i : ℕ) (t : Bool) → Away end s at mode i → at < length s → Fits w8 (get_or s at 0)
-    → t ≡ isOne mode → t ≡ true → Reaches end s at i true
+    → t ≡ is_one mode → t ≡ true → Reaches end s at i true
 unfolding keeps
 away-back end s at mode i t a h b e y = reaches end s at mode i true a h b.fits (rw (one-is mode (sym e ∙ y))) (rw (one-is mode (sym e ∙ y)))
 
 pub away-over : (end : ℕ) (s : List ℕ) (at : ℕ) (mode : Mode) (i : ℕ) (t : Bool) → Away end s at mode i → at < length s → Fits w8 (get_or s at 0)
-    → length s ≤ i → t ≡ isOne mode → Reaches end s at i t
-unfolding keeps walk isOne
+    → length s ≤ i → t ≡ is_one mode → Reaches end s at i t
+unfolding keeps walk is_one
 away-over end s at mode i t a h b l e =
     reaches end s at mode i t a h b.fits (marks-over end s i mode l ∙ sym (marks-over end s i One l)) (rw (over s i l) (sym e ∙ sym (and-true t)))
 
@@ -136,11 +136,11 @@ plain-on end s i h e =
     let q = both (leb 0x20 (get_or s i 0)) (leb (get_or s i 0) 0x7E) e in
     let l = leb-true 0x20 (get_or s i 0) q.0 in
     let g = leb-true (get_or s i 0) 0x7E q.1 in
-    away-back end s i One (i + 1) true (away-starts end s i One h (sym (still_one end (get_or s i 0) l g))) h (record { fits = omega arith }) (unfold isOne in refl) refl
+    away-back end s i One (i + 1) true (away-starts end s i One h (sym (still_one end (get_or s i 0) l g))) h (record { fits = omega arith }) (unfold is_one in refl) refl
 
 -- the bytes that are passed
 bytes_on : (end : ℕ) (s : List ℕ) (i j : ℕ) (k : Bool) → Reaches end s i j k → map byte_of (get_or s i 0 ∷ hidden (between (i + 1) j s)) ≡ between i j s
-unfolding mark isOne
+unfolding mark is_one
 bytes_on end s i j k r =
     ap (λ x. x ∷ map byte_of (hidden (between (i + 1) j s))) (byte-met One (get_or s i 0) r.byte)
     ∙ ap (λ l. get_or s i 0 ∷ l) (hidden-bytes (between (i + 1) j s)) ∙ sym (between_first s i j r.later r.inside)
@@ -167,10 +167,10 @@ line-ends end b y = let q = both (eqb b end) _ y in rw (not-true (eqb b 0x1B) q.
 pub keeps_line : (end : ℕ) (s : List ℕ) (i : ℕ) (t : Bool) → keeps end s ≡ keeps end (drop i s) → i < length s → (t ≡ true → step end One (get_or s i 0) ≡ One) → t ≡ true
     → keeps end s ≡ keeps end (drop (i + 1) s)
 unfolding keeps walk
-keeps_line end s i t inv h f y = inv ∙ ap (λ l. isOne (walk end One l)) (here 0 s i h) ∙ ap (λ m. isOne (walk end m (drop (i + 1) s))) (f y)
+keeps_line end s i t inv h f y = inv ∙ ap (λ l. is_one (walk end One l)) (here 0 s i h) ∙ ap (λ m. is_one (walk end m (drop (i + 1) s))) (f y)
 
 pub keeps-over : (end : ℕ) (s : List ℕ) (i : ℕ) → keeps end s ≡ keeps end (drop i s) → length s ≤ i → true ≡ keeps end s
-unfolding keeps walk isOne
+unfolding keeps walk is_one
 keeps-over end s i inv h = sym (inv ∙ rw (over s i h))
 
 -- ---- what stands before the first byte that p holds of
@@ -182,7 +182,7 @@ module _ (end : ℕ) (s : List ℕ) (i : ℕ) (p : ℕ → Bool) where
       ∙ ap (λ l. get_or s i 0 ∷ l) (hidden-until p f (between (i + 1) j s) (marks end One (drop j s)))
 
   until-here : i < length s → p (get_or s i 0) ≡ true → until p (marks end One (drop i s)) ≡ []
-  unfolding mark isOne
+  unfolding mark is_one
   until-here h e = ap (until p) (marks-here end s i One h) ∙ until-yes p (get_or s i 0) (marks end (step end One (get_or s i 0)) (drop (i + 1) s)) e
 
   until-over : length s ≤ i → until p (marks end One (drop i s)) ≡ []
@@ -218,18 +218,18 @@ module _ (end sep : ℕ) (s : List ℕ) (i : ℕ) (inv : Before end s (is_byte s
   find-over h = before-done end s i (is_byte sep) inv (until-over end s i (is_byte sep) h)
 
 -- ---- past
-past-at : (s : List ℕ) (sep r : ℕ) → sep < 256 → r ≡ length (until (is_byte sep) (met s)) → afterSep sep (met s) ≡ drop 1 (met (drop r s))
+past-at : (s : List ℕ) (sep r : ℕ) → sep < 256 → r ≡ length (until (is_byte sep) (met s)) → after_sep sep (met s) ≡ drop 1 (met (drop r s))
 past-at s sep r l e = after-drop sep (met s) ∙ ap (drop 1) (from-met (is_byte sep) (far-is sep l) s ∙ ap (λ k. met (drop k s)) (sym e))
 
-pub past-over : (s : List ℕ) (sep r : ℕ) → sep < 256 → r ≡ length (until (is_byte sep) (marks 0x0D One s)) → r ≡ length s → met (drop r s) ≡ afterSep sep (met s)
+pub past-over : (s : List ℕ) (sep r : ℕ) → sep < 256 → r ≡ length (until (is_byte sep) (marks 0x0D One s)) → r ≡ length s → met (drop r s) ≡ after_sep sep (met s)
 unfolding met
 past-over s sep r l e h =
     let n : met (drop r s) ≡ [] = marks-over 0x0D s r One (omega arith) in
     n ∙ sym (past-at s sep r l e ∙ ap (drop 1) n)
 
 pub past_next : (s : List ℕ) (sep r : ℕ) → Delim sep → r ≡ length (until (is_byte sep) (marks 0x0D One s)) → r ≤ length s → (r ≡ length s → ⊥)
-    → met (drop (r + 1) s) ≡ afterSep sep (met s)
-unfolding met mark isOne
+    → met (drop (r + 1) s) ≡ after_sep sep (met s)
+unfolding met mark is_one
 past_next s sep r p e l n =
     let b : ℕ = get_or s r 0 in
     let far : sep < 256 = delim-small sep p in
@@ -244,13 +244,13 @@ past_next s sep r p e l n =
 
 -- ---- skip
 pub skip-on : (s : List ℕ) (sep n left at r : ℕ) → onward sep n (met s) ≡ onward sep left (met (drop at s)) → 0 < left
-    → met (drop r (take (length s - at) (drop at s))) ≡ afterSep sep (met (take (length s - at) (drop at s)))
+    → met (drop r (take (length s - at) (drop at s))) ≡ after_sep sep (met (take (length s - at) (drop at s)))
     → onward sep n (met s) ≡ onward sep (left - 1) (met (drop (at + r) s))
 unfolding onward
 skip-on s sep n zero at r inv h e = absurd (omega arith)
 skip-on s sep n (suc k) at r inv h e =
     let j : suc k - 1 ≡ k = omega arith in
-    let q : met (drop (at + r) s) ≡ afterSep sep (met (drop at s)) = rw (rest-is s at, drop-drop) at e in
+    let q : met (drop (at + r) s) ≡ after_sep sep (met (drop at s)) = rw (rest-is s at, drop-drop) at e in
     rw (inv, j, q)
 
 pub skip-end : (s : List ℕ) (sep n left at : ℕ) → onward sep n (met s) ≡ onward sep left (met (drop at s)) → left ≤ 0
@@ -262,7 +262,7 @@ skip-end s sep n (suc k) at inv h = absurd (omega arith)
 -- ---- first
 pub record Cutting (d : Delims) (t : List ℕ) (clean : Bool) (i : ℕ) : Type 0 where
   pub long : Before 0x0D t (ends d) i
-  pub plain : plainText d (until (ends d) (marks 0x0D One t)) ≡ (clean && plainText d (until (ends d) (marks 0x0D One (drop i t))))
+  pub plain : plain_text d (until (ends d) (marks 0x0D One t)) ≡ (clean && plain_text d (until (ends d) (marks 0x0D One (drop i t))))
   pub raw : map byte_of (until (ends d) (marks 0x0D One t)) ≡ take i t ++ map byte_of (until (ends d) (marks 0x0D One (drop i t)))
 
 pub first-starts : (d : Delims) (t : List ℕ) → Cutting d t true 0
@@ -274,7 +274,7 @@ module _ (d : Delims) (t : List ℕ) (clean : Bool) (i : ℕ) (inv : Cutting d t
   first_done u =
       record {
         long = before-done 0x0D t i (ends d) inv.long u;
-        plain = sym (inv.plain ∙ ap (λ l. clean && plainText d l) u ∙ ap (λ b. clean && b) (plain-nil d) ∙ and-true clean);
+        plain = sym (inv.plain ∙ ap (λ l. clean && plain_text d l) u ∙ ap (λ b. clean && b) (plain-nil d) ∙ and-true clean);
         raw = inv.raw ∙ ap (λ l. take i t ++ map byte_of l) u ∙ append-nil (take i t);
       }
 
@@ -292,11 +292,11 @@ module _ (d : Delims) (t : List ℕ) (clean : Bool) (i : ℕ) (inv : Cutting d t
       let U : List ℕ = until (ends d) (marks 0x0D One (drop j t)) in
       let u : until (ends d) (marks 0x0D One (drop i t)) ≡ b ∷ (hidden w ++ U) = until-on 0x0D t i (ends d) j k r (ends-far d p) (sym e ∙ g) in
       let far : Far (escapes d) = far-escapes d (delim-small d.escape p.escape) (delim-small d.sub p.sub) in
-      let plain-u : plainText d (b ∷ (hidden w ++ U)) ≡ (not z && plainText d U)
+      let plain-u : plain_text d (b ∷ (hidden w ++ U)) ≡ (not z && plain_text d U)
       = plain-cons d b (hidden w ++ U) ∙ rw (← f) (ap (λ x. not z && x) (hidden-plain d far w U)) in
       record {
         long = before_on 0x0D t i (ends d) inv.long j k r (ends-far d p) (sym e ∙ g);
-        plain = inv.plain ∙ ap (λ l. clean && plainText d l) u ∙ ap (λ x. clean && x) plain-u ∙ and_assoc clean (not z) (plainText d U);
+        plain = inv.plain ∙ ap (λ l. clean && plain_text d l) u ∙ ap (λ x. clean && x) plain-u ∙ and_assoc clean (not z) (plain_text d U);
         raw = inv.raw ∙ ap (λ l. take i t ++ map byte_of l) u ∙ ap (λ l. take i t ++ l) (map-append byte_of (b ∷ hidden w) U ∙ ap (λ l. l ++ map byte_of U) (bytes_on 0x0D t i j k r))
             ∙ sym (append_assoc (take i t) (between i j t) (map byte_of U)) ∙ ap (λ l. l ++ map byte_of U) (between-take t i j (omega (arith, r.later)));
       }
@@ -378,11 +378,11 @@ module _ (t : List ℕ) (n : ℕ) (d : Delims) (pre : (n ≡ length (until (ends
       ap met (rest-is t n) ∙ none ∙ sym (next-is ∙ ap (next_from d) none)
 
   at_n : n < length t → met (drop n t) ≡ get_or t n 0 ∷ marks 0x0D (step 0x0D One (get_or t n 0)) (drop (n + 1) t)
-  unfolding met mark isOne
+  unfolding met mark is_one
   at_n h = marks-here 0x0D t n One h
 
   pub behind-next : (n ≡ length t → ⊥) → get_or t n 0 ≡ d.component → met (take (length t - (n + 1)) (drop (n + 1) t)) ≡ next d (met t)
-  unfolding next_from met mark isOne
+  unfolding next_from met mark is_one
   behind-next h e =
       let l : n < length t = let k : n ≤ length t = pre.1 in omega arith in
       let p = printable d.component pre.2.component in

@@ -4,14 +4,14 @@ ghost use Rattle.rules.specs.Shift.{met};
 ghost use Rattle.rules.specs.Frame.{name_of};
 ghost use Rattle.rules.specs.Proper.{Proper};
 ghost use Rattle.fill.specs.Fill.{Lined, longest, Near};
-ghost use Rattle.sources.specs.Sources.{linesOfBody};
+ghost use Rattle.sources.specs.Sources.{lines_of_body};
 
 use rules::{Delims, Name};
 
 // A segment's lines behind those that stand already, in what remains of the buffer.
 pub fn put(out: &mut [u8], at: usize, s: &[u8], d: Delims) -> usize
     requires { Proper d × (length s.now ≤ 4096) × Near 10 at }
-    ensures lined { Lined at out.old (linesOfBody d (name_of s.now) (met s.now)) result out.new }
+    ensures lined { Lined at out.old (lines_of_body d (name_of s.now) (met s.now)) result out.new }
     ensures within { result ≤ at + longest 10 }
 {
     let name = names::name_of(s);
@@ -22,7 +22,7 @@ pub fn put(out: &mut [u8], at: usize, s: &[u8], d: Delims) -> usize
 // The lines of a segment of this name, at most ten; an ORC and a segment of another name have none.
 fn lines_of(out: &mut [u8], name: Name, s: &[u8], d: Delims) -> usize
     requires { Proper d × (length s.now ≤ 4096) }
-    ensures lined { Lined 0 out.old (linesOfBody d name (met s.now)) result out.new }
+    ensures lined { Lined 0 out.old (lines_of_body d name (met s.now)) result out.new }
     ensures within { result ≤ longest 10 }
 {
     match name {

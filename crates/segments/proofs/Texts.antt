@@ -11,17 +11,17 @@ use Rattle.rules.specs.Lists.{bytes, empty, nth, join, led, ended}
 use Rattle.rules.specs.Frame.{spelling}
 use Rattle.rules.specs.Row.{line, lines, row_of}
 use Rattle.rules.specs.Sheet.{key_of}
-use Rattle.rules.specs.Message.{composed, blanks, encoding, nameText, namesText, pieces_of, segmentText, zeros}
+use Rattle.rules.specs.Message.{composed, blanks, encoding, name_text, names_text, pieces_of, segment_text, zeros}
 use Rattle.rules.proofs.Logic.{not-true, not-false}
 use Rattle.rules.proofs.Lists.{empty-zero, filled-some}
 use Rattle.writer.specs.Over.{Fit}
-use Rattle.writer.specs.Woven.{delimiterOf, taken, slotText, firstText, woven}
-use Rattle.groups.specs.Groups.{valuesFrom}
-use Rattle.segments.specs.Segments.{rowPieces, groupPieces, groupSegment, hasKana}
+use Rattle.writer.specs.Woven.{delimiter_of, taken, slot_text, first_text, woven}
+use Rattle.groups.specs.Groups.{values_from}
+use Rattle.segments.specs.Segments.{row_pieces, group_pieces, group_segment, has_kana}
 
 -- to unfold this name is to unfold the patterns, the lines and the segments
 unfoldable pub shapes : Unit {0}
-unfolding delimiterOf taken slotText firstText woven line lines key_of bytes valuesFrom row_of rowPieces groupPieces groupSegment pieces_of segmentText spelling join led ended composed blanks encoding nameText hasKana
+unfolding delimiter_of taken slot_text first_text woven line lines key_of bytes values_from row_of row_pieces group_pieces group_segment pieces_of segment_text spelling join led ended composed blanks encoding name_text has_kana
 shapes = tt
 
 -- a write whose text is known by another name
@@ -53,46 +53,46 @@ module _ (d : Delims) (ts : List (List ℕ)) (r : ℕ) (x old : List ℕ) where
   at k n = drop n (nth ts k)
 
   pub header_is : (n a b c : Bor (List ℕ)) → n.now ≡ spelling Msh → a.now ≡ at 2 5 → b.now ≡ at 3 8 → c.now ≡ at 1 5
-      → Fit r x (woven d header-pattern (n ∷ a ∷ b ∷ c ∷ [])) old → Fit r x (groupSegment d zeros Msh 0 ts) old
+      → Fit r x (woven d header-pattern (n ∷ a ∷ b ∷ c ∷ [])) old → Fit r x (group_segment d zeros Msh 0 ts) old
   unfolding shapes
   header_is n a b c en ea eb ec p = fit-as (simp (en, ea, eb, ec, append_assoc, append-nil)) p
 
   pub kanji-is : (n a b c e f : Bor (List ℕ)) → n.now ≡ spelling Pid → a.now ≡ at 0 8 → b.now ≡ at 1 7 → c.now ≡ at 2 6 → e.now ≡ at 5 6 → f.now ≡ at 6 4
-      → hasKana ts ≡ false → Fit r x (woven d kanji-pattern (n ∷ a ∷ b ∷ c ∷ e ∷ f ∷ [])) old → Fit r x (groupSegment d zeros Pid 0 ts) old
-  unfolding shapes namesText
+      → has_kana ts ≡ false → Fit r x (woven d kanji-pattern (n ∷ a ∷ b ∷ c ∷ e ∷ f ∷ [])) old → Fit r x (group_segment d zeros Pid 0 ts) old
+  unfolding shapes names_text
   kanji-is n a b c e f en ea eb ec ee ef h p =
       let z : empty (at 3 11) ≡ true = not-false (empty (at 3 11)) h in
       fit-as (simp (en, ea, eb, ec, ee, ef, z, append_assoc, append-nil)) p
 
   pub kana-is : (n a b c k l e f : Bor (List ℕ)) → n.now ≡ spelling Pid → a.now ≡ at 0 8 → b.now ≡ at 1 7 → c.now ≡ at 2 6 → k.now ≡ at 3 11 → l.now ≡ at 4 10
-      → e.now ≡ at 5 6 → f.now ≡ at 6 4 → hasKana ts ≡ true
-      → Fit r x (woven d kana-pattern (n ∷ a ∷ b ∷ c ∷ k ∷ l ∷ e ∷ f ∷ [])) old → Fit r x (groupSegment d zeros Pid 0 ts) old
-  unfolding shapes namesText
+      → e.now ≡ at 5 6 → f.now ≡ at 6 4 → has_kana ts ≡ true
+      → Fit r x (woven d kana-pattern (n ∷ a ∷ b ∷ c ∷ k ∷ l ∷ e ∷ f ∷ [])) old → Fit r x (group_segment d zeros Pid 0 ts) old
+  unfolding shapes names_text
   kana-is n a b c k l e f en ea eb ec ek el ee ef h p =
       let z : empty (at 3 11) ≡ false = not-true (empty (at 3 11)) h in
       fit-as (simp (en, ea, eb, ec, ek, el, ee, ef, z, append_assoc, append-nil)) p
 
   pub visit-is : (n a : Bor (List ℕ)) → n.now ≡ spelling Pv1 → a.now ≡ at 0 6
-      → Fit r x (woven d visit-pattern (n ∷ a ∷ [])) old → Fit r x (groupSegment d zeros Pv1 0 ts) old
+      → Fit r x (woven d visit-pattern (n ∷ a ∷ [])) old → Fit r x (group_segment d zeros Pv1 0 ts) old
   unfolding shapes
   visit-is n a en ea p = fit-as (simp (en, ea, append-nil)) p
 
   pub order_is : (n a b : Bor (List ℕ)) → n.now ≡ spelling Obr → a.now ≡ at 0 6 → b.now ≡ at 1 6
-      → Fit r x (woven d order-pattern (n ∷ a ∷ b ∷ [])) old → Fit r x (groupSegment d zeros Obr 0 ts) old
+      → Fit r x (woven d order-pattern (n ∷ a ∷ b ∷ [])) old → Fit r x (group_segment d zeros Obr 0 ts) old
   unfolding shapes
   order_is n a b en ea eb p = fit-as (simp (en, ea, eb, append_assoc, append-nil)) p
 
   pub common-is : (n a : Bor (List ℕ)) → n.now ≡ spelling Orc → a.now ≡ at 0 6
-      → Fit r x (woven d common-pattern (n ∷ a ∷ [])) old → Fit r x (groupSegment d zeros Obr 1 ts) old
+      → Fit r x (woven d common-pattern (n ∷ a ∷ [])) old → Fit r x (group_segment d zeros Obr 1 ts) old
   unfolding shapes
   common-is n a en ea p = fit-as (simp (en, ea, append-nil)) p
 
 -- ---- which of two patterns
 module _ (ts : List (List ℕ)) where
-  pub kana-none : (k : List ℕ) → k ≡ drop 11 (nth ts 3) → length k ≡ 0 → hasKana ts ≡ false
+  pub kana-none : (k : List ℕ) → k ≡ drop 11 (nth ts 3) → length k ≡ 0 → has_kana ts ≡ false
   unfolding shapes
   kana-none k e h = rw (← e, empty-zero k h)
 
-  pub kana-some : (k : List ℕ) → k ≡ drop 11 (nth ts 3) → (length k ≡ 0 → ⊥) → hasKana ts ≡ true
+  pub kana-some : (k : List ℕ) → k ≡ drop 11 (nth ts 3) → (length k ≡ 0 → ⊥) → has_kana ts ≡ true
   unfolding shapes
   kana-some k e h = rw (← e, filled-some k h)

@@ -7,34 +7,34 @@ use Rattle.rules.specs.Lists.{filled, nth, ended}
 use Rattle.rules.specs.Frame.{spelling}
 use Rattle.rules.specs.Proper.{Proper}
 use Rattle.rules.specs.Row.{Row, row_of}
-use Rattle.rules.specs.Message.{Numbers, Piece, pieces_of, segmentText}
-use Rattle.lines.specs.Lines.{longestSheet, Cut}
-use Rattle.groups.specs.Groups.{groupValues}
+use Rattle.rules.specs.Message.{Numbers, Piece, pieces_of, segment_text}
+use Rattle.lines.specs.Lines.{longest_sheet, Cut}
+use Rattle.groups.specs.Groups.{group_values}
 
 -- the segments of some rows that have these numbers, and of the group g that the lines ts begin with
-unfoldable pub rowPieces : Delims → Numbers → List Row → List Piece
-rowPieces d n [] = []
-rowPieces d n (r ∷ rs) = pieces_of d n r ++ rowPieces d n rs
+unfoldable pub row_pieces : Delims → Numbers → List Row → List Piece
+row_pieces d n [] = []
+row_pieces d n (r ∷ rs) = pieces_of d n r ++ row_pieces d n rs
 
-unfoldable pub groupPieces : Delims → Numbers → Name → List (List ℕ) → List Piece
-groupPieces d n g ts = rowPieces d n (row_of g (groupValues g ts))
+unfoldable pub group_pieces : Delims → Numbers → Name → List (List ℕ) → List Piece
+group_pieces d n g ts = row_pieces d n (row_of g (group_values g ts))
 
 -- the text of the k-th segment, from 0, of the group g that the lines ts begin with: an order's OBR and ORC, or the only one
-unfoldable pub groupSegment : Delims → Numbers → Name → ℕ → List (List ℕ) → List ℕ
-groupSegment d n g k ts = ended 0x0D (take 1 (drop k (map (segmentText d) (groupPieces d n g ts))))
+unfoldable pub group_segment : Delims → Numbers → Name → ℕ → List (List ℕ) → List ℕ
+group_segment d n g k ts = ended 0x0D (take 1 (drop k (map (segment_text d) (group_pieces d n g ts))))
 
 -- the patient that the lines ts begin with has a kana name
-unfoldable pub hasKana : List (List ℕ) → Bool
-hasKana ts = filled (nth (groupValues Pid ts) 3)
+unfoldable pub has_kana : List (List ℕ) → Bool
+has_kana ts = filled (nth (group_values Pid ts) 3)
 
 -- what a segment x is written from: its name as it is spelled, the lines s of its group with their places, and the delimiters
 pub record Source (x : Name) (name s places : List ℕ) (d : Delims) : Type 0 where
   pub named : name ≡ spelling x
   pub named-short : length name ≤ 3
-  pub short : length s ≤ longestSheet
+  pub short : length s ≤ longest_sheet
   pub cut : Cut 10 s places
   pub proper : Proper d
 
 -- no segment has so many bytes
-abbrev pub longestSegment : ℕ
-longestSegment = 300000000
+abbrev pub longest_segment : ℕ
+longest_segment = 300000000

@@ -3,7 +3,7 @@ ghost use Rattle.std.specs.Prelude.{◌≡◌, true, false, ◌≤◌};
 ghost use Rattle.rules.specs.Sheet.{lines_of};
 ghost use Rattle.rules.specs.Message.{zeros};
 ghost use Rattle.writer.specs.Over.{Fit};
-ghost use Rattle.segments.specs.Segments.{groupSegment, hasKana, Source, longestSegment};
+ghost use Rattle.segments.specs.Segments.{group_segment, has_kana, Source, longest_segment};
 
 use lines::keys;
 use rules::{Delims, Name};
@@ -18,8 +18,8 @@ pub fn header<'a>(
     d: Delims,
 ) -> usize
     requires { Source Name.Msh msh.now s.now places.now d }
-    ensures fit { Fit result out.new (groupSegment d zeros Name.Msh 0 (lines_of s.now)) out.old }
-    ensures within { result ≤ longestSegment }
+    ensures fit { Fit result out.new (group_segment d zeros Name.Msh 0 (lines_of s.now)) out.old }
+    ensures within { result ≤ longest_segment }
 {
     let mode = lines::value_at(s, places, 1, keys::MODE.len());
     let sent = lines::value_at(s, places, 2, keys::SENT.len());
@@ -40,9 +40,9 @@ fn kanji_alone<'a>(
     places: &[usize; 11],
     d: Delims,
 ) -> usize
-    requires { Source Name.Pid pid.now s.now places.now d × (hasKana (lines_of s.now) ≡ false) }
-    ensures fit { Fit result out.new (groupSegment d zeros Name.Pid 0 (lines_of s.now)) out.old }
-    ensures within { result ≤ longestSegment }
+    requires { Source Name.Pid pid.now s.now places.now d × (has_kana (lines_of s.now) ≡ false) }
+    ensures fit { Fit result out.new (group_segment d zeros Name.Pid 0 (lines_of s.now)) out.old }
+    ensures within { result ≤ longest_segment }
 {
     let id = lines::value_at(s, places, 0, keys::PATIENT.len());
     let family = lines::value_at(s, places, 1, keys::FAMILY.len());
@@ -65,9 +65,9 @@ fn with_kana<'a>(
     places: &[usize; 11],
     d: Delims,
 ) -> usize
-    requires { Source Name.Pid pid.now s.now places.now d × (hasKana (lines_of s.now) ≡ true) }
-    ensures fit { Fit result out.new (groupSegment d zeros Name.Pid 0 (lines_of s.now)) out.old }
-    ensures within { result ≤ longestSegment }
+    requires { Source Name.Pid pid.now s.now places.now d × (has_kana (lines_of s.now) ≡ true) }
+    ensures fit { Fit result out.new (group_segment d zeros Name.Pid 0 (lines_of s.now)) out.old }
+    ensures within { result ≤ longest_segment }
 {
     let id = lines::value_at(s, places, 0, keys::PATIENT.len());
     let family = lines::value_at(s, places, 1, keys::FAMILY.len());
@@ -92,8 +92,8 @@ pub fn patient<'a>(
     d: Delims,
 ) -> usize
     requires { Source Name.Pid pid.now s.now places.now d }
-    ensures fit { Fit result out.new (groupSegment d zeros Name.Pid 0 (lines_of s.now)) out.old }
-    ensures within { result ≤ longestSegment }
+    ensures fit { Fit result out.new (group_segment d zeros Name.Pid 0 (lines_of s.now)) out.old }
+    ensures within { result ≤ longest_segment }
 {
     let kana_family = lines::value_at(s, places, 3, keys::KANA_FAMILY.len());
     if kana_family.len() == 0 {
@@ -110,8 +110,8 @@ pub fn visit<'a>(
     d: Delims,
 ) -> usize
     requires { Source Name.Pv1 pv1.now s.now places.now d }
-    ensures fit { Fit result out.new (groupSegment d zeros Name.Pv1 0 (lines_of s.now)) out.old }
-    ensures within { result ≤ longestSegment }
+    ensures fit { Fit result out.new (group_segment d zeros Name.Pv1 0 (lines_of s.now)) out.old }
+    ensures within { result ≤ longest_segment }
 {
     let class = lines::value_at(s, places, 0, keys::CLASS.len());
     writer::fit_woven(out, b"#||$\r", &[pv1, class], d)
@@ -127,8 +127,8 @@ pub fn order<'a>(
     d: Delims,
 ) -> usize
     requires { Source Name.Obr obr.now s.now places.now d }
-    ensures fit { Fit result out.new (groupSegment d zeros Name.Obr 0 (lines_of s.now)) out.old }
-    ensures within { result ≤ longestSegment }
+    ensures fit { Fit result out.new (group_segment d zeros Name.Obr 0 (lines_of s.now)) out.old }
+    ensures within { result ≤ longest_segment }
 {
     let id = lines::value_at(s, places, 0, keys::ORDER.len());
     let group = lines::value_at(s, places, 1, keys::GROUP.len());
@@ -143,8 +143,8 @@ pub fn common_order<'a>(
     d: Delims,
 ) -> usize
     requires { Source Name.Orc orc.now s.now places.now d }
-    ensures fit { Fit result out.new (groupSegment d zeros Name.Obr 1 (lines_of s.now)) out.old }
-    ensures within { result ≤ longestSegment }
+    ensures fit { Fit result out.new (group_segment d zeros Name.Obr 1 (lines_of s.now)) out.old }
+    ensures within { result ≤ longest_segment }
 {
     let id = lines::value_at(s, places, 0, keys::ORDER.len());
     writer::fit_woven(out, b"#|RE|$\r", &[orc, id], d)

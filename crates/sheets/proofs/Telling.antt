@@ -12,60 +12,60 @@ use Rattle.rules.specs.declared.Refusal.{Refusal}
 use Rattle.rules.specs.Told.{Told, refusal, ◌>>◌}
 use Rattle.rules.specs.Lists.{empty, split, onto, last, front, later}
 use Rattle.rules.specs.Shift.{keeps}
-use Rattle.rules.specs.Sheet.{readSheet}
+use Rattle.rules.specs.Sheet.{read_sheet}
 use Rattle.rules.proofs.Logic.{cases, not-true, not-false, guard}
 use Rattle.rules.proofs.Split.{split-here, split-there, split-cons, last-split}
 use Rattle.sheets.specs.declared.SheetVerdict.{SheetVerdict}
 use Rattle.sheets.specs.declared.SheetVerdict.TheVariants.{Right, Wrong}
-use Rattle.sheets.specs.Sheet.{refusalAt, toldJudged, readableTold, rowsIn, groupsTold, judgedTold}
+use Rattle.sheets.specs.Sheet.{refusal_at, told_judged, readable_told, rows_in, groups_told, judged_told}
 
 -- ---- 40 and 41
 module _ (s : List ℕ) where
-  pub read-40 : (k : Refusal) → 65536 < length s → k ≡ refusalAt SheetTooLong 0 → toldJudged (Wrong k) ≡ readableTold s
-  unfolding readableTold
-  read-40 k l f = rw (lt-ltb 65536 (length s) l) (ap (λ (x : Refusal). toldJudged (Wrong x)) f)
+  pub read-40 : (k : Refusal) → 65536 < length s → k ≡ refusal_at SheetTooLong 0 → told_judged (Wrong k) ≡ readable_told s
+  unfolding readable_told
+  read-40 k l f = rw (lt-ltb 65536 (length s) l) (ap (λ (x : Refusal). told_judged (Wrong x)) f)
 
   module _ (l : length s ≤ 65536) (q : Bool) (e : q ≡ keeps 0x0A s) where
-    pub read-41 : (k : Refusal) → not q ≡ true → k ≡ refusalAt SheetBytes 0 → toldJudged (Wrong k) ≡ readableTold s
-    unfolding readableTold
-    read-41 k h f = rw (le-ltb 65536 (length s) l, ← e, not-true q h) (ap (λ (x : Refusal). toldJudged (Wrong x)) f)
+    pub read-41 : (k : Refusal) → not q ≡ true → k ≡ refusal_at SheetBytes 0 → told_judged (Wrong k) ≡ readable_told s
+    unfolding readable_told
+    read-41 k h f = rw (le-ltb 65536 (length s) l, ← e, not-true q h) (ap (λ (x : Refusal). told_judged (Wrong x)) f)
 
     module _ (h : not q ≡ false) (u : Bool) (g : u ≡ empty (last (split 0x0A s))) where
-      pub read-41-end : (k : Refusal) → not u ≡ true → k ≡ refusalAt SheetBytes 0 → toldJudged (Wrong k) ≡ readableTold s
-      unfolding readableTold
-      read-41-end k w f = rw (le-ltb 65536 (length s) l, ← e, not-false q h, ← g, not-true u w) (ap (λ (x : Refusal). toldJudged (Wrong x)) f)
+      pub read-41-end : (k : Refusal) → not u ≡ true → k ≡ refusal_at SheetBytes 0 → told_judged (Wrong k) ≡ readable_told s
+      unfolding readable_told
+      read-41-end k w f = rw (le-ltb 65536 (length s) l, ← e, not-false q h, ← g, not-true u w) (ap (λ (x : Refusal). told_judged (Wrong x)) f)
 
-      pub read_right : not u ≡ false → toldJudged Right ≡ readableTold s
-      unfolding readableTold
+      pub read_right : not u ≡ false → told_judged Right ≡ readable_told s
+      unfolding readable_told
       read_right w = rw (le-ltb 65536 (length s) l, ← e, not-false q h, ← g, not-false u w)
 
   -- ---- what is told of a sheet: 40 and 41, then its rows
-  pub read-sheet : readSheet s ≡ (readableTold s >> rowsIn s)
-  unfolding readSheet readableTold
+  pub read-sheet : read_sheet s ≡ (readable_told s >> rows_in s)
+  unfolding read_sheet readable_told
   read-sheet =
       cases (ltb 65536 (length s))
       (λ a. rw a)
       (λ a. cases (not (keeps 0x0A s && empty (last (split 0x0A s)))) (λ b. rw (a, b)) (λ b. rw (a, b)))
 
   -- j is what reading it tells
-  module _ (j : SheetVerdict) (t : toldJudged j ≡ readableTold s) where
+  module _ (j : SheetVerdict) (t : told_judged j ≡ readable_told s) where
     pub readable-short : j ≡ Right → length s ≤ 65536
-    unfolding readableTold
-    readable-short f = ltb-false 65536 (length s) (guard 40 0 0 (ltb 65536 (length s)) _ tt (sym t ∙ ap toldJudged f)).0
+    unfolding readable_told
+    readable-short f = ltb-false 65536 (length s) (guard 40 0 0 (ltb 65536 (length s)) _ tt (sym t ∙ ap told_judged f)).0
 
-    pub readable-rows : j ≡ Right → readSheet s ≡ rowsIn s
-    readable-rows f = read-sheet ∙ ap (λ (x : Told (Unit {0})). x >> rowsIn s) (sym t ∙ ap toldJudged f)
+    pub readable-rows : j ≡ Right → read_sheet s ≡ rows_in s
+    readable-rows f = read-sheet ∙ ap (λ (x : Told (Unit {0})). x >> rows_in s) (sym t ∙ ap told_judged f)
 
-    pub unreadable : (k : Refusal) → j ≡ Wrong k → readSheet s ≡ refusal k
-    unreadable k f = read-sheet ∙ ap (λ (x : Told (Unit {0})). x >> rowsIn s) (sym t ∙ ap toldJudged f)
+    pub unreadable : (k : Refusal) → j ≡ Wrong k → read_sheet s ≡ refusal k
+    unreadable k f = read-sheet ∙ ap (λ (x : Told (Unit {0})). x >> rows_in s) (sym t ∙ ap told_judged f)
 
     -- ---- the whole
-    pub judged-wrong : (k : Refusal) → j ≡ Wrong k → toldJudged (Wrong k) ≡ judgedTold s
-    unfolding judgedTold
+    pub judged-wrong : (k : Refusal) → j ≡ Wrong k → told_judged (Wrong k) ≡ judged_told s
+    unfolding judged_told
     judged-wrong k f = rw (unreadable k f)
 
-    pub judged-right : j ≡ Right → (r : SheetVerdict) → toldJudged r ≡ groupsTold s → toldJudged r ≡ judgedTold s
-    unfolding judgedTold groupsTold
+    pub judged-right : j ≡ Right → (r : SheetVerdict) → told_judged r ≡ groups_told s → told_judged r ≡ judged_told s
+    unfolding judged_told groups_told
     judged-right f r g = rw (readable-rows f) g
 
 -- ---- the end of a sheet

@@ -1,9 +1,9 @@
 // A sheet judged: 40 and 41, then its groups, line by line, 42 and 43.
 ghost use Rattle.std.specs.Prelude.{◌≡◌, ◌+◌, ◌≤◌, length};
 ghost use Rattle.rules.specs.Lists.{empty, last, split};
-ghost use Rattle.lines.specs.Lines.{longestSheet};
+ghost use Rattle.lines.specs.Lines.{longest_sheet};
 ghost use Rattle.groups.specs.Groups.{index_of};
-ghost use Rattle.sheets.specs.Sheet.{kind_of, refusalAt, toldJudged, readableTold, groupsTold, judgedTold, farthestLine};
+ghost use Rattle.sheets.specs.Sheet.{kind_of, refusal_at, told_judged, readable_told, groups_told, judged_told, farthest_line};
 
 use lines::Verdict;
 use rules::{Kind, Refusal};
@@ -15,7 +15,7 @@ pub enum SheetVerdict {
 }
 
 pub fn refused(kind: Kind, line: usize) -> Refusal
-    ensures { result ≡ refusalAt kind line }
+    ensures { result ≡ refusal_at kind line }
 {
     Refusal {
         kind,
@@ -39,7 +39,7 @@ fn ends(s: &[u8]) -> bool
 
 // Whether the lines of a sheet may be read: 40 and 41.
 pub fn readable(sheet: &[u8]) -> SheetVerdict
-    ensures { toldJudged result ≡ readableTold sheet.now }
+    ensures { told_judged result ≡ readable_told sheet.now }
 {
     if 65536 < sheet.len() {
         return SheetVerdict::Wrong(refused(Kind::SheetTooLong, 0));
@@ -78,15 +78,15 @@ fn kind(v: Verdict) -> Kind
 
 // The refusal of a group whose first line has this number.
 pub fn unread(v: Verdict, line: usize) -> Refusal
-    requires { (index_of v ≤ 10) × (line ≤ farthestLine) }
-    ensures { result ≡ refusalAt (kind_of v) (line + index_of v) }
+    requires { (index_of v ≤ 10) × (line ≤ farthest_line) }
+    ensures { result ≡ refusal_at (kind_of v) (line + index_of v) }
 {
     refused(kind(v), line + index(v))
 }
 
 fn read_groups(sheet: &[u8]) -> SheetVerdict
-    requires { length sheet.now ≤ longestSheet }
-    ensures { toldJudged result ≡ groupsTold sheet.now }
+    requires { length sheet.now ≤ longest_sheet }
+    ensures { told_judged result ≡ groups_told sheet.now }
 {
     let mut reached = order::start();
     let mut at = 0;
@@ -113,7 +113,7 @@ fn read_groups(sheet: &[u8]) -> SheetVerdict
 
 // 40 to 43 of a sheet; its message is not measured.
 pub fn judge(sheet: &[u8]) -> SheetVerdict
-    ensures { toldJudged result ≡ judgedTold sheet.now }
+    ensures { told_judged result ≡ judged_told sheet.now }
 {
     match readable(sheet) {
         SheetVerdict::Wrong(r) => SheetVerdict::Wrong(r),

@@ -12,10 +12,10 @@ use Rattle.rules.specs.Lists.{all}
 use Rattle.rules.specs.Shift.{within}
 use Rattle.rules.proofs.Logic.{cases, both, never, and-true, and-false}
 use Rattle.rules.proofs.Lists.{here, over}
-use Rattle.csv_rules.specs.Kanji.{lead, trail, first, second, isPair, one, pair, charactersAt, characters, goodCharacter, convertible}
+use Rattle.csv_rules.specs.Kanji.{lead, trail, first, second, is_pair, one, pair, characters_at, characters, good_character, convertible}
 use Rattle.csv_rules.specs.Written.{halved}
 use Rattle.sjis.specs.Texts.{pair_at}
-use Rattle.sjis.specs.Items.{isClear, NextAt, PastAt, char_at}
+use Rattle.sjis.specs.Items.{is_clear, NextAt, PastAt, char_at}
 
 -- ---- one character
 pub lead_is : (b : ℕ) (p q : Bool) → p ≡ within 0x81 0x9F b → q ≡ within 0xE0 0xEF b → (p || q) ≡ lead b
@@ -50,8 +50,8 @@ pub second-high : (t r : ℕ) → 0x7E < t → 0x9E < t → r ≡ t - 0x7E → r
 unfolding second
 second-high t r h k e = rw (lt-leb t 0x7E h, lt-leb t 0x9E k) e
 
-pub clear-is : (b : ℕ) (p : Bool) → p ≡ within 0x20 0x7E b → (p && not (eqb b 0x22)) ≡ isClear b
-unfolding isClear
+pub clear-is : (b : ℕ) (p : Bool) → p ≡ within 0x20 0x7E b → (p && not (eqb b 0x22)) ≡ is_clear b
+unfolding is_clear
 clear-is b p e = rw e
 
 -- ---- a byte at a place
@@ -111,17 +111,17 @@ module _ (s : List ℕ) (i j : ℕ) (h : i < length s) (e : j ≡ i + 1) where
   pair-if q l f = rw (lt-ltb (i + 1) (length s) (omega arith)) (f ∙ sym (and-true (lead (get_or s i 0))))
 
 -- ---- a character at a place
-char-pair : (b t : ℕ) (s : List ℕ) → lead b ≡ true → charactersAt none (b ∷ (t ∷ s)) ≡ pair b t ∷ charactersAt none s
-unfolding charactersAt
-char-pair b t s e = rw (e, charactersAt)
+char-pair : (b t : ℕ) (s : List ℕ) → lead b ≡ true → characters_at none (b ∷ (t ∷ s)) ≡ pair b t ∷ characters_at none s
+unfolding characters_at
+char-pair b t s e = rw (e, characters_at)
 
-char-one : (b : ℕ) (s : List ℕ) → lead b ≡ false → charactersAt none (b ∷ s) ≡ one b ∷ charactersAt none s
-unfolding charactersAt
-char-one b s e = rw (e, charactersAt)
+char-one : (b : ℕ) (s : List ℕ) → lead b ≡ false → characters_at none (b ∷ s) ≡ one b ∷ characters_at none s
+unfolding characters_at
+char-one b s e = rw (e, characters_at)
 
-char-lone : (b : ℕ) → charactersAt none (b ∷ []) ≡ one b ∷ charactersAt none []
-unfolding charactersAt
-char-lone b = cases (lead b) (λ e. rw (e, charactersAt)) (λ e. rw (e, charactersAt))
+char-lone : (b : ℕ) → characters_at none (b ∷ []) ≡ one b ∷ characters_at none []
+unfolding characters_at
+char-lone b = cases (lead b) (λ e. rw (e, characters_at)) (λ e. rw (e, characters_at))
 
 -- a lead byte is no quote, and what stands alone is no lead
 lead-no-quote : (b : ℕ) → lead b ≡ true → eqb b 0x22 ≡ false
@@ -146,8 +146,8 @@ module _ (s : List ℕ) (i : ℕ) (q : Bool) (h : i < length s) (f : q ≡ pair_
         low = omega (arith, n.low);
         high = n.high;
         is =
-            ap (λ (z : List ℕ). charactersAt none (halved false z)) (here 0 s i h)
-            ∙ ap (charactersAt none) (half-here (get_or s i 0) (drop (i + 1) s) (lead-no-quote (get_or s i 0) w.0)
+            ap (λ (z : List ℕ). characters_at none (halved false z)) (here 0 s i h)
+            ∙ ap (characters_at none) (half-here (get_or s i 0) (drop (i + 1) s) (lead-no-quote (get_or s i 0) w.0)
             ∙ ap (λ (k : ℕ). get_or s i 0 ∷ halved false (drop k s)) (sym e) ∙ ap (λ (z : List ℕ). get_or s i 0 ∷ z) n.is)
             ∙ char-pair (get_or s i 0) (get_or s j 0) (halved false (drop r s)) w.0
             ∙ rw (p, e);
@@ -161,7 +161,7 @@ module _ (s : List ℕ) (i : ℕ) (q : Bool) (h : i < length s) (f : q ≡ pair_
         low = n.low;
         high = n.high;
         is =
-            ap (charactersAt none) n.is
+            ap (characters_at none) n.is
             ∙ cases (lead (get_or s i 0))
             (λ z.
             let l : length s ≤ i + 1 = ltb-false (i + 1) (length s) (rw z at p) in
@@ -170,21 +170,21 @@ module _ (s : List ℕ) (i : ℕ) (q : Bool) (h : i < length s) (f : q ≡ pair_
             (λ z. rw p (char-one (get_or s i 0) (halved false (drop r s)) z));
       }
 
-  pub good-pair : (j : ℕ) (t : Bool) → q ≡ true → j ≡ i + 1 → t ≡ trail (get_or s j 0) → t ≡ goodCharacter (char_at s i)
-  unfolding char_at goodCharacter isPair
+  pub good-pair : (j : ℕ) (t : Bool) → q ≡ true → j ≡ i + 1 → t ≡ trail (get_or s j 0) → t ≡ good_character (char_at s i)
+  unfolding char_at good_character is_pair
   good-pair j t g e o = let p : pair_at s i ≡ true = sym f ∙ g in rw (p, (pair-in s i p).0, ← e) o
 
-  pub good-one : (t : Bool) → q ≡ false → t ≡ within 0x20 0x7E (get_or s i 0) → t ≡ goodCharacter (char_at s i)
-  unfolding char_at goodCharacter
+  pub good-one : (t : Bool) → q ≡ false → t ≡ within 0x20 0x7E (get_or s i 0) → t ≡ good_character (char_at s i)
+  unfolding char_at good_character
   good-one t g o = let p : pair_at s i ≡ false = sym f ∙ g in rw p o
 
   pub pair_inside : (j : ℕ) → q ≡ true → j ≡ i + 1 → j < length s
   pair_inside j g e = let w = pair-in s i (sym f ∙ g) in omega (arith, w.1)
 
 -- a byte that stands alone and isn't doubled is a character, and no pair
-module _ (s : List ℕ) (i : ℕ) (h : isClear (get_or s i 0) ≡ true) where
+module _ (s : List ℕ) (i : ℕ) (h : is_clear (get_or s i 0) ≡ true) where
   clear-parts : (within 0x20 0x7E (get_or s i 0) ≡ true) × (not (eqb (get_or s i 0) 0x22) ≡ true)
-  unfolding isClear
+  unfolding is_clear
   clear-parts = both (within 0x20 0x7E (get_or s i 0)) (not (eqb (get_or s i 0) 0x22)) h
 
   pub clear-no-pair : pair_at s i ≡ false
@@ -194,30 +194,30 @@ module _ (s : List ℕ) (i : ℕ) (h : isClear (get_or s i 0) ≡ true) where
   pub clear-past : i < length s → PastAt s i (i + 1)
   clear-past l = past_one s i false l (sym clear-no-pair) (i + 1) refl (next-single s i (i + 1) l refl (not-true (eqb (get_or s i 0) 0x22) clear-parts.1))
 
-  clear-good : i < length s → true ≡ goodCharacter (char_at s i)
+  clear-good : i < length s → true ≡ good_character (char_at s i)
   clear-good l = good-one s i false l (sym clear-no-pair) true refl (sym clear-parts.0)
 
 -- ---- 52
-abbrev pub goodAll : List ℕ → ℕ → Bool
-goodAll s i = all goodCharacter (charactersAt none (halved false (drop i s)))
+abbrev pub good_all : List ℕ → ℕ → Bool
+good_all s i = all good_character (characters_at none (halved false (drop i s)))
 
-pub good-starts : (s : List ℕ) → convertible (halved false s) ≡ goodAll s 0
+pub good-starts : (s : List ℕ) → convertible (halved false s) ≡ good_all s 0
 unfolding convertible characters
 good-starts s = refl
 
-module _ (s : List ℕ) (i : ℕ) (inv : convertible (halved false s) ≡ goodAll s i) where
+module _ (s : List ℕ) (i : ℕ) (inv : convertible (halved false s) ≡ good_all s i) where
   pub good-ends : length s ≤ i → true ≡ convertible (halved false s)
-  unfolding charactersAt all halved
+  unfolding characters_at all halved
   good-ends h = sym (inv ∙ rw (over s i h))
 
-  module _ (r : ℕ) (t : Bool) (e : t ≡ goodCharacter (char_at s i)) where
-    pub good-on : PastAt s i r → not t ≡ false → convertible (halved false s) ≡ goodAll s r
+  module _ (r : ℕ) (t : Bool) (e : t ≡ good_character (char_at s i)) where
+    pub good-on : PastAt s i r → not t ≡ false → convertible (halved false s) ≡ good_all s r
     unfolding all
-    good-on p g = inv ∙ ap (all goodCharacter) p.is ∙ rw (← e, not-false t g, all)
+    good-on p g = inv ∙ ap (all good_character) p.is ∙ rw (← e, not-false t g, all)
 
     pub good-bad : PastAt s i r → not t ≡ true → false ≡ convertible (halved false s)
     unfolding all
-    good-bad p g = sym (inv ∙ ap (all goodCharacter) p.is ∙ rw (← e, not-true t g, all))
+    good-bad p g = sym (inv ∙ ap (all good_character) p.is ∙ rw (← e, not-true t g, all))
 
-  pub clear-on : (q : Bool) → i < length s → q ≡ isClear (get_or s i 0) → q ≡ true → convertible (halved false s) ≡ goodAll s (i + 1)
-  clear-on q h e g = let c : isClear (get_or s i 0) ≡ true = sym e ∙ g in good-on (i + 1) true (clear-good s i c h) (clear-past s i c h) refl
+  pub clear-on : (q : Bool) → i < length s → q ≡ is_clear (get_or s i 0) → q ≡ true → convertible (halved false s) ≡ good_all s (i + 1)
+  clear-on q h e g = let c : is_clear (get_or s i 0) ≡ true = sym e ∙ g in good-on (i + 1) true (clear-good s i c h) (clear-past s i c h) refl

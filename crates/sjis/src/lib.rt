@@ -2,17 +2,17 @@
 // doubled.
 ghost use Rattle.std.specs.Prelude.{◌≡◌, false, cond, ltb, ◌-◌, ◌≤◌, ◌<◌, length};
 ghost use Rattle.csv_rules.specs.Kanji as Kanji;
-ghost use Rattle.csv_rules.specs.Kanji.{lead, trail, converted, goodCharacter};
+ghost use Rattle.csv_rules.specs.Kanji.{lead, trail, converted, good_character};
 ghost use Rattle.csv_rules.specs.Written.{halved};
 ghost use Rattle.reach.specs.Reach.{Adds};
-ghost use Rattle.sjis.specs.Texts.{pairText, oneText, endText, pair_at, characterText};
-ghost use Rattle.sjis.specs.Items.{NextAt, PastAt, char_at, isClear};
+ghost use Rattle.sjis.specs.Texts.{pair_text, one_text, end_text, pair_at, character_text};
+ghost use Rattle.sjis.specs.Items.{NextAt, PastAt, char_at, is_clear};
 
 // ---- one character
 
 // A byte that stands alone and isn't doubled in the file.
 pub fn clear(b: u8) -> bool
-    ensures { result ≡ isClear b }
+    ensures { result ≡ is_clear b }
 {
     bytes::is_plain(b) & (b != 0x22)
 }
@@ -115,7 +115,7 @@ fn past_raw(raw: &[u8], i: usize) -> usize
 // Whether the character at a place can be converted.
 fn good_at(raw: &[u8], i: usize) -> bool
     requires { i < length raw.now }
-    ensures { result ≡ goodCharacter (char_at raw.now i) }
+    ensures { result ≡ good_character (char_at raw.now i) }
 {
     if pair_at(raw, i) {
         let j = i + 1;
@@ -148,7 +148,7 @@ pub fn convertible(raw: &[u8]) -> bool
 // A pair, in two-byte mode or one-byte mode.
 fn put_pair(out: &mut [u8], at: usize, two: bool, l: u8, t: u8) -> usize
     requires { at ≤ length out.old }
-    ensures { Adds at out.old (pairText two l t) result out.new }
+    ensures { Adds at out.old (pair_text two l t) result out.new }
 {
     let f = pair_first(l, t);
     let s = pair_second(t);
@@ -162,7 +162,7 @@ fn put_pair(out: &mut [u8], at: usize, two: bool, l: u8, t: u8) -> usize
 // A byte that stands alone.
 fn put_one(out: &mut [u8], at: usize, two: bool, b: u8) -> usize
     requires { at ≤ length out.old }
-    ensures { Adds at out.old (oneText two b) result out.new }
+    ensures { Adds at out.old (one_text two b) result out.new }
 {
     if two {
         return reach::put(out, at, &[0x1B, 0x28, 0x42, b]);
@@ -173,7 +173,7 @@ fn put_one(out: &mut [u8], at: usize, two: bool, b: u8) -> usize
 // The end of a text.
 fn put_end(out: &mut [u8], at: usize, two: bool) -> usize
     requires { at ≤ length out.old }
-    ensures { Adds at out.old (endText two) result out.new }
+    ensures { Adds at out.old (end_text two) result out.new }
 {
     if two {
         return reach::put(out, at, &[0x1B, 0x28, 0x42]);
@@ -184,7 +184,7 @@ fn put_end(out: &mut [u8], at: usize, two: bool) -> usize
 // The character at a place.
 fn put_next(out: &mut [u8], at: usize, two: bool, raw: &[u8], i: usize) -> usize
     requires { (i < length raw.now) × (at ≤ length out.old) }
-    ensures { Adds at out.old (characterText two raw.now i) result out.new }
+    ensures { Adds at out.old (character_text two raw.now i) result out.new }
 {
     let b = raw[i];
     if pair_at(raw, i) {

@@ -16,7 +16,7 @@ use Rattle.rules.proofs.Lists.{part_length, rest-is}
 use Rattle.rules.proofs.Modes.{length-met}
 use Rattle.rules.proofs.Header.{delim-small}
 use Rattle.bytes.specs.Bytes.{until, is_byte}
-use Rattle.scan.specs.Scan.{ends, afterSep, onward, next_from, next, CutOf}
+use Rattle.scan.specs.Scan.{ends, after_sep, onward, next_from, next, CutOf}
 use Rattle.scan.proofs.Laws.{Far, far-is, ends-far, from-met, piece-met}
 use Rattle.components.proofs.Pieces.{onward-within}
 use Rattle.components.proofs.Laws.{head-met}
@@ -38,14 +38,14 @@ pub piece-long : (p : ℕ → Bool) (t a : List ℕ) → met a ≡ until p (met 
 piece-long p t a e = sym (length-met a) ∙ ap length e
 
 -- ---- from behind a component, or a field, the next field is the same
-after-until : (sep : ℕ) (p : ℕ → Bool) → ((b : ℕ) → p b ≡ false → eqb b sep ≡ false) → (m : List ℕ) → afterSep sep (drop (length (until p m)) m) ≡ afterSep sep m
-unfolding until afterSep
+after-until : (sep : ℕ) (p : ℕ → Bool) → ((b : ℕ) → p b ≡ false → eqb b sep ≡ false) → (m : List ℕ) → after_sep sep (drop (length (until p m)) m) ≡ after_sep sep m
+unfolding until after_sep
 after-until sep p w [] = refl
 after-until sep p w (x ∷ m) = cases (p x) (λ e. cc) (λ e. cc (w x e, after-until sep p w m))
 
 leads : (d : Delims) (p : ℕ → Bool) → Far p → ((b : ℕ) → p b ≡ false → eqb b d.field ≡ false) → (t a : List ℕ) → met a ≡ until p (met t) → length a ≤ length t → Leads d (length a) t
 leads d p far w t a e h =
-    record { inside = h; on = ap (λ n. afterSep d.field (met (drop n t))) (piece-long p t a e) ∙ ap (afterSep d.field) (sym (from-met p far t)) ∙ after-until d.field p w (met t) }
+    record { inside = h; on = ap (λ n. after_sep d.field (met (drop n t))) (piece-long p t a e) ∙ ap (after_sep d.field) (sym (from-met p far t)) ∙ after-until d.field p w (met t) }
 
 ends-field : (d : Delims) (b : ℕ) → ends d b ≡ false → eqb b d.field ≡ false
 unfolding ends
@@ -58,7 +58,7 @@ pub field-leads : (d : Delims) (t f : List ℕ) → Proper d → met f ≡ until
 field-leads d t f q = leads d (is_byte d.field) (far-is d.field (delim-small d.field q.field)) (λ b e. e) t f
 
 -- later fields are, where the next is
-onward-from : (sep k : ℕ) (m l : List ℕ) → 1 ≤ k → afterSep sep m ≡ afterSep sep l → onward sep k m ≡ onward sep k l
+onward-from : (sep k : ℕ) (m l : List ℕ) → 1 ≤ k → after_sep sep m ≡ after_sep sep l → onward sep k m ≡ onward sep k l
 unfolding onward
 onward-from sep zero m l h e = absurd (omega arith)
 onward-from sep (suc k) m l h e = ap (onward sep k) e
@@ -71,8 +71,8 @@ module _ (d : Delims) (t r : List ℕ) (n k : ℕ) (l : Leads d n t) (h : 1 ≤ 
   behind-within = field-within d.field k t r behind-is
 
 -- from the next component on, too
-after-from : (d : Delims) → Proper d → (m : List ℕ) → afterSep d.field (next_from d m) ≡ afterSep d.field m
-unfolding afterSep next_from
+after-from : (d : Delims) → Proper d → (m : List ℕ) → after_sep d.field (next_from d m) ≡ after_sep d.field m
+unfolding after_sep next_from
 after-from d q [] = refl
 after-from d q (x ∷ m) =
     cases (eqb x d.component)

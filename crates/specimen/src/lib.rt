@@ -4,7 +4,7 @@ ghost use Rattle.rules.specs.declared.Name.TheVariants.{Spm, Obr, Orc};
 ghost use Rattle.rules.specs.Shift.{met};
 ghost use Rattle.rules.specs.Proper.{Proper};
 ghost use Rattle.rules.specs.Check.{Context};
-ghost use Rattle.value.specs.Rules.{faultNo};
+ghost use Rattle.value.specs.Rules.{fault_no};
 ghost use Rattle.fields.specs.Segment.{said, FoundIn};
 ghost use Rattle.specimen.specs.Specimen.{OrderAt};
 
@@ -16,7 +16,7 @@ use value::{Fault, table};
 
 pub fn spm(s: &[u8], d: Delims) -> SegmentRead
     requires { Proper d }
-    ensures found_in { (x : Context) → FoundIn Spm d x (met s.now) result.field (faultNo result.fault) }
+    ensures found_in { (x : Context) → FoundIn Spm d x (met s.now) result.field (fault_no result.fault) }
     ensures none { result.at + result.len ≡ 0 }
 {
     let w = begin(0);
@@ -28,8 +28,8 @@ pub fn spm(s: &[u8], d: Delims) -> SegmentRead
 
 pub fn obr(s: &[u8], d: Delims) -> SegmentRead
     requires { Proper d }
-    ensures found_in { (x : Context) → FoundIn Obr d x (met s.now) result.field (faultNo result.fault) }
-    ensures order { OrderAt Obr d s.now (faultNo result.fault) result.at result.len }
+    ensures found_in { (x : Context) → FoundIn Obr d x (met s.now) result.field (fault_no result.fault) }
+    ensures order { OrderAt Obr d s.now (fault_no result.fault) result.at result.len }
 {
     let w = begin(0);
     let order = field(s, d, w, 2, One(table::ORDER));
@@ -47,7 +47,7 @@ pub fn obr(s: &[u8], d: Delims) -> SegmentRead
 // ORC, after the OBR whose order number is `order`.
 pub fn orc(s: &[u8], d: Delims, order: &[u8]) -> SegmentRead
     requires { Proper d }
-    ensures found_in { FoundIn Orc d (said order.now) (met s.now) result.field (faultNo result.fault) }
+    ensures found_in { FoundIn Orc d (said order.now) (met s.now) result.field (fault_no result.fault) }
     ensures none { result.at + result.len ≡ 0 }
 {
     let w = begin(0);

@@ -3,7 +3,7 @@ use Rattle.std.specs.Prelude.{◌≡◌, refl, List, [], ◌∷◌, ◌++◌, �
 use Prim.Native.String.{String}
 use Rattle.rules.specs.Lists.{bytes}
 use Rattle.rules.specs.All.{rules}
-use Rattle.spot.specs.Spot.{isBad, keptBytes, goodBytes, placeAt, spot_of}
+use Rattle.spot.specs.Spot.{is_bad, kept_bytes, good_bytes, place_at, spot_of}
 
 -- a refusal's number, a text, and the line and byte of its place
 pub data Edge : Type 0 where
@@ -53,5 +53,5 @@ table =
     ∷ []
 
 pub edges : Every table
-unfolding rules isBad keptBytes goodBytes placeAt spot_of spaces Right Every table
+unfolding rules is_bad kept_bytes good_bytes place_at spot_of spaces Right Every table
 edges = (refl, (refl, (refl, (refl, (refl, (refl, (refl, (refl, (refl, (refl, (refl, (refl, (refl, (refl, (refl, (refl, (refl, (refl, (refl, tt)))))))))))))))))))

@@ -2,9 +2,9 @@
 ghost use Rattle.std.specs.Prelude.{◌≡◌, cond, ◌≤◌, length};
 ghost use Rattle.rules.specs.declared.Mode.TheVariants.{One};
 ghost use Rattle.rules.specs.Lists.{count};
-ghost use Rattle.rules.specs.Frame.{delimsOf, segments};
+ghost use Rattle.rules.specs.Frame.{delims_of, segments};
 ghost use Rattle.bytes.specs.Bytes.{is_byte};
-ghost use Rattle.spot.specs.Spot.{isBad, keptBytes, goodBytes, placeAt, longestText, SpotTold};
+ghost use Rattle.spot.specs.Spot.{is_bad, kept_bytes, good_bytes, place_at, longest_text, SpotTold};
 
 use frame::all_segments;
 use rules::Mode;
@@ -37,8 +37,8 @@ pub fn spot_of(text: &[u8], number: usize) -> Spot
 
 // The place behind the first `at` bytes.
 fn place(text: &[u8], end: u8, at: usize) -> Spot
-    requires { (at ≤ length text.now) × (length text.now ≤ longestText) }
-    ensures { result ≡ placeAt end at text.now }
+    requires { (at ≤ length text.now) × (length text.now ≤ longest_text) }
+    ensures { result ≡ place_at end at text.now }
 {
     Spot {
         line: line_ends(&text[..at], end) + 1,
@@ -70,7 +70,7 @@ fn one_if(yes: bool) -> usize
 // ---- 12, 41: the byte and shift rule
 // How many bytes stand before the first that breaks it.
 fn kept_bytes(s: &[u8], end: u8) -> usize
-    ensures value { result ≡ keptBytes end One s.now }
+    ensures value { result ≡ kept_bytes end One s.now }
     ensures within { result ≤ length s.now }
 {
     let mut mode = Mode::One;
@@ -86,7 +86,7 @@ fn kept_bytes(s: &[u8], end: u8) -> usize
 }
 
 fn is_bad(m: Mode) -> bool
-    ensures { result ≡ isBad m }
+    ensures { result ≡ is_bad m }
 {
     match m {
         Mode::One => false,
@@ -103,7 +103,7 @@ fn is_bad(m: Mode) -> bool
 // ---- 13: the segments
 // The field separator that the header names; 0 where the text is too short to name one.
 fn field_separator(m: &[u8]) -> u8
-    ensures { result ≡ (delimsOf m.now).field }
+    ensures { result ≡ (delims_of m.now).field }
 {
     if m.len() < 4 {
         return 0;
@@ -113,7 +113,7 @@ fn field_separator(m: &[u8]) -> u8
 
 // How many bytes the segments before the first bad one take, each with its 0D.
 fn good_bytes(m: &[u8], field: u8) -> usize
-    ensures value { result ≡ goodBytes field (segments m.now) }
+    ensures value { result ≡ good_bytes field (segments m.now) }
     ensures within { result ≤ length m.now }
 {
     let mut at = 0;

@@ -1,14 +1,14 @@
 // A component's text, without its escapes, written into a lent buffer.
 ghost use Rattle.std.specs.Prelude.{◌≡◌, length};
 ghost use Rattle.rules.specs.Told.{Call};
-ghost use Rattle.rules.specs.Fetch.{unescapedTold};
+ghost use Rattle.rules.specs.Fetch.{unescaped_told};
 
 use rules::{Delims, Kind, Refusal, Written};
 use unescape::Unescaped;
 
 // The text of a component of this segment and field: 23, then 45, or how many bytes it has. It is measured, and then written.
 pub fn text_of(raw: &[u8], d: Delims, segment: usize, field: usize, out: &mut [u8]) -> Written
-    ensures { Call (unescapedTold d raw.now segment field (length out.old)) out.old result out.new }
+    ensures { Call (unescaped_told d raw.now segment field (length out.old)) out.old result out.new }
 {
     match unescape::unescape_into(raw, d, &mut [0u8; 0]) {
         Unescaped::Faulty => refused(Kind::Escape, segment, field),

@@ -4,8 +4,8 @@ ghost use Rattle.std.specs.Prelude.{◌≡◌};
 ghost use Rattle.rules.specs.Told.{gives};
 ghost use Rattle.rules.specs.Message.{base};
 ghost use Rattle.rules.specs.Promises.{MessageWritten};
-ghost use Rattle.compose.specs.Compose.{toldSize};
-ghost use Rattle.to_message.specs.Call.{measuredTold};
+ghost use Rattle.compose.specs.Compose.{told_size};
+ghost use Rattle.to_message.specs.Call.{measured_told};
 
 use compose::{Passed, Size};
 use rules::{Delims, Kind, Written};
@@ -26,7 +26,7 @@ fn delimiters() -> Delims
 
 // 40 to 43 of a sheet, or how many bytes and segments its message has.
 fn measure(sheet: &[u8]) -> Passed
-    ensures { toldSize result ≡ measuredTold sheet.now }
+    ensures { told_size result ≡ measured_told sheet.now }
 {
     match sheets::readable(sheet) {
         SheetVerdict::Wrong(r) => Passed::Not(r),
@@ -40,7 +40,7 @@ fn measure(sheet: &[u8]) -> Passed
 
 // 44, 45, or the message of a sheet that was judged and whose message has this size.
 fn write(out: &mut [u8], sheet: &[u8], size: Size) -> Written
-    requires { gives size ≡ measuredTold sheet.now }
+    requires { gives size ≡ measured_told sheet.now }
     ensures { MessageWritten sheet.now out.old result out.new }
 {
     let bytes = size.bytes;

@@ -16,14 +16,14 @@ use Rattle.rules.specs.declared.Answer.TheVariants.{Accepted, Refused}
 use Rattle.rules.specs.declared.Written.{Written}
 use Rattle.rules.specs.declared.Written.TheVariants.{Wrote, NotWritten}
 use Rattle.rules.specs.Told.{gives, refused, refusal, told, over, Call}
-use Rattle.rules.specs.Lists.{split, allButLast, ended}
+use Rattle.rules.specs.Lists.{split, all_but_last, ended}
 use Rattle.rules.specs.Shift.{met}
-use Rattle.rules.specs.Frame.{delimsOf, segments, segmentsOk, name_of}
+use Rattle.rules.specs.Frame.{delims_of, segments, segments_ok, name_of}
 use Rattle.rules.specs.View.{view}
 use Rattle.rules.specs.Row.{rows_of}
-use Rattle.rules.specs.Check.{checkTold}
-use Rattle.rules.specs.Sheet.{sheetOf, sheetTold, toSheet}
-use Rattle.rules.proofs.Logic.{both, not-given, toldCases, called-as}
+use Rattle.rules.specs.Check.{check_told}
+use Rattle.rules.specs.Sheet.{sheet_of, sheet_told, to_sheet}
+use Rattle.rules.proofs.Logic.{both, not-given, told_cases, called-as}
 use Rattle.rules.proofs.Lists as Lists
 use Rattle.rules.proofs.Lists.{rest-is, rest-further}
 use Rattle.rules.proofs.Split.{ended-append}
@@ -32,11 +32,11 @@ use Rattle.rules.proofs.Where.{accepted-passes}
 use Rattle.bytes.specs.Bytes.{until}
 use Rattle.bytes.specs.Bytes as Bytes
 use Rattle.unescape.specs.Unescaped.{fill}
-use Rattle.frame.specs.Frame.{goodOf, frame_of, Sound}
+use Rattle.frame.specs.Frame.{good_of, frame_of, Sound}
 use Rattle.frame.proofs.Rules.{check-refused, sound}
 use Rattle.frame.proofs.Laws.{segment-there, ends-inside, good-there}
-use Rattle.fill.specs.Fill.{lesser, Filled, fillAt, Lined, longest}
-use Rattle.sources.specs.Sources.{linesOfBody}
+use Rattle.fill.specs.Fill.{lesser, Filled, fill_at, Lined, longest}
+use Rattle.sources.specs.Sources.{lines_of_body}
 use Rattle.to_sheet.specs.Sections.{sections}
 use Rattle.fill.proofs.Laws.{fill-nil, lined_then}
 use Rattle.to_sheet.proofs.Sheet.{sheet-is}
@@ -48,12 +48,12 @@ pub record Passing (d : Delims) (m out₀ : List ℕ) (at written : ℕ) (out : 
   pub inside : at ≤ length m
   pub few : written ≤ longest 10 * at
   pub same : length out ≡ length out₀
-  pub whole : segmentsOk d.field (drop at m) ≡ true
+  pub whole : segments_ok d.field (drop at m) ≡ true
   pub left : sections d (segments m) ≡ ended 0x0A done ++ sections d (segments (drop at m))
   pub lined : Lined 0 out₀ done written out
 
 pub begins : (d : Delims) (m out : List ℕ) → Sound m d → Passing d m out 0 0 out
-unfolding ended fillAt lesser fill
+unfolding ended fill_at lesser fill
 begins d m out s = record {
   done = [];
   inside = omega arith;
@@ -64,7 +64,7 @@ begins d m out s = record {
   lined = record { filled = record { ends = refl; is = refl } };
 }
 
-section-cons : (d : Delims) (s : List ℕ) (ss : List (List ℕ)) → sections d (s ∷ ss) ≡ ended 0x0A (linesOfBody d (name_of s) (met s)) ++ sections d ss
+section-cons : (d : Delims) (s : List ℕ) (ss : List (List ℕ)) → sections d (s ∷ ss) ≡ ended 0x0A (lines_of_body d (name_of s) (met s)) ++ sections d ss
 unfolding sections
 section-cons d s ss = refl
 
@@ -77,7 +77,7 @@ module _ (d : Delims) (m out₀ : List ℕ) (at written : ℕ) (out : List ℕ) 
   pub further : at + (n + 1) ≤ length m
   further = rest-further m at n short
 
-  good : (goodOf d.field (take n (drop at m)) ≡ true) × (segmentsOk d.field (drop (at + (n + 1)) m) ≡ true)
+  good : (good_of d.field (take n (drop at m)) ≡ true) × (segments_ok d.field (drop (at + (n + 1)) m) ≡ true)
   good = good-there m at n en d.field p.whole k l
 
   -- a segment of a message that is sound
@@ -88,11 +88,11 @@ module _ (d : Delims) (m out₀ : List ℕ) (at written : ℕ) (out : List ℕ) 
       omega (arith, leb-true (length s) 4096 (both (leb (length s) 4096) _ good.0).0)
 
   pub goes : (r : ℕ) (y : List ℕ)
-      → Lined written out (linesOfBody d (name_of (take n (take (length m - at) (drop at m)))) (met (take n (take (length m - at) (drop at m))))) r y
+      → Lined written out (lines_of_body d (name_of (take n (take (length m - at) (drop at m)))) (met (take n (take (length m - at) (drop at m))))) r y
       → r ≤ written + longest 10 → Passing d m out₀ (at + (n + 1)) r y
   goes r y h b =
       let s : List ℕ = take n (take (length m - at) (drop at m)) in
-      let ls : List (List ℕ) = linesOfBody d (name_of s) (met s) in
+      let ls : List (List ℕ) = lines_of_body d (name_of s) (met s) in
       record {
         done = p.done ++ ls;
         inside = further;
@@ -104,10 +104,10 @@ module _ (d : Delims) (m out₀ : List ℕ) (at written : ℕ) (out : List ℕ) 
       }
     where
       next : ended 0x0A p.done ++ sections d (segments (drop at m))
-          ≡ ended 0x0A (p.done ++ linesOfBody d (name_of (take n (take (length m - at) (drop at m)))) (met (take n (take (length m - at) (drop at m))))) ++ sections d (segments (drop (at + (n + 1)) m))
+          ≡ ended 0x0A (p.done ++ lines_of_body d (name_of (take n (take (length m - at) (drop at m)))) (met (take n (take (length m - at) (drop at m))))) ++ sections d (segments (drop (at + (n + 1)) m))
       next =
           let s : List ℕ = take n (take (length m - at) (drop at m)) in
-          let ls : List (List ℕ) = linesOfBody d (name_of s) (met s) in
+          let ls : List (List ℕ) = lines_of_body d (name_of s) (met s) in
           let e : segments (drop at m) ≡ s ∷ segments (drop (at + (n + 1)) m)
           = segment-there m at n en short ∙ rw (rest-is m at) in
           let f : sections d (segments (drop at m)) ≡ ended 0x0A ls ++ sections d (segments (drop (at + (n + 1)) m))
@@ -122,7 +122,7 @@ ends d m out₀ at written out p h =
     rw (p.left ∙ ap (λ (t : List ℕ). ended 0x0A p.done ++ t) none_left ∙ append-nil (ended 0x0A p.done)) (fills out₀ out p.done written p.lined)
   where
     none_left : sections d (segments (drop at m)) ≡ []
-    none_left = rw (Lists.over m at h) (unfold segments split allButLast sections in refl)
+    none_left = rw (Lists.over m at h) (unfold segments split all_but_last sections in refl)
 
 -- ---- 45, and the sheet
 -- a text that fits is written whole
@@ -136,15 +136,15 @@ module _ (m : List ℕ) (d : Delims) (s : Sound m d) (room : ℕ) where
   abbrev text : List ℕ
   text = sections d (segments m)
 
-  text-is : sheetOf (rows_of (view m)) ≡ text
+  text-is : sheet_of (rows_of (view m)) ≡ text
   text-is = rw s.delims (sheet-is m)
 
-  told-short : room < length text → sheetTold (view m) room ≡ refused 45 0 0
-  unfolding sheetTold
+  told-short : room < length text → sheet_told (view m) room ≡ refused 45 0 0
+  unfolding sheet_told
   told-short h = rw (text-is, lt-ltb room (length text) h)
 
-  told-whole : length text ≤ room → sheetTold (view m) room ≡ gives text
-  unfolding sheetTold
+  told-whole : length text ≤ room → sheet_told (view m) room ≡ gives text
+  unfolding sheet_told
   told-whole h = rw (text-is, le-ltb room (length text) h)
 
 not-wrote : {P : Type 0} {k : Refusal} {n : ℕ} → NotWritten k ≡ Wrote n → P
@@ -156,41 +156,41 @@ module _ (m : List ℕ) (d : Delims) (s : Sound m d) (x z : List ℕ) (n : ℕ) 
   still = ap (λ (l : List ℕ). l ++ x) (measured.is ∙ fill-nil (sections d (segments m)))
 
   pub write-short : (k : Refusal) → length (z ++ x) < n → k ≡ record { kind = Room; segment = 0; field = 0 }
-      → Call (sheetTold (view m) (length x)) x (NotWritten k) (z ++ x)
+      → Call (sheet_told (view m) (length x)) x (NotWritten k) (z ++ x)
   write-short k h e = called-as (told-short m d s (length x) (omega (arith, measured.ends, ap length still))) (rw e (record { told = refl; buffer = still; within = λ i f. not-wrote f }))
 
-  pub write-whole : (r : ℕ) (y : List ℕ) → n ≤ length (z ++ x) → Filled r y (sections d (segments m)) (z ++ x) → Call (sheetTold (view m) (length x)) x (Wrote n) y
+  pub write-whole : (r : ℕ) (y : List ℕ) → n ≤ length (z ++ x) → Filled r y (sections d (segments m)) (z ++ x) → Call (sheet_told (view m) (length x)) x (Wrote n) y
   write-whole r y h f =
       let room : length (sections d (segments m)) ≤ length x = omega (arith, measured.ends, ap length still) in
       called-as (told-whole m d s (length x) room)
       (record { told = ap gives measured.ends; buffer = f.is ∙ ap (fill (sections d (segments m))) still ∙ fits (sections d (segments m)) x room; within = λ i e. let q : i ≡ n = cc in omega (arith, measured.ends) })
 
 -- ---- the check first
-module _ (m : List ℕ) (a : Answer) (e : told a ≡ checkTold m) where
+module _ (m : List ℕ) (a : Answer) (e : told a ≡ check_told m) where
   module _ (c : Counts) (h : a ≡ Accepted c) where
-    accepted : checkTold m ≡ gives c
+    accepted : check_told m ≡ gives c
     accepted = sym e ∙ ap told h
 
     pub accepted-long : 9 ≤ length m
     accepted-long = (header m (accepted-passes m c accepted).headed).long
 
-    pub accepted-sound : (d : Delims) → d ≡ delimsOf m → Sound m d
+    pub accepted-sound : (d : Delims) → d ≡ delims_of m → Sound m d
     accepted-sound d g =
-        toldCases (frame_of m)
+        told_cases (frame_of m)
         (λ o k. let s : Sound m o.delims = sound m o k in rw (g ∙ sym s.delims) s)
         (λ n i f k. not-given (sym (check-refused m n i f k) ∙ accepted))
 
-    sheet-told : (room : ℕ) → toSheet m room ≡ sheetTold (view m) room
-    unfolding toSheet
+    sheet-told : (room : ℕ) → to_sheet m room ≡ sheet_told (view m) room
+    unfolding to_sheet
     sheet-told room = rw accepted
 
-    pub wrote-sheet : (x : List ℕ) (r : Written) (y : List ℕ) → Call (sheetTold (view m) (length x)) x r y → Call (toSheet m (length x)) x r y
+    pub wrote-sheet : (x : List ℕ) (r : Written) (y : List ℕ) → Call (sheet_told (view m) (length x)) x r y → Call (to_sheet m (length x)) x r y
     wrote-sheet x r y w = called-as (sheet-told (length x)) w
 
   module _ (k : Refusal) (h : a ≡ Refused k) where
-    not-told : (room : ℕ) → toSheet m room ≡ refusal k
-    unfolding toSheet
+    not-told : (room : ℕ) → to_sheet m room ≡ refusal k
+    unfolding to_sheet
     not-told room = rw (← e, h)
 
-    pub refused-sheet : (x : List ℕ) → Call (toSheet m (length x)) x (NotWritten k) x
+    pub refused-sheet : (x : List ℕ) → Call (to_sheet m (length x)) x (NotWritten k) x
     refused-sheet x = called-as (not-told (length x)) (record { told = refl; buffer = refl; within = λ i f. not-wrote f })

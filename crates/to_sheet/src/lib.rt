@@ -3,7 +3,7 @@ ghost use Rattle.std.specs.Prelude.{◌+◌, length};
 ghost use Rattle.rules.specs.Told.{Call};
 ghost use Rattle.rules.specs.Frame.{segments};
 ghost use Rattle.rules.specs.View.{view};
-ghost use Rattle.rules.specs.Sheet.{sheetTold};
+ghost use Rattle.rules.specs.Sheet.{sheet_told};
 ghost use Rattle.rules.specs.Promises.{SheetWritten};
 ghost use Rattle.frame.specs.Frame.{Sound};
 ghost use Rattle.fill.specs.Fill.{Filled};
@@ -27,7 +27,7 @@ pub fn to_sheet(m: &[u8], out: &mut [u8]) -> Written
 // 45, or the sheet. It is measured first, where nothing of the buffer is lent.
 fn write(out: &mut [u8], m: &[u8], d: Delims) -> Written
     requires { Sound m.now d }
-    ensures { Call (sheetTold (view m.now) (length out.old)) out.old result out.new }
+    ensures { Call (sheet_told (view m.now) (length out.old)) out.old result out.new }
 {
     let n = pass(&mut out[..0], m, d);
     if out.len() < n {

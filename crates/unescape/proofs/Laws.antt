@@ -9,17 +9,17 @@ use borrow.Author.Tests.{le-leb, lt-leb, leb-true, leb-false}
 use lib.Dec.{eqb, leb}
 use lib.ListN.{length, get_or, take, drop, set, length-append}
 use lib.Seq.{length-take-le}
-use Rattle.rules.proofs.Logic.{cases, optionCases, nothing-some}
-use Rattle.rules.proofs.Escaped.{pushCases}
+use Rattle.rules.proofs.Logic.{cases, option_cases, nothing-some}
+use Rattle.rules.proofs.Escaped.{push_cases}
 use Rattle.rules.proofs.Lists.{here, over}
 use Rattle.rules.proofs.Modes.{byte-met, length-marks}
-use Rattle.scan.specs.Scan.{meetsOf}
+use Rattle.scan.specs.Scan.{meets_of}
 use Rattle.rules.specs.declared.Delims.{Delims}
 use Rattle.rules.specs.declared.Mode.{Mode}
 use Rattle.rules.specs.declared.Mode.TheVariants.{One}
 use Rattle.rules.specs.Shift.{mark, marks, met, byte_of, step}
-use Rattle.rules.specs.Escape.{letters, meaning, push, unescapeAt, unescape}
-use Rattle.unescape.specs.Unescaped.{BufferHolds, turn_of, named_of, emitted, byte_at, keptLen, keptBuf, answer_of, fill, Whole, Fits}
+use Rattle.rules.specs.Escape.{letters, meaning, push, unescape_at, unescape}
+use Rattle.unescape.specs.Unescaped.{BufferHolds, turn_of, named_of, emitted, byte_at, kept_len, kept_buf, answer_of, fill, Whole, Fits}
 use Rattle.unescape.specs.declared.At.{At}
 use Rattle.unescape.specs.declared.At.TheVariants.{Plain, Opened, Named, Broken}
 use Rattle.unescape.specs.declared.Unescaped.{Unescaped}
@@ -27,22 +27,22 @@ use Rattle.unescape.specs.declared.Unescaped.TheVariants.{Got, Over}
 use Rattle.rules.specs.Escape as E
 
 -- ---- the reader
-unfoldable pub resOf : Delims → At → List ℕ → Option (List ℕ)
-resOf d Plain s = unescapeAt d E.plain s
-resOf d Opened s = unescapeAt d E.opened s
-resOf d (Named v) s = unescapeAt d (E.named v) s
-resOf d Broken s = none
+unfoldable pub res_of : Delims → At → List ℕ → Option (List ℕ)
+res_of d Plain s = unescape_at d E.plain s
+res_of d Opened s = unescape_at d E.opened s
+res_of d (Named v) s = unescape_at d (E.named v) s
+res_of d Broken s = none
 
-unfoldable pub pushIf : Bool → ℕ → Option (List ℕ) → Option (List ℕ)
-pushIf true b o = push b o
-pushIf false b o = o
+unfoldable pub push_if : Bool → ℕ → Option (List ℕ) → Option (List ℕ)
+push_if true b o = push b o
+push_if false b o = o
 
 unfoldable pub pushes : List ℕ → Option (List ℕ) → Option (List ℕ)
 pushes [] o = o
 pushes (b ∷ w) o = push b (pushes w o)
 
-opened-on : (d : Delims) (x : ℕ) (s : List ℕ) → resOf d Opened (x ∷ s) ≡ resOf d (named_of d x) s
-unfolding resOf unescapeAt named_of letters meaning
+opened-on : (d : Delims) (x : ℕ) (s : List ℕ) → res_of d Opened (x ∷ s) ≡ res_of d (named_of d x) s
+unfolding res_of unescape_at named_of letters meaning
 opened-on d x s =
     cases (eqb x 70) (λ e. cc) (λ f. cases (eqb x 83) (λ e. cc) (λ g. cases (eqb x 84) (λ e. cc) (λ h. cases (eqb x 82) (λ e. cc) (λ k. cases (eqb x 69) (λ e. cc) (λ e. cc)))))
 
@@ -52,8 +52,8 @@ unfolding named_of
 named-quiet d x =
     cases (eqb x 70) (λ e. cc) (λ f. cases (eqb x 83) (λ e. cc) (λ g. cases (eqb x 84) (λ e. cc) (λ h. cases (eqb x 82) (λ e. cc) (λ k. cases (eqb x 69) (λ e. cc) (λ e. cc)))))
 
-res_on : (d : Delims) (at : At) (x : ℕ) (s : List ℕ) → resOf d at (x ∷ s) ≡ pushIf (emitted (turn_of d at x)) (byte_at at (byte_of x)) (resOf d (turn_of d at x) s)
-unfolding resOf unescapeAt turn_of pushIf
+res_on : (d : Delims) (at : At) (x : ℕ) (s : List ℕ) → res_of d at (x ∷ s) ≡ push_if (emitted (turn_of d at x)) (byte_at at (byte_of x)) (res_of d (turn_of d at x) s)
+unfolding res_of unescape_at turn_of push_if
 res_on d Plain x s = cases (eqb x d.escape) (λ e. cc) (λ e. cases (eqb x d.sub) (λ f. cc) (λ f. cc))
 res_on d Opened x s = cc (opened-on d x s, named-quiet d x)
 res_on d (Named v) x s = cases (eqb x d.escape) (λ e. cc) (λ e. cc)
@@ -62,8 +62,8 @@ res_on d Broken x s = refl
 unfoldable pub emits : At → ℕ → List ℕ
 emits t v = cond (emitted t) (v ∷ []) []
 
-pushes-more : (w : List ℕ) (t : At) (v : ℕ) (o : Option (List ℕ)) → pushes w (pushIf (emitted t) v o) ≡ pushes (w ++ emits t v) o
-unfolding pushes pushIf emits
+pushes-more : (w : List ℕ) (t : At) (v : ℕ) (o : Option (List ℕ)) → pushes w (push_if (emitted t) v o) ≡ pushes (w ++ emits t v) o
+unfolding pushes push_if emits
 pushes-more [] t v o = cases (emitted t) (λ e. cc) (λ e. cc)
 pushes-more (b ∷ w) t v o = ap (push b) (pushes-more w t v o)
 
@@ -85,7 +85,7 @@ fill_more [] (o ∷ old) v = refl
 fill_more (a ∷ w) [] v = refl
 fill_more (a ∷ w) (o ∷ old) v = ap (λ (l : List ℕ). a ∷ l) (fill_more w old v)
 
-fill-kept : (t : At) (v : ℕ) (w old : List ℕ) → keptBuf t (length w) v (fill w old) ≡ fill (w ++ emits t v) old
+fill-kept : (t : At) (v : ℕ) (w old : List ℕ) → kept_buf t (length w) v (fill w old) ≡ fill (w ++ emits t v) old
 unfolding emits
 fill-kept t v w old = cases (emitted t) (λ e. rw e (fill_more w old v)) (λ e. rw (e, append-nil))
 
@@ -102,16 +102,16 @@ fits-plain o done old x k a e f g true h =
     record { is = a ∙ ap some (sym (rw (e, f) (fill-take done old (omega arith)))); low = l }
 fits-plain o done old x k a e f g false h = record { text = done; is = a; long = e; over = leb-false k (length x) h }
 
-fits-end : (t : At) (d : Delims) (o : Option (List ℕ)) (done old x : List ℕ) (k : ℕ) → o ≡ pushes done (resOf d t []) → k ≡ length done → x ≡ fill done old
+fits-end : (t : At) (d : Delims) (o : Option (List ℕ)) (done old x : List ℕ) (k : ℕ) → o ≡ pushes done (res_of d t []) → k ≡ length done → x ≡ fill done old
     → length x ≡ length old → Fits (answer_of t k (length x)) o x
-unfolding resOf unescapeAt
+unfolding res_of unescape_at
 fits-end Plain d o done old x k a e f g = fits-plain o done old x k (a ∙ pushes-end done) e f g (leb k (length x)) refl
 fits-end Opened d o done old x k a e f g = a ∙ pushes-none done
 fits-end (Named v) d o done old x k a e f g = a ∙ pushes-none done
 fits-end Broken d o done old x k a e f g = a ∙ pushes-none done
 
-kept-end : (t : At) (d : Delims) (o : Option (List ℕ)) (done old x : List ℕ) → o ≡ pushes done (resOf d t []) → x ≡ fill done old → BufferHolds o old x
-unfolding resOf unescapeAt
+kept-end : (t : At) (d : Delims) (o : Option (List ℕ)) (done old x : List ℕ) → o ≡ pushes done (res_of d t []) → x ≡ fill done old → BufferHolds o old x
+unfolding res_of unescape_at
 kept-end Plain d o done old x a f = record { text = λ v e. let z : some v ≡ some done = sym e ∙ a ∙ pushes-end done in let q : v ≡ done = cc in rw q f }
 kept-end Opened d o done old x a f = record { text = λ v e. nothing-some (sym (pushes-none done) ∙ sym a ∙ e) }
 kept-end (Named w) d o done old x a f = record { text = λ v e. nothing-some (sym (pushes-none done) ∙ sym a ∙ e) }
@@ -125,14 +125,14 @@ pub record Reading (d : Delims) (raw old x : List ℕ) (at : At) (mode : Mode) (
   pub few : k ≤ i
   pub ends : k ≡ length done
   pub holds : x ≡ fill done old
-  pub rest : unescape d (met raw) ≡ pushes done (resOf d at (marks 0x0D mode (drop i raw)))
+  pub rest : unescape d (met raw) ≡ pushes done (res_of d at (marks 0x0D mode (drop i raw)))
 
 pub reads-begin : (d : Delims) (raw old : List ℕ) → Reading d raw old old Plain One 0 0
-unfolding fill pushes resOf unescape met
+unfolding fill pushes res_of unescape met
 reads-begin d raw old = record { done = []; low = omega arith; room = refl; few = omega arith; ends = refl; holds = refl; rest = refl }
 
 module _ {d : Delims} {raw old x : List ℕ} {at : At} {mode : Mode} {k i : ℕ} (p : Reading d raw old x at mode k i) where
-  kept-len : (t : At) (v j : ℕ) → j ≡ keptLen t k → (j ≡ length (p.done ++ emits t v)) × (j ≤ i + 1)
+  kept-len : (t : At) (v j : ℕ) → j ≡ kept_len t k → (j ≡ length (p.done ++ emits t v)) × (j ≤ i + 1)
   unfolding emits
   kept-len t v j e =
       cases (emitted t)
@@ -140,7 +140,7 @@ module _ {d : Delims} {raw old x : List ℕ} {at : At} {mode : Mode} {k i : ℕ}
       (λ g. let q : j ≡ k = rw g at e in (rw (g, append-nil) (q ∙ p.ends), (let z = p.few in omega arith)))
 
   pub reads_on : {t : At} {j v : ℕ} {y : List ℕ} {m : Mode} → i < length raw → t ≡ turn_of d at (mark mode (get_or raw i 0)) → get_or raw i 0 < 256
-      → v ≡ byte_at at (get_or raw i 0) → length y ≡ length x → (j ≡ keptLen t k) × (y ≡ keptBuf t k v x) → m ≡ step 0x0D mode (get_or raw i 0)
+      → v ≡ byte_at at (get_or raw i 0) → length y ≡ length x → (j ≡ kept_len t k) × (y ≡ kept_buf t k v x) → m ≡ step 0x0D mode (get_or raw i 0)
       → Reading d raw old y t m j (i + 1)
   unfolding marks
   reads_on {t} {j} {v} {y} {m} h e b f g q r =
@@ -148,7 +148,7 @@ module _ {d : Delims} {raw old x : List ℕ} {at : At} {mode : Mode} {k i : ℕ}
       let X : ℕ = mark mode (get_or raw i 0) in
       let S : List ℕ = marks 0x0D m (drop (i + 1) raw) in
       let a : marks 0x0D mode (drop i raw) ≡ X ∷ S = ap (marks 0x0D mode) (here 0 raw i h) ∙ ap (λ w. X ∷ marks 0x0D w (drop (i + 1) raw)) (sym r) in
-      let u : resOf d at (X ∷ S) ≡ pushIf (emitted t) v (resOf d t S)
+      let u : res_of d at (X ∷ S) ≡ push_if (emitted t) v (res_of d t S)
       = res_on d at X S ∙ rw (byte-met mode (get_or raw i 0) b, ← e, ← f) in
       record {
         done = p.done ++ emits t v;
@@ -157,12 +157,12 @@ module _ {d : Delims} {raw old x : List ℕ} {at : At} {mode : Mode} {k i : ℕ}
         few = n.1;
         ends = n.0;
         holds = q.1 ∙ rw (p.ends, p.holds) (fill-kept t v p.done old);
-        rest = p.rest ∙ ap (λ l. pushes p.done (resOf d at l)) a ∙ ap (pushes p.done) u ∙ pushes-more p.done t v (resOf d t S);
+        rest = p.rest ∙ ap (λ l. pushes p.done (res_of d at l)) a ∙ ap (pushes p.done) u ∙ pushes-more p.done t v (res_of d t S);
       }
 
-  all_read : length raw ≤ i → unescape d (met raw) ≡ pushes p.done (resOf d at [])
+  all_read : length raw ≤ i → unescape d (met raw) ≡ pushes p.done (res_of d at [])
   unfolding marks
-  all_read h = p.rest ∙ ap (λ l. pushes p.done (resOf d at (marks 0x0D mode l))) (over raw i h)
+  all_read h = p.rest ∙ ap (λ l. pushes p.done (res_of d at (marks 0x0D mode l))) (over raw i h)
 
   pub reads_kept : length raw ≤ i → BufferHolds (unescape d (met raw)) old x
   reads_kept h = kept-end at d (unescape d (met raw)) p.done old x (all_read h) p.holds
@@ -179,28 +179,28 @@ pub answer-over : (t : At) (k room : ℕ) → t ≡ Plain → room < k → Over 
 answer-over t k room e h = cc (lt-leb k room h)
 
 module _ (d : Delims) (at : At) (x : ℕ) where
-  pub turn-open : (t : Bool) → at ≡ Plain → t ≡ meetsOf d.escape x → t ≡ true → Opened ≡ turn_of d at x
-  unfolding turn_of meetsOf
+  pub turn-open : (t : Bool) → at ≡ Plain → t ≡ meets_of d.escape x → t ≡ true → Opened ≡ turn_of d at x
+  unfolding turn_of meets_of
   turn-open t e f g = cc
 
-  pub turn-sub : (t u : Bool) → at ≡ Plain → t ≡ meetsOf d.escape x → t ≡ false → u ≡ meetsOf d.sub x → u ≡ true → Broken ≡ turn_of d at x
-  unfolding turn_of meetsOf
+  pub turn-sub : (t u : Bool) → at ≡ Plain → t ≡ meets_of d.escape x → t ≡ false → u ≡ meets_of d.sub x → u ≡ true → Broken ≡ turn_of d at x
+  unfolding turn_of meets_of
   turn-sub t u e f g h k = cc
 
-  pub turn-text : (t u : Bool) → at ≡ Plain → t ≡ meetsOf d.escape x → t ≡ false → u ≡ meetsOf d.sub x → u ≡ false → Plain ≡ turn_of d at x
-  unfolding turn_of meetsOf
+  pub turn-text : (t u : Bool) → at ≡ Plain → t ≡ meets_of d.escape x → t ≡ false → u ≡ meets_of d.sub x → u ≡ false → Plain ≡ turn_of d at x
+  unfolding turn_of meets_of
   turn-text t u e f g h k = cc
 
   pub turn-named : (r : At) → at ≡ Opened → r ≡ named_of d x → r ≡ turn_of d at x
   unfolding turn_of
   turn-named r e f = cc
 
-  pub turn-close : (t : Bool) (v : ℕ) → at ≡ Named v → t ≡ meetsOf d.escape x → t ≡ true → Plain ≡ turn_of d at x
-  unfolding turn_of meetsOf
+  pub turn-close : (t : Bool) (v : ℕ) → at ≡ Named v → t ≡ meets_of d.escape x → t ≡ true → Plain ≡ turn_of d at x
+  unfolding turn_of meets_of
   turn-close t v e f g = cc
 
-  pub turn-bad : (t : Bool) (v : ℕ) → at ≡ Named v → t ≡ meetsOf d.escape x → t ≡ false → Broken ≡ turn_of d at x
-  unfolding turn_of meetsOf
+  pub turn-bad : (t : Bool) (v : ℕ) → at ≡ Named v → t ≡ meets_of d.escape x → t ≡ false → Broken ≡ turn_of d at x
+  unfolding turn_of meets_of
   turn-bad t v e f g = cc
 
   pub turn-broken : at ≡ Broken → Broken ≡ turn_of d at x
@@ -216,27 +216,27 @@ got-count u n o x e w = let p : Whole n o x = subst (λ (z : Unescaped). Fits z 
 
 -- ---- a value is no longer than its component
 push-short : (x : ℕ) (o : Option (List ℕ)) (v : List ℕ) (n : ℕ) → push x o ≡ some v → ((w : List ℕ) → o ≡ some w → length w ≤ n) → length v ≤ suc n
-push-short x o v n e f = pushCases x o v e (λ w q r. rw r (omega (arith, f w q)))
+push-short x o v n e f = push_cases x o v e (λ w q r. rw r (omega (arith, f w q)))
 
-unescaped-short : (d : Delims) (at : E.At) (m v : List ℕ) → unescapeAt d at m ≡ some v → length v ≤ length m
-unfolding unescapeAt
+unescaped-short : (d : Delims) (at : E.At) (m v : List ℕ) → unescape_at d at m ≡ some v → length v ≤ length m
+unfolding unescape_at
 unescaped-short d E.plain [] v e = let q : v ≡ [] = cc in rw q (omega arith)
 unescaped-short d E.opened [] v e = nothing-some e
 unescaped-short d (E.named x) [] v e = nothing-some e
 unescaped-short d E.plain (b ∷ m) v e =
     cases (eqb b d.escape)
-    (λ t. omega (arith, unescaped-short d E.opened m v (rw (t, unescapeAt) at e)))
+    (λ t. omega (arith, unescaped-short d E.opened m v (rw (t, unescape_at) at e)))
     (λ t. cases (eqb b d.sub)
-    (λ u. nothing-some (rw (t, u, unescapeAt) at e))
-    (λ u. push-short (byte_of b) (unescapeAt d E.plain m) v (length m) (rw (t, u, unescapeAt) at e) (unescaped-short d E.plain m)))
+    (λ u. nothing-some (rw (t, u, unescape_at) at e))
+    (λ u. push-short (byte_of b) (unescape_at d E.plain m) v (length m) (rw (t, u, unescape_at) at e) (unescaped-short d E.plain m)))
 unescaped-short d E.opened (b ∷ m) v e =
-    optionCases (meaning (letters d) b)
-    (λ x q. omega (arith, unescaped-short d (E.named x) m v (rw (q, unescapeAt) at e)))
-    (λ q. nothing-some (rw (q, unescapeAt) at e))
+    option_cases (meaning (letters d) b)
+    (λ x q. omega (arith, unescaped-short d (E.named x) m v (rw (q, unescape_at) at e)))
+    (λ q. nothing-some (rw (q, unescape_at) at e))
 unescaped-short d (E.named x) (b ∷ m) v e =
     cases (eqb b d.escape)
-    (λ t. push-short x (unescapeAt d E.plain m) v (length m) (rw (t, unescapeAt) at e) (unescaped-short d E.plain m))
-    (λ t. nothing-some (rw (t, unescapeAt) at e))
+    (λ t. push-short x (unescape_at d E.plain m) v (length m) (rw (t, unescape_at) at e) (unescaped-short d E.plain m))
+    (λ t. nothing-some (rw (t, unescape_at) at e))
 
 pub value-short : (d : Delims) (raw v : List ℕ) → unescape d (met raw) ≡ some v → length v ≤ length raw
 unfolding unescape met

@@ -32,11 +32,11 @@ byte_at Opened b = b
 byte_at (Named v) b = v
 byte_at Broken b = b
 
-abbrev pub keptLen : At → ℕ → ℕ
-keptLen t k = cond (emitted t) (k + 1) k
+abbrev pub kept_len : At → ℕ → ℕ
+kept_len t k = cond (emitted t) (k + 1) k
 
-abbrev pub keptBuf : At → ℕ → ℕ → List ℕ → List ℕ
-keptBuf t k v x = cond (emitted t) (set x k v) x
+abbrev pub kept_buf : At → ℕ → ℕ → List ℕ → List ℕ
+kept_buf t k v x = cond (emitted t) (set x k v) x
 
 abbrev pub answer_of : At → ℕ → ℕ → Unescaped
 answer_of t k room = cond (emitted t) (cond (leb k room) (Got k) (Over k)) Faulty

@@ -2,7 +2,7 @@
 ghost use Rattle.std.specs.Prelude.{◌≡◌, ◌+◌, ◌<◌};
 ghost use Rattle.rules.specs.Shift.{mark, met};
 ghost use Rattle.rules.specs.Escape.{unescape};
-ghost use Rattle.unescape.specs.Unescaped.{turn_of, named_of, byte_at, keptLen, keptBuf, answer_of, Fits, BufferHolds};
+ghost use Rattle.unescape.specs.Unescaped.{turn_of, named_of, byte_at, kept_len, kept_buf, answer_of, Fits, BufferHolds};
 
 use rules::{Delims, Mode};
 
@@ -85,7 +85,7 @@ fn given(at: At, b: u8) -> u8
 // Keeps the byte v at k where the step to t gives one, as far as the buffer reaches.
 fn keep(buf: &mut [u8], k: usize, v: u8, t: At) -> usize
     requires { k + 1 < 18446744073709551616 }
-    ensures { (result ≡ keptLen t k) × (buf.new ≡ keptBuf t k v buf.old) }
+    ensures { (result ≡ kept_len t k) × (buf.new ≡ kept_buf t k v buf.old) }
 {
     match t {
         At::Plain => {

@@ -12,16 +12,16 @@ use Rattle.rules.specs.declared.Span.{Span}
 use Rattle.rules.specs.declared.Name.TheVariants.{Msh}
 use Rattle.rules.specs.Told.{Told, gives, refused, refuse◌if◌else◌, ◌>>=◌, ◌>>◌}
 use Rattle.rules.specs.Lists.{bytes}
-use Rattle.rules.specs.Frame.{delimsOf, is, Known, known}
-use Rattle.rules.specs.Places.{unreadComponent}
-use Rattle.rules.specs.Check.{checkTold}
-use Rattle.rules.specs.Fetch.{span_of, ordinal, fetchTold, bytes_at, partTold, textTold}
+use Rattle.rules.specs.Frame.{delims_of, is, Known, known}
+use Rattle.rules.specs.Places.{unread_component}
+use Rattle.rules.specs.Check.{check_told}
+use Rattle.rules.specs.Fetch.{span_of, ordinal, fetch_told, bytes_at, part_told, text_told}
 use Rattle.rules.proofs.Logic.{cases, not-true}
 use Rattle.rules.proofs.Modes.{met-unique}
 use Rattle.rules.proofs.Header.{Header, header, header-bytes}
 use Rattle.rules.proofs.Where.{framed, Stands, stands-known, component-shown}
 use Rattle.unread.specs.Differs.{component, SegmentDiffers, Paired, none, pair, Differs}
-use Rattle.unread.specs.Same.{Keeps, refusalOf, nameTold, partRead}
+use Rattle.unread.specs.Same.{Keeps, refusal_of, name_told, part_read}
 
 -- ---- the o-th of known segments that pair up: one of each list, or none of either
 by_place : {d : Delims} {ks ls : List Known} {P : Type 0} → Paired d ks ls → (i : ℕ)
@@ -57,11 +57,11 @@ by-ordinal {ks = ks} {ls = ls} r (suc i) f g =
 -- ---- its stretch
 -- MSH-1 and MSH-2
 four_bytes : (m : List ℕ) → Header m
-    → (take 1 (drop 3 m) ≡ (delimsOf m).field ∷ []) × (take 4 (drop 4 m) ≡ (delimsOf m).component ∷ (delimsOf m).repetition ∷ (delimsOf m).escape ∷ (delimsOf m).sub ∷ [])
+    → (take 1 (drop 3 m) ≡ (delims_of m).field ∷ []) × (take 4 (drop 4 m) ≡ (delims_of m).component ∷ (delims_of m).repetition ∷ (delims_of m).escape ∷ (delims_of m).sub ∷ [])
 four_bytes m g = (ap (λ (t : List ℕ). take 1 (drop 3 t)) (header-bytes m g) ∙ (unfold bytes in refl), ap (λ (t : List ℕ). take 4 (drop 4 t)) (header-bytes m g) ∙ (unfold bytes in refl))
 
-bytes_same : (m n : List ℕ) → Header m → Header n → delimsOf m ≡ delimsOf n → (k l : Known) → Stands m k → Stands n l → SegmentDiffers (delimsOf m) k l
-    → (f c : ℕ) → unreadComponent k.name f c ≡ false → bytes_at m (span_of (delimsOf m) k f c) ≡ bytes_at n (span_of (delimsOf n) l f c)
+bytes_same : (m n : List ℕ) → Header m → Header n → delims_of m ≡ delims_of n → (k l : Known) → Stands m k → Stands n l → SegmentDiffers (delims_of m) k l
+    → (f c : ℕ) → unread_component k.name f c ≡ false → bytes_at m (span_of (delims_of m) k f c) ≡ bytes_at n (span_of (delims_of n) l f c)
 unfolding span_of
 bytes_same m n g h d k l x y s f c u =
     cases (is k.name Msh && eqb f 1)
@@ -86,26 +86,26 @@ in-turn (refused n s f) b x y X Y e = refl
 in-turn (gives a) true x y X Y e = refl
 in-turn (gives a) false x y X Y e = e
 
-read_name : (m : List ℕ) (o f c : ℕ) (k : Known) → ordinal (known m) o ≡ gives k → partRead m o f c ≡ true → unreadComponent k.name f c ≡ false
-unfolding partRead
-read_name m o f c k e h = not-true (unreadComponent k.name f c) (rw (e, partRead) at h)
+read_name : (m : List ℕ) (o f c : ℕ) (k : Known) → ordinal (known m) o ≡ gives k → part_read m o f c ≡ true → unread_component k.name f c ≡ false
+unfolding part_read
+read_name m o f c k e h = not-true (unread_component k.name f c) (rw (e, part_read) at h)
 
-module _ (m n : List ℕ) (check : checkTold m ≡ checkTold n) (r : Differs m n) (o f c : ℕ) where
+module _ (m n : List ℕ) (check : check_told m ≡ check_told n) (r : Differs m n) (o f c : ℕ) where
   -- what is told of a stretch is the same, where it is of the stretches of two segments that differ in unread places alone
   fetch-same : {A : Type 0} (X Y : Span → A)
-      → ((k l : Known) → Picked (known m) o k → Picked (known n) o l → SegmentDiffers (delimsOf m) k l → X (span_of (delimsOf m) k f c) ≡ Y (span_of (delimsOf n) l f c))
-      → (fetchTold m o f c >>= λ p. gives (X p)) ≡ (fetchTold n o f c >>= λ p. gives (Y p))
-  unfolding fetchTold
+      → ((k l : Known) → Picked (known m) o k → Picked (known n) o l → SegmentDiffers (delims_of m) k l → X (span_of (delims_of m) k f c) ≡ Y (span_of (delims_of n) l f c))
+      → (fetch_told m o f c >>= λ p. gives (X p)) ≡ (fetch_told n o f c >>= λ p. gives (Y p))
+  unfolding fetch_told
   fetch-same X Y e =
       by-ordinal r.segments o
-      (λ k l a b s. rw (check, a.told, b.told) (in-turn (checkTold n) (eqb f 0 || eqb c 0) (gives (span_of (delimsOf m) k f c)) (gives (span_of (delimsOf n) l f c)) X Y (ap gives (e k l a b s))))
-      (λ a b. rw (check, a, b) (in-turn (checkTold n) (eqb f 0 || eqb c 0) (refused 30 0 0) (refused 30 0 0) X Y refl))
+      (λ k l a b s. rw (check, a.told, b.told) (in-turn (check_told n) (eqb f 0 || eqb c 0) (gives (span_of (delims_of m) k f c)) (gives (span_of (delims_of n) l f c)) X Y (ap gives (e k l a b s))))
+      (λ a b. rw (check, a, b) (in-turn (check_told n) (eqb f 0 || eqb c 0) (refused 30 0 0) (refused 30 0 0) X Y refl))
 
-  pub refusal-same : refusalOf (fetchTold m o f c) ≡ refusalOf (fetchTold n o f c)
+  pub refusal-same : refusal_of (fetch_told m o f c) ≡ refusal_of (fetch_told n o f c)
   refusal-same = fetch-same (λ p. tt) (λ p. tt) (λ k l a b s. refl)
 
-  pub part_same : Keeps m → Keeps n → partRead m o f c ≡ true → partTold m o f c ≡ partTold n o f c
-  unfolding partTold
+  pub part_same : Keeps m → Keeps n → part_read m o f c ≡ true → part_told m o f c ≡ part_told n o f c
+  unfolding part_told
   part_same hm hn h =
       let μ = framed m hm in
       let ν = framed n hn in
@@ -113,10 +113,10 @@ module _ (m n : List ℕ) (check : checkTold m ≡ checkTold n) (r : Differs m n
       (λ k l a b s. bytes_same m n (header m μ.headed) (header n ν.headed) r.delimiters k l (stands-known m μ a.place k a.there) (stands-known n ν b.place l b.there) s f c
       (read_name m o f c k a.told h))
 
-  pub text_same : Keeps m → Keeps n → (room : ℕ) → partRead m o f c ≡ true → textTold m o f c room ≡ textTold n o f c room
-  unfolding textTold
+  pub text_same : Keeps m → Keeps n → (room : ℕ) → part_read m o f c ≡ true → text_told m o f c room ≡ text_told n o f c room
+  unfolding text_told
   text_same hm hn room h = rw (part_same hm hn h, r.delimiters)
 
 -- ---- known_segment
-pub name-same : (m n : List ℕ) → Differs m n → (o : ℕ) → nameTold m o ≡ nameTold n o
+pub name-same : (m n : List ℕ) → Differs m n → (o : ℕ) → name_told m o ≡ name_told n o
 name-same m n r o = by-ordinal r.segments o (λ k l a b s. rw (a.told, b.told) (ap gives s.name)) (λ a b. rw (a, b))

@@ -7,8 +7,8 @@ use Rattle.rules.specs.declared.Name.{Name}
 use Rattle.rules.specs.declared.Name.TheVariants.{Msh, Other}
 use Rattle.rules.specs.Lists.{empty, all, has, split, last, front, later, before, since}
 use Rattle.rules.specs.Shift.{keeps, met}
-use Rattle.rules.specs.Frame.{headerOk, delimsOf, segments, name_of, is, here}
-use Rattle.rules.specs.Places.{isClosed, unreadField, unreadComponent}
+use Rattle.rules.specs.Frame.{header_ok, delims_of, segments, name_of, is, here}
+use Rattle.rules.specs.Places.{is_closed, unread_field, unread_component}
 
 -- ---- the place where p ends: how many separators stand `before` it, what stands `since` the last of them, and `here` the bytes so far of
 -- the segment
@@ -24,8 +24,8 @@ pub record Spot : Type 0 where
   pub component : ℕ
 
 -- after s, the segment so far
-unfoldable pub spotIn : Delims → List ℕ → Spot
-spotIn d s =
+unfoldable pub spot_in : Delims → List ℕ → Spot
+spot_in d s =
     let field = since d.field (met s) in
     let repetition = since d.repetition field in
     record {
@@ -36,31 +36,31 @@ spotIn d s =
     }
 
 abbrev pub spot : List ℕ → Spot
-spot p = spotIn (delimsOf p) (here p)
+spot p = spot_in (delims_of p) (here p)
 
 -- p is past the header and ends in one-byte mode, where separators act
 unfoldable pub stands : List ℕ → Bool
-stands p = headerOk p && keeps 0x0D p
+stands p = header_ok p && keeps 0x0D p
 
 -- it ends in a known segment; in a field of one; in a field that isn't closed
-unfoldable pub inSegment : Spot → Bool
-inSegment x = not (is x.name Other)
+unfoldable pub in_segment : Spot → Bool
+in_segment x = not (is x.name Other)
 
-unfoldable pub inField : Spot → Bool
-inField x = inSegment x && not (eqb x.field 0)
+unfoldable pub in_field : Spot → Bool
+in_field x = in_segment x && not (eqb x.field 0)
 
-unfoldable pub inOpenField : Spot → Bool
-inOpenField x = inField x && not (isClosed x.name x.field)
+unfoldable pub in_open_field : Spot → Bool
+in_open_field x = in_field x && not (is_closed x.name x.field)
 
 -- a component of that field is unread; in a repetition after the first, all are
-unfoldable pub unreadAt : Spot → ℕ → Bool
-unreadAt x c = ltb 1 x.repetition || unreadComponent x.name x.field c
+unfoldable pub unread_at : Spot → ℕ → Bool
+unread_at x c = ltb 1 x.repetition || unread_component x.name x.field c
 
 -- ---- what may stand there
 -- "holds no 0D, .. and keeps the byte and shift rule by itself, from one-byte mode back to one-byte mode"; and none of some separators
 -- "in one-byte mode"
-unfoldable pub mayStand : List ℕ → List ℕ → Bool
-mayStand seps v = keeps 0x0D v && not (has 0x0D v) && all (λ (x : ℕ). not (has x (met v))) seps
+unfoldable pub may_stand : List ℕ → List ℕ → Bool
+may_stand seps v = keeps 0x0D v && not (has 0x0D v) && all (λ (x : ℕ). not (has x (met v))) seps
 
 -- q begins with one of some bytes
 unfoldable pub begins : List ℕ → List ℕ → Bool
@@ -68,61 +68,61 @@ begins seps [] = false
 begins seps (e ∷ q) = has e seps
 
 -- any number of segments of other names, each with its 0D
-abbrev pub otherSegment : List ℕ → Bool
-otherSegment s = is (name_of s) Other
+abbrev pub other_segment : List ℕ → Bool
+other_segment s = is (name_of s) Other
 
 unfoldable pub others : List ℕ → Bool
-others v = empty (last (split 0x0D v)) && all otherSegment (segments v)
+others v = empty (last (split 0x0D v)) && all other_segment (segments v)
 
 -- "an unread field no field separator"
-unfoldable pub fieldBytes : Delims → List ℕ → Bool
-fieldBytes d v = mayStand (d.field ∷ []) v
+unfoldable pub field_bytes : Delims → List ℕ → Bool
+field_bytes d v = may_stand (d.field ∷ []) v
 
 -- any number of pieces, the first with the number i: each unread, or empty as it was when it was missing
-unfoldable pub unreadFrom : (ℕ → Bool) → ℕ → List (List ℕ) → Bool
-unreadFrom un i [] = true
-unreadFrom un i (x ∷ xs) = (un i || empty x) && unreadFrom un (suc i) xs
+unfoldable pub unread_from : (ℕ → Bool) → ℕ → List (List ℕ) → Bool
+unread_from un i [] = true
+unread_from un i (x ∷ xs) = (un i || empty x) && unread_from un (suc i) xs
 
 -- any number of fields, each after its separator, after the field with the number f
-unfoldable pub newFields : Delims → Name → ℕ → List ℕ → Bool
-newFields d n f v = mayStand [] v && empty (front d.field (met v)) && unreadFrom (unreadField n) (suc f) (later d.field (met v))
+unfoldable pub new_fields : Delims → Name → ℕ → List ℕ → Bool
+new_fields d n f v = may_stand [] v && empty (front d.field (met v)) && unread_from (unread_field n) (suc f) (later d.field (met v))
 
 -- "an altered unread component holds no field, component or repetition separator"
-unfoldable pub componentBytes : Delims → List ℕ → Bool
-componentBytes d v = mayStand (d.field ∷ (d.component ∷ (d.repetition ∷ []))) v
+unfoldable pub component_bytes : Delims → List ℕ → Bool
+component_bytes d v = may_stand (d.field ∷ (d.component ∷ (d.repetition ∷ []))) v
 
 -- any number of components, each after its separator
-unfoldable pub newComponents : Delims → Spot → List ℕ → Bool
-newComponents d x v =
-    mayStand (d.field ∷ (d.repetition ∷ [])) v && empty (front d.component (met v))
-    && unreadFrom (unreadAt x) (suc x.component) (later d.component (met v))
+unfoldable pub new_components : Delims → Spot → List ℕ → Bool
+new_components d x v =
+    may_stand (d.field ∷ (d.repetition ∷ [])) v && empty (front d.component (met v))
+    && unread_from (unread_at x) (suc x.component) (later d.component (met v))
 
 -- ---- the edits
 -- segments of other names, where a segment starts
-unfoldable pub segmentEdit : List ℕ → List ℕ → List ℕ → Bool
-segmentEdit p v w = empty (here p) && others v && others w
+unfoldable pub segment_edit : List ℕ → List ℕ → List ℕ → Bool
+segment_edit p v w = empty (here p) && others v && others w
 
 -- within an unread field; fields at the end of a known segment
-unfoldable pub fieldEdit : Delims → Spot → List ℕ → List ℕ → Bool
-fieldEdit d x v w = inField x && unreadField x.name x.field && fieldBytes d v && fieldBytes d w
+unfoldable pub field_edit : Delims → Spot → List ℕ → List ℕ → Bool
+field_edit d x v w = in_field x && unread_field x.name x.field && field_bytes d v && field_bytes d w
 
-unfoldable pub fieldsEdit : Delims → Spot → List ℕ → List ℕ → List ℕ → Bool
-fieldsEdit d x v w q =
-    inSegment x && newFields d x.name x.field v && newFields d x.name x.field w && begins (0x0D ∷ []) q
+unfoldable pub fields_edit : Delims → Spot → List ℕ → List ℕ → List ℕ → Bool
+fields_edit d x v w q =
+    in_segment x && new_fields d x.name x.field v && new_fields d x.name x.field w && begins (0x0D ∷ []) q
 
 -- within an unread component; components at the end of a field that isn't closed, or of one of its repetitions
-unfoldable pub componentEdit : Delims → Spot → List ℕ → List ℕ → Bool
-componentEdit d x v w = inOpenField x && unreadAt x x.component && componentBytes d v && componentBytes d w
+unfoldable pub component_edit : Delims → Spot → List ℕ → List ℕ → Bool
+component_edit d x v w = in_open_field x && unread_at x x.component && component_bytes d v && component_bytes d w
 
-unfoldable pub componentsEdit : Delims → Spot → List ℕ → List ℕ → List ℕ → Bool
-componentsEdit d x v w q =
-    inOpenField x && newComponents d x v && newComponents d x w && begins (0x0D ∷ (d.field ∷ (d.repetition ∷ []))) q
+unfoldable pub components_edit : Delims → Spot → List ℕ → List ℕ → List ℕ → Bool
+components_edit d x v w q =
+    in_open_field x && new_components d x v && new_components d x w && begins (0x0D ∷ (d.field ∷ (d.repetition ∷ []))) q
 
 unfoldable pub unread : List ℕ → List ℕ → List ℕ → List ℕ → Bool
 unread p v w q =
-    let d = delimsOf p in
+    let d = delims_of p in
     let x = spot p in
-    stands p && (segmentEdit p v w || (fieldEdit d x v w || (fieldsEdit d x v w q || (componentEdit d x v w || componentsEdit d x v w q))))
+    stands p && (segment_edit p v w || (field_edit d x v w || (fields_edit d x v w q || (component_edit d x v w || components_edit d x v w q))))
 
 pub data Edit : List ℕ → List ℕ → Type 0 where
   edit : (p v w q : List ℕ) → unread p v w q ≡ true → Edit (p ++ (v ++ q)) (p ++ (w ++ q))
@@ -141,12 +141,12 @@ pub record Change : Type 0 where
 unfoldable pub changed : Change → List ℕ → List ℕ
 changed c m = take c.at m ++ (c.put ++ drop c.out (drop c.at m))
 
-unfoldable pub changedAll : List Change → List ℕ → List ℕ
-changedAll [] m = m
-changedAll (c ∷ cs) m = changedAll cs (changed c m)
+unfoldable pub changed_all : List Change → List ℕ → List ℕ
+changed_all [] m = m
+changed_all (c ∷ cs) m = changed_all cs (changed c m)
 
 -- each in an unread place
-unfoldable pub unreadAll : List Change → List ℕ → Bool
-unreadAll [] m = true
-unreadAll (c ∷ cs) m =
-    unread (take c.at m) (take c.out (drop c.at m)) c.put (drop c.out (drop c.at m)) && unreadAll cs (changed c m)
+unfoldable pub unread_all : List Change → List ℕ → Bool
+unread_all [] m = true
+unread_all (c ∷ cs) m =
+    unread (take c.at m) (take c.out (drop c.at m)) c.put (drop c.out (drop c.at m)) && unread_all cs (changed c m)

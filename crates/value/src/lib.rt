@@ -1,11 +1,11 @@
 // The value rules of the read places, over plain bytes: a component that is unescaped, or a value of a sheet.
 ghost use Rattle.std.specs.Prelude.{◌≡◌, List, ℕ, ◌+◌, ◌-◌, ◌<◌, length};
 ghost use Rattle.rules.specs.Told.{◌then◌};
-ghost use Rattle.rules.specs.Lists.{filled, isOneOf};
+ghost use Rattle.rules.specs.Lists.{filled, is_one_of};
 ghost use Rattle.rules.specs.Value as Val;
-ghost use Rattle.rules.specs.Places.{Four, valueRules};
+ghost use Rattle.rules.specs.Places.{Four, value_rules};
 ghost use Rattle.rules.specs.Judge as Judge;
-ghost use Rattle.value.specs.Rules.{faultNo, fineOf, text_of, ruleOf, rulesOf};
+ghost use Rattle.value.specs.Rules.{fault_no, fine_of, text_of, rule_of, rules_of};
 
 pub mod table;
 
@@ -75,7 +75,7 @@ pub struct Parts {
 
 // Whether there is no fault.
 pub fn fine(f: Fault) -> bool
-    ensures { result ≡ fineOf f }
+    ensures { result ≡ fine_of f }
 {
     match f {
         Fault::Nothing => true,
@@ -92,7 +92,7 @@ pub fn fine(f: Fault) -> bool
 
 // The earlier of two faults.
 pub fn earlier(a: Fault, b: Fault) -> Fault
-    ensures { faultNo result ≡ (faultNo a then faultNo b) }
+    ensures { fault_no result ≡ (fault_no a then fault_no b) }
 {
     if fine(a) {
         return b;
@@ -114,35 +114,35 @@ fn capitals(v: &[u8], n: usize) -> bool
 
 // MSH-11.
 fn is_mode(v: &[u8]) -> bool
-    ensures { result ≡ isOneOf (text_of Words.Modes) v.now }
+    ensures { result ≡ is_one_of (text_of Words.Modes) v.now }
 {
     bytes::equal(v, b"P") | bytes::equal(v, b"T") | bytes::equal(v, b"D")
 }
 
 // PID-8.
 fn is_sex(v: &[u8]) -> bool
-    ensures { result ≡ isOneOf (text_of Words.Sexes) v.now }
+    ensures { result ≡ is_one_of (text_of Words.Sexes) v.now }
 {
     bytes::equal(v, b"M") | bytes::equal(v, b"F") | bytes::equal(v, b"O") | bytes::equal(v, b"U")
 }
 
 // PV1-2.
 fn is_class(v: &[u8]) -> bool
-    ensures { result ≡ isOneOf (text_of Words.Classes) v.now }
+    ensures { result ≡ is_one_of (text_of Words.Classes) v.now }
 {
     bytes::equal(v, b"I") | bytes::equal(v, b"O")
 }
 
 // OBX-2.
 fn is_type(v: &[u8]) -> bool
-    ensures { result ≡ isOneOf (text_of Words.Types) v.now }
+    ensures { result ≡ is_one_of (text_of Words.Types) v.now }
 {
     bytes::equal(v, b"NM") | bytes::equal(v, b"SN") | bytes::equal(v, b"ST")
 }
 
 // OBX-8.
 fn is_flag(v: &[u8]) -> bool
-    ensures { result ≡ isOneOf (text_of Words.Flags) v.now }
+    ensures { result ≡ is_one_of (text_of Words.Flags) v.now }
 {
     bytes::equal(v, b"L")
         | bytes::equal(v, b"H")
@@ -154,7 +154,7 @@ fn is_flag(v: &[u8]) -> bool
 
 // OBX-11.
 fn is_status(v: &[u8]) -> bool
-    ensures { result ≡ isOneOf (text_of Words.Statuses) v.now }
+    ensures { result ≡ is_one_of (text_of Words.Statuses) v.now }
 {
     bytes::equal(v, b"F")
         | bytes::equal(v, b"P")
@@ -165,7 +165,7 @@ fn is_status(v: &[u8]) -> bool
 
 // SN, component 1.
 fn is_comparator(v: &[u8]) -> bool
-    ensures { result ≡ isOneOf (text_of Words.Comparators) v.now }
+    ensures { result ≡ is_one_of (text_of Words.Comparators) v.now }
 {
     bytes::equal(v, b">")
         | bytes::equal(v, b"<")
@@ -177,7 +177,7 @@ fn is_comparator(v: &[u8]) -> bool
 
 // SN, component 3.
 fn is_joiner(v: &[u8]) -> bool
-    ensures { result ≡ isOneOf (text_of Words.Joiners) v.now }
+    ensures { result ≡ is_one_of (text_of Words.Joiners) v.now }
 {
     bytes::equal(v, b"-")
         | bytes::equal(v, b"+")
@@ -188,7 +188,7 @@ fn is_joiner(v: &[u8]) -> bool
 
 // Whether v is one of the words of a place.
 fn is_word(words: Words, v: &[u8]) -> bool
-    ensures { result ≡ isOneOf (text_of words) v.now }
+    ensures { result ≡ is_one_of (text_of words) v.now }
 {
     match words {
         Words::Oul => bytes::equal(v, b"OUL"),
@@ -214,7 +214,7 @@ fn is_word(words: Words, v: &[u8]) -> bool
 
 // Whether a filled value meets its rule.
 fn holds(rule: Rule, v: &[u8]) -> bool
-    ensures { result ≡ Val.holds (ruleOf rule) v.now }
+    ensures { result ≡ Val.holds (rule_of rule) v.now }
 {
     match rule {
         Rule::Time => calendar::is_time(v),
@@ -229,7 +229,7 @@ fn holds(rule: Rule, v: &[u8]) -> bool
 
 // 24, "text or NM too long": whether a value of n bytes is.
 pub fn too_long(rule: Rule, n: usize) -> bool
-    ensures { (v : List ℕ) → length v ≡ n → result ≡ Val.tooLong (ruleOf rule) v }
+    ensures { (v : List ℕ) → length v ≡ n → result ≡ Val.too_long (rule_of rule) v }
 {
     match rule {
         Rule::Time => false,
@@ -244,7 +244,7 @@ pub fn too_long(rule: Rule, n: usize) -> bool
 
 // 20, 24, 25 in this order: the fault of a value that must be filled or may be empty.
 pub fn fault_of(required: bool, rule: Rule, v: &[u8]) -> Fault
-    ensures { faultNo result ≡ Val.fault required (ruleOf rule) v.now }
+    ensures { fault_no result ≡ Val.fault required (rule_of rule) v.now }
 {
     if v.len() == 0 {
         if required {
@@ -265,7 +265,7 @@ pub fn fault_of(required: bool, rule: Rule, v: &[u8]) -> Fault
 
 // The rules of its parts, by the word of OBX-2.
 pub fn part_rules(obx2: &[u8]) -> Parts
-    ensures { rulesOf result ≡ valueRules obx2.now }
+    ensures { rules_of result ≡ value_rules obx2.now }
 {
     if bytes::equal(obx2, b"SN") {
         return table::SN;

@@ -49,63 +49,63 @@ saying Overflow = Nowhere says "the message would have more than 32,768 bytes or
 saying Room = Nowhere says "the lent buffer is too short"
 
 -- ---- 25 says more of a field that the table of read places lists
-unfoldable pub breachWords : Breach → String
-breachWords NoTime = "not a time that exists"
-breachWords NoDate = "not a date that exists"
-breachWords NoDigits = "not the digits that it takes"
-breachWords NoWord = "not one of its words"
-breachWords NoCode = "not the code and coding system that it takes"
-breachWords NoCharset = "not the repetition separator and ISO IR87"
-breachWords NoValue = "not a value of its type"
-breachWords Unsaid = (saying Value).words
+unfoldable pub breach_words : Breach → String
+breach_words NoTime = "not a time that exists"
+breach_words NoDate = "not a date that exists"
+breach_words NoDigits = "not the digits that it takes"
+breach_words NoWord = "not one of its words"
+breach_words NoCode = "not the code and coding system that it takes"
+breach_words NoCharset = "not the repetition separator and ISO IR87"
+breach_words NoValue = "not a value of its type"
+breach_words Unsaid = (saying Value).words
 
 -- a text has no rule but its length, which is 24; no field is a number or capitals alone
-abbrev pub ruleBreach : Rule → Breach
-ruleBreach time = NoTime
-ruleBreach date = NoDate
-ruleBreach numeric = Unsaid
-ruleBreach (text n) = Unsaid
-ruleBreach (digits n) = NoDigits
-ruleBreach (capitals n) = Unsaid
-ruleBreach (words ws) = NoWord
+abbrev pub rule_breach : Rule → Breach
+rule_breach time = NoTime
+rule_breach date = NoDate
+rule_breach numeric = Unsaid
+rule_breach (text n) = Unsaid
+rule_breach (digits n) = NoDigits
+rule_breach (capitals n) = Unsaid
+rule_breach (words ws) = NoWord
 
 -- the names of PID-5 are texts
-abbrev pub formBreach : Form → Breach
-formBreach charset = NoCharset
-formBreach names = Unsaid
-formBreach value = NoValue
+abbrev pub form_breach : Form → Breach
+form_breach charset = NoCharset
+form_breach names = Unsaid
+form_breach value = NoValue
 
 -- one component has its rule's words; several have those of words if they are words alone, else they are a code and its coding system
-abbrev pub isWords : Rule → Bool
-isWords time = false
-isWords date = false
-isWords numeric = false
-isWords (text n) = false
-isWords (digits n) = false
-isWords (capitals n) = false
-isWords (words ws) = true
+abbrev pub is_words : Rule → Bool
+is_words time = false
+is_words date = false
+is_words numeric = false
+is_words (text n) = false
+is_words (digits n) = false
+is_words (capitals n) = false
+is_words (words ws) = true
 
-unfoldable pub readBreach : List Place → Breach
-readBreach [] = Unsaid
-readBreach (p ∷ []) = ruleBreach p.rule
-readBreach (p ∷ q ∷ ps) = cond (all (λ (r : Place). isWords r.rule) (p ∷ q ∷ ps)) NoWord NoCode
+unfoldable pub read_breach : List Place → Breach
+read_breach [] = Unsaid
+read_breach (p ∷ []) = rule_breach p.rule
+read_breach (p ∷ q ∷ ps) = cond (all (λ (r : Place). is_words r.rule) (p ∷ q ∷ ps)) NoWord NoCode
 
-unfoldable pub breachIn : List Field → ℕ → Breach
-breachIn [] f = Unsaid
-breachIn (reads n ps ∷ fs) f = cond (eqb n f) (readBreach ps) (breachIn fs f)
-breachIn (closed n k ∷ fs) f = cond (eqb n f) (formBreach k) (breachIn fs f)
+unfoldable pub breach_in : List Field → ℕ → Breach
+breach_in [] f = Unsaid
+breach_in (reads n ps ∷ fs) f = cond (eqb n f) (read_breach ps) (breach_in fs f)
+breach_in (closed n k ∷ fs) f = cond (eqb n f) (form_breach k) (breach_in fs f)
 
-unfoldable pub breachOf : Name → ℕ → Breach
-breachOf n f = breachIn (places n) f
+unfoldable pub breach_of : Name → ℕ → Breach
+breach_of n f = breach_in (places n) f
 
 -- the words of a kind
 unfoldable pub words_of : Kind → Breach → String
-words_of k b = cond (eqb (Told.number k) 25) (breachWords b) (saying k).words
+words_of k b = cond (eqb (Told.number k) 25) (breach_words b) (saying k).words
 
 -- ---- 50 to 54
-unfoldable pub faultWords : FileFault → String
-faultWords Quoting = "an item is not quoted as it must be, or a line does not end in CR LF"
-faultWords Columns = "no version or heading line, a bad column count, or a row with another count"
-faultWords Unconverted = "a byte that cannot be converted, as half-width kana or a byte below 20"
-faultWords HeaderDiffers = "a patient key or the class differs from a row before with this result number"
-faultWords Returns = "a result number that comes back after another"
+unfoldable pub fault_words : FileFault → String
+fault_words Quoting = "an item is not quoted as it must be, or a line does not end in CR LF"
+fault_words Columns = "no version or heading line, a bad column count, or a row with another count"
+fault_words Unconverted = "a byte that cannot be converted, as half-width kana or a byte below 20"
+fault_words HeaderDiffers = "a patient key or the class differs from a row before with this result number"
+fault_words Returns = "a result number that comes back after another"

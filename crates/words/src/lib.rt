@@ -2,7 +2,7 @@
 ghost use Rattle.std.specs.Prelude.{◌≡◌};
 ghost use Rattle.rules.specs.Lists.{bytes};
 ghost use Rattle.bytes.specs.Bytes.{until, is_byte};
-ghost use Rattle.words.specs.Words.{saying, breachWords, breachOf, words_of, faultWords};
+ghost use Rattle.words.specs.Words.{saying, breach_words, breach_of, words_of, fault_words};
 
 use csv_rules::FileFault;
 use rules::{Kind, Name};
@@ -112,7 +112,7 @@ pub fn of_kind(kind: Kind, breach: Breach) -> [u8; 82]
 }
 
 fn breach_words(breach: Breach) -> [u8; 82]
-    ensures { until (is_byte 0x7C) result ≡ bytes (breachWords breach) }
+    ensures { until (is_byte 0x7C) result ≡ bytes (breach_words breach) }
 {
     match breach {
         Breach::NoTime =>
@@ -136,7 +136,7 @@ fn breach_words(breach: Breach) -> [u8; 82]
 
 // Which words 25 has for a field of a segment: the table of read places.
 pub fn breach_of(name: Name, field: usize) -> Breach
-    ensures { result ≡ breachOf name field }
+    ensures { result ≡ breach_of name field }
 {
     match name {
         Name::Msh => {
@@ -223,7 +223,7 @@ pub fn breach_of(name: Name, field: usize) -> Breach
 
 // The words of a file's fault.
 pub fn of_fault(fault: FileFault) -> [u8; 82]
-    ensures { until (is_byte 0x7C) result ≡ bytes (faultWords fault) }
+    ensures { until (is_byte 0x7C) result ≡ bytes (fault_words fault) }
 {
     match fault {
         FileFault::Quoting =>

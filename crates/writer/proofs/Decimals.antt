@@ -7,22 +7,22 @@ use native.Mathlib.Omega.{arith}
 use lib.Dec.{ltb}
 use lib.ListN.{length, length-append}
 use borrow.Author.Tests.{lt-ltb, le-ltb, ltb-true, ltb-false}
-use Rattle.rules.specs.Lists.{decimal, decimalTo}
+use Rattle.rules.specs.Lists.{decimal, decimal_to}
 
-small : (k n : ℕ) → n < 10 → decimalTo (suc k) n ≡ (48 + n) ∷ []
-unfolding decimalTo
-small k n h = rw (lt-ltb n 10 h, decimalTo)
+small : (k n : ℕ) → n < 10 → decimal_to (suc k) n ≡ (48 + n) ∷ []
+unfolding decimal_to
+small k n h = rw (lt-ltb n 10 h, decimal_to)
 
-large : (k n : ℕ) → 10 ≤ n → decimalTo (suc k) n ≡ decimalTo k (n / 10) ++ ((48 + n % 10) ∷ [])
-unfolding decimalTo
-large k n h = rw (le-ltb n 10 h, decimalTo)
+large : (k n : ℕ) → 10 ≤ n → decimal_to (suc k) n ≡ decimal_to k (n / 10) ++ ((48 + n % 10) ∷ [])
+unfolding decimal_to
+large k n h = rw (le-ltb n 10 h, decimal_to)
 
-step : (k j n : ℕ) (t : Bool) → ltb n 10 ≡ t → (10 ≤ n → decimalTo k (n / 10) ≡ decimalTo j (n / 10)) → decimalTo (suc k) n ≡ decimalTo (suc j) n
+step : (k j n : ℕ) (t : Bool) → ltb n 10 ≡ t → (10 ≤ n → decimal_to k (n / 10) ≡ decimal_to j (n / 10)) → decimal_to (suc k) n ≡ decimal_to (suc j) n
 step k j n true e f = let l = ltb-true n 10 e in rw (small k n l, small j n l)
 step k j n false e f = let l = ltb-false n 10 e in rw (large k n l, large j n l, f l)
 
 -- more fuel than n changes nothing
-fuel : (k j n : ℕ) → n < k → n < j → decimalTo k n ≡ decimalTo j n
+fuel : (k j n : ℕ) → n < k → n < j → decimal_to k n ≡ decimal_to j n
 fuel zero j n h g = absurd (omega arith)
 fuel (suc k) zero n h g = absurd (omega arith)
 fuel (suc k) (suc j) n h g = step k j n (ltb n 10) refl (λ l. fuel k j (n / 10) (omega arith) (omega arith))

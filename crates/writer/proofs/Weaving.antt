@@ -16,7 +16,7 @@ use Rattle.rules.proofs.Logic.{cases}
 use Rattle.rules.proofs.Lists.{here, over}
 use Rattle.rules.proofs.Escaped.{escaped-length}
 use Rattle.writer.specs.Over.{Wrote, Put, fitted, Fit}
-use Rattle.writer.specs.Woven.{delimiterOf, taken, slotText, firstText, woven, holes, sizes}
+use Rattle.writer.specs.Woven.{delimiter_of, taken, slot_text, first_text, woven, holes, sizes}
 use Rattle.writer.proofs.Laws.{Splits, Running, run-start, run_room, run-next, run_end}
 
 -- ---- general: a chain of early returns, each on a byte
@@ -37,25 +37,25 @@ module _ (b : ℕ) where
   takes-plain n e = rw (ne_eqb b 36 n, eq-eqb b 35 e)
 
   module _ (d : Delims) (t : List ℕ) where
-    slot-text : b ≡ code "$" → slotText d b t ≡ escape d t
-    unfolding slotText
+    slot-text : b ≡ code "$" → slot_text d b t ≡ escape d t
+    unfolding slot_text
     slot-text e = rw (eq-eqb b 36 e)
 
-    slot-plain : (b ≡ code "$" → ⊥) → b ≡ code "#" → slotText d b t ≡ t
-    unfolding slotText
+    slot-plain : (b ≡ code "$" → ⊥) → b ≡ code "#" → slot_text d b t ≡ t
+    unfolding slot_text
     slot-plain n e = rw (ne_eqb b 36 n, eq-eqb b 35 e)
 
-    slot-itself : (b ≡ code "$" → ⊥) → (b ≡ code "#" → ⊥) → slotText d b t ≡ delimiterOf d b ∷ []
-    unfolding slotText
+    slot-itself : (b ≡ code "$" → ⊥) → (b ≡ code "#" → ⊥) → slot_text d b t ≡ delimiter_of d b ∷ []
+    unfolding slot_text
     slot-itself n m = rw (ne_eqb b 36 n, ne_eqb b 35 m)
 
 -- the next text is there
-pub next-is : (ts : List (Bor (List ℕ))) (q : ℕ) (z : Bor (List ℕ)) → q < length ts → firstText (drop q ts) ≡ (get_or ts q z).now
-unfolding firstText
+pub next-is : (ts : List (Bor (List ℕ))) (q : ℕ) (z : Bor (List ℕ)) → q < length ts → first_text (drop q ts) ≡ (get_or ts q z).now
+unfolding first_text
 next-is ts q z h = rw (here z ts q h)
 
-pub next-size : (ts : List (Bor (List ℕ))) (q : ℕ) → length (firstText (drop q ts)) ≤ sizes ts
-unfolding firstText sizes
+pub next-size : (ts : List (Bor (List ℕ))) (q : ℕ) → length (first_text (drop q ts)) ≤ sizes ts
+unfolding first_text sizes
 next-size [] zero = omega arith
 next-size [] (suc q) = omega arith
 next-size (t ∷ ts) zero = omega arith
@@ -69,13 +69,13 @@ module _ (d : Delims) (b : ℕ) (ts : List (Bor (List ℕ))) (q : ℕ) where
   there-plain n e h = omega (arith, takes-plain b n e)
 
   module _ (z : Bor (List ℕ)) (p : q < length ts) where
-    same_text : b ≡ code "$" → slotText d b (firstText (drop q ts)) ≡ escape d (get_or ts q z).now
-    same_text e = slot-text b d (firstText (drop q ts)) e ∙ ap (escape d) (next-is ts q z p)
+    same_text : b ≡ code "$" → slot_text d b (first_text (drop q ts)) ≡ escape d (get_or ts q z).now
+    same_text e = slot-text b d (first_text (drop q ts)) e ∙ ap (escape d) (next-is ts q z p)
 
-    same-plain : (b ≡ code "$" → ⊥) → b ≡ code "#" → slotText d b (firstText (drop q ts)) ≡ (get_or ts q z).now
-    same-plain n e = slot-plain b d (firstText (drop q ts)) n e ∙ next-is ts q z p
+    same-plain : (b ≡ code "$" → ⊥) → b ≡ code "#" → slot_text d b (first_text (drop q ts)) ≡ (get_or ts q z).now
+    same-plain n e = slot-plain b d (first_text (drop q ts)) n e ∙ next-is ts q z p
 
-  module _ (at : ℕ) (x : List ℕ) (fits : at + length (slotText d b (firstText (drop q ts))) ≤ length x) where
+  module _ (at : ℕ) (x : List ℕ) (fits : at + length (slot_text d b (first_text (drop q ts))) ≤ length x) where
     pub room-text : (z : Bor (List ℕ)) → b ≡ code "$" → q + taken b ≤ length ts → at + length (escape d (get_or ts q z).now) ≤ length x
     room-text z e h = rw (same_text z (there-text e h) e) at fits
 
@@ -83,44 +83,44 @@ module _ (d : Delims) (b : ℕ) (ts : List (Bor (List ℕ))) (q : ℕ) where
     room-plain z n e h = rw (same-plain z (there-plain n e h) n e) at fits
 
     pub room-itself : (k : ℕ) → (b ≡ code "$" → ⊥) → (b ≡ code "#" → ⊥) → at + length (k ∷ []) ≤ length x
-    room-itself k n m = rw (slot-itself b d (firstText (drop q ts)) n m) at fits
+    room-itself k n m = rw (slot-itself b d (first_text (drop q ts)) n m) at fits
 
   module _ (at : ℕ) (x : List ℕ) (r : ℕ) (y : List ℕ) where
-    pub put-text : (z : Bor (List ℕ)) → b ≡ code "$" → q + taken b ≤ length ts → Put at x (escape d (get_or ts q z).now) r y → Put at x (slotText d b (firstText (drop q ts))) r y
+    pub put-text : (z : Bor (List ℕ)) → b ≡ code "$" → q + taken b ≤ length ts → Put at x (escape d (get_or ts q z).now) r y → Put at x (slot_text d b (first_text (drop q ts))) r y
     put-text z e h p = rw (same_text z (there-text e h) e) p
 
     pub put-plain : (z : Bor (List ℕ)) → (b ≡ code "$" → ⊥) → b ≡ code "#" → q + taken b ≤ length ts → Put at x (get_or ts q z).now r y
-        → Put at x (slotText d b (firstText (drop q ts))) r y
+        → Put at x (slot_text d b (first_text (drop q ts))) r y
     put-plain z n e h p = rw (same-plain z (there-plain n e h) n e) p
 
-    pub put-itself : (k : ℕ) → (b ≡ code "$" → ⊥) → (b ≡ code "#" → ⊥) → k ≡ delimiterOf d b → Put at x (k ∷ []) r y → Put at x (slotText d b (firstText (drop q ts))) r y
-    put-itself k n m e p = rw (slot-itself b d (firstText (drop q ts)) n m, ← e) p
+    pub put-itself : (k : ℕ) → (b ≡ code "$" → ⊥) → (b ≡ code "#" → ⊥) → k ≡ delimiter_of d b → Put at x (k ∷ []) r y → Put at x (slot_text d b (first_text (drop q ts))) r y
+    put-itself k n m e p = rw (slot-itself b d (first_text (drop q ts)) n m, ← e) p
 
   pub small-text : sizes ts ≤ 1000000 → (z : Bor (List ℕ)) → b ≡ code "$" → q + taken b ≤ length ts → length (get_or ts q z).now ≤ 1000000
   small-text fits z e h = omega (arith, next-size ts q, ap length (next-is ts q z (there-text e h)))
 
   module _ (r : ℕ) where
-    pub len-text : (z : Bor (List ℕ)) → b ≡ code "$" → q + taken b ≤ length ts → r ≡ length (escape d (get_or ts q z).now) → r ≡ length (slotText d b (firstText (drop q ts)))
+    pub len-text : (z : Bor (List ℕ)) → b ≡ code "$" → q + taken b ≤ length ts → r ≡ length (escape d (get_or ts q z).now) → r ≡ length (slot_text d b (first_text (drop q ts)))
     len-text z e h g = rw (same_text z (there-text e h) e) g
 
     pub len-plain : (z : Bor (List ℕ)) → (b ≡ code "$" → ⊥) → b ≡ code "#" → q + taken b ≤ length ts → r ≡ length (get_or ts q z).now
-        → r ≡ length (slotText d b (firstText (drop q ts)))
+        → r ≡ length (slot_text d b (first_text (drop q ts)))
     len-plain z n e h g = rw (same-plain z (there-plain n e h) n e) g
 
-  pub len-itself : (b ≡ code "$" → ⊥) → (b ≡ code "#" → ⊥) → 1 ≡ length (slotText d b (firstText (drop q ts)))
-  len-itself n m = rw (slot-itself b d (firstText (drop q ts)) n m)
+  pub len-itself : (b ≡ code "$" → ⊥) → (b ≡ code "#" → ⊥) → 1 ≡ length (slot_text d b (first_text (drop q ts)))
+  len-itself n m = rw (slot-itself b d (first_text (drop q ts)) n m)
 
 -- ---- no byte takes more than three
-sizes-first : (ts : List (Bor (List ℕ))) → sizes ts ≡ length (firstText ts) + sizes (drop 1 ts)
-unfolding sizes firstText
+sizes-first : (ts : List (Bor (List ℕ))) → sizes ts ≡ length (first_text ts) + sizes (drop 1 ts)
+unfolding sizes first_text
 sizes-first [] = refl
 sizes-first (t ∷ ts) = refl
 
-slot-length : (d : Delims) (b : ℕ) (ts : List (Bor (List ℕ))) → length (slotText d b (firstText ts)) + 3 * sizes (drop (taken b) ts) ≤ 3 * sizes ts + 1
-unfolding slotText taken
+slot-length : (d : Delims) (b : ℕ) (ts : List (Bor (List ℕ))) → length (slot_text d b (first_text ts)) + 3 * sizes (drop (taken b) ts) ≤ 3 * sizes ts + 1
+unfolding slot_text taken
 slot-length d b ts =
     cases (eqb b 36)
-    (λ e. rw e (omega (arith, sizes-first ts, escaped-length d (firstText ts))))
+    (λ e. rw e (omega (arith, sizes-first ts, escaped-length d (first_text ts))))
     (λ e. cases (eqb b 35) (λ f. rw (e, f) (omega (arith, sizes-first ts))) (λ f. rw (e, f) (omega arith)))
 
 pub woven-length : (d : Delims) (p : List ℕ) (ts : List (Bor (List ℕ))) → length (woven d p ts) ≤ 3 * sizes ts + length p
@@ -130,7 +130,7 @@ woven-length d (b ∷ p) ts = simp length-append (omega (arith, slot-length d b 
 
 -- ---- the loops
 next-slot : (d : Delims) (p : List ℕ) (ts : List (Bor (List ℕ))) (i q k : ℕ) → i < length p → k ≡ taken (get_or p i 0)
-    → Splits (woven d (drop i p) (drop q ts)) (slotText d (get_or p i 0) (firstText (drop q ts))) (woven d (drop (i + 1) p) (drop (q + k) ts))
+    → Splits (woven d (drop i p) (drop q ts)) (slot_text d (get_or p i 0) (first_text (drop q ts))) (woven d (drop (i + 1) p) (drop (q + k) ts))
 unfolding woven
 next-slot d p ts i q k h e = record { eq = rw (here 0 p i h, e, drop-drop (taken (get_or p i 0)) q ts) }
 
@@ -150,10 +150,10 @@ woven-begins d p ts out h = run-start (woven d p ts) out h
 
 module _ (d : Delims) (p : List ℕ) (ts : List (Bor (List ℕ))) (whole out₀ out : List ℕ) (i q at : ℕ)
     (run : Running whole (woven d (drop i p) (drop q ts)) out₀ out at) where
-  pub woven-room : i < length p → at + length (slotText d (get_or p i 0) (firstText (drop q ts))) ≤ length out
+  pub woven-room : i < length p → at + length (slot_text d (get_or p i 0) (first_text (drop q ts))) ≤ length out
   woven-room h = run_room run (next-slot d p ts i q (taken (get_or p i 0)) h refl)
 
-  pub woven-goes : (r : ℕ) (y : List ℕ) (k : ℕ) → i < length p → Put at out (slotText d (get_or p i 0) (firstText (drop q ts))) r y → k ≡ taken (get_or p i 0)
+  pub woven-goes : (r : ℕ) (y : List ℕ) (k : ℕ) → i < length p → Put at out (slot_text d (get_or p i 0) (first_text (drop q ts))) r y → k ≡ taken (get_or p i 0)
       → Running whole (woven d (drop (i + 1) p) (drop (q + k) ts)) out₀ y r
   woven-goes r y k h w e = run-next run (next-slot d p ts i q k h e) w
 
@@ -165,11 +165,11 @@ pub sum-begins : (d : Delims) (p : List ℕ) (ts : List (Bor (List ℕ))) → 0 
 sum-begins d p ts = omega arith
 
 module _ (d : Delims) (p : List ℕ) (ts : List (Bor (List ℕ))) (whole : List ℕ) (i q n : ℕ) (sum : n + length (woven d (drop i p) (drop q ts)) ≡ length whole) where
-  pub sum_goes : (u k : ℕ) → i < length p → u ≡ length (slotText d (get_or p i 0) (firstText (drop q ts))) → k ≡ taken (get_or p i 0)
+  pub sum_goes : (u k : ℕ) → i < length p → u ≡ length (slot_text d (get_or p i 0) (first_text (drop q ts))) → k ≡ taken (get_or p i 0)
       → (n + u) + length (woven d (drop (i + 1) p) (drop (q + k) ts)) ≡ length whole
   sum_goes u k h e f = omega (arith, simp length-append at (ap length (next-slot d p ts i q k h f).eq))
 
-  pub sum-few : (u : ℕ) → i < length p → u ≡ length (slotText d (get_or p i 0) (firstText (drop q ts))) → whole ≡ woven d p ts → sizes ts ≤ 1000000 → length p ≤ 100
+  pub sum-few : (u : ℕ) → i < length p → u ≡ length (slot_text d (get_or p i 0) (first_text (drop q ts))) → whole ≡ woven d p ts → sizes ts ≤ 1000000 → length p ≤ 100
       → n + u < 18446744073709551616
   sum-few u h e w s l = omega (arith, sum_goes u (taken (get_or p i 0)) h e refl, ap length w, woven-length d p ts)
 

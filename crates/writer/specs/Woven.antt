@@ -6,8 +6,8 @@ use Rattle.std.specs.Borrow.{Bor}
 use Rattle.rules.specs.declared.Delims.{Delims}
 use Rattle.rules.specs.Escape.{escape}
 
-unfoldable pub delimiterOf : Delims → ℕ → ℕ
-delimiterOf d b =
+unfoldable pub delimiter_of : Delims → ℕ → ℕ
+delimiter_of d b =
     cond (eqb b (code "|")) d.field
     (cond (eqb b (code "^")) d.component
     (cond (eqb b (code "~")) d.repetition
@@ -18,16 +18,16 @@ delimiterOf d b =
 unfoldable pub taken : ℕ → ℕ
 taken b = cond (eqb b (code "$")) 1 (cond (eqb b (code "#")) 1 0)
 
-unfoldable pub slotText : Delims → ℕ → List ℕ → List ℕ
-slotText d b t = cond (eqb b (code "$")) (escape d t) (cond (eqb b (code "#")) t (delimiterOf d b ∷ []))
+unfoldable pub slot_text : Delims → ℕ → List ℕ → List ℕ
+slot_text d b t = cond (eqb b (code "$")) (escape d t) (cond (eqb b (code "#")) t (delimiter_of d b ∷ []))
 
-unfoldable pub firstText : List (Bor (List ℕ)) → List ℕ
-firstText [] = []
-firstText (t ∷ ts) = t.now
+unfoldable pub first_text : List (Bor (List ℕ)) → List ℕ
+first_text [] = []
+first_text (t ∷ ts) = t.now
 
 unfoldable pub woven : Delims → List ℕ → List (Bor (List ℕ)) → List ℕ
 woven d [] ts = []
-woven d (b ∷ p) ts = slotText d b (firstText ts) ++ woven d p (drop (taken b) ts)
+woven d (b ∷ p) ts = slot_text d b (first_text ts) ++ woven d p (drop (taken b) ts)
 
 -- how many texts a pattern takes; how long some texts are
 unfoldable pub holes : List ℕ → ℕ

@@ -4,8 +4,8 @@ ghost use Rattle.rules.specs.Escape.{escape};
 ghost use Rattle.rules.specs.Lists.{decimal};
 ghost use Rattle.rules.specs.Proper.{Proper};
 ghost use Rattle.writer.specs.Over.{Wrote, Put, Fit};
-ghost use Rattle.writer.specs.Woven.{delimiterOf, taken, slotText, firstText, woven, holes, sizes};
-ghost use Rattle.writer.specs.Escaping.{unit_of, letterOf, isDelimiter};
+ghost use Rattle.writer.specs.Woven.{delimiter_of, taken, slot_text, first_text, woven, holes, sizes};
+ghost use Rattle.writer.specs.Escaping.{unit_of, letter_of, is_delimiter};
 
 use rules::Delims;
 
@@ -54,7 +54,7 @@ pub fn put_number_at(out: &mut [u8], at: usize, n: usize) -> usize
 
 // The letter that stands for a delimiter, 0 for any other byte.
 fn letter_for(b: u8, d: Delims) -> u8
-    ensures { result ≡ letterOf d b }
+    ensures { result ≡ letter_of d b }
 {
     if b == d.field {
         return b'F';
@@ -76,7 +76,7 @@ fn letter_for(b: u8, d: Delims) -> u8
 
 // Whether b is one of the five delimiters.
 fn is_delimiter(b: u8, d: Delims) -> bool
-    ensures { result ≡ isDelimiter d b }
+    ensures { result ≡ is_delimiter d b }
 {
     (b == d.field) | (b == d.component) | (b == d.sub) | (b == d.repetition) | (b == d.escape)
 }
@@ -165,7 +165,7 @@ fn put_escaped_at(out: &mut [u8], at: usize, text: &[u8], d: Delims) -> usize
 
 // The delimiter that a byte of a pattern stands for, or the byte itself.
 fn delimiter(slot: u8, d: Delims) -> u8
-    ensures { result ≡ delimiterOf d slot }
+    ensures { result ≡ delimiter_of d slot }
 {
     if slot == b'|' {
         return d.field;
@@ -200,8 +200,8 @@ fn texts_for(slot: u8) -> usize
 
 // What stands for it in the segment, and how many bytes that is.
 fn put_slot(out: &mut [u8], at: usize, slot: u8, texts: &[&[u8]], next: usize, d: Delims) -> usize
-    requires { (next + taken slot ≤ length texts.now) × (at + length (slotText d slot (firstText (drop next texts.now))) ≤ length out.old) × Proper d }
-    ensures { Put at out.old (slotText d slot (firstText (drop next texts.now))) result out.new }
+    requires { (next + taken slot ≤ length texts.now) × (at + length (slot_text d slot (first_text (drop next texts.now))) ≤ length out.old) × Proper d }
+    ensures { Put at out.old (slot_text d slot (first_text (drop next texts.now))) result out.new }
 {
     if slot == b'$' {
         return put_escaped_at(out, at, texts[next], d);
@@ -214,7 +214,7 @@ fn put_slot(out: &mut [u8], at: usize, slot: u8, texts: &[&[u8]], next: usize, d
 
 fn slot_len(slot: u8, texts: &[&[u8]], next: usize, d: Delims) -> usize
     requires { (next + taken slot ≤ length texts.now) × (sizes texts.now ≤ 1000000) × Proper d }
-    ensures { result ≡ length (slotText d slot (firstText (drop next texts.now))) }
+    ensures { result ≡ length (slot_text d slot (first_text (drop next texts.now))) }
 {
     if slot == b'$' {
         return escaped_len(texts[next], d);

@@ -4,13 +4,13 @@ use Prim.Native.Nat.{◌-◌, ◌≤◌}
 use mathlib.Core.Path.{◌≡◌}
 use lib.ListN.{length, drop}
 use Rattle.rules.specs.Lists.{all}
-use Rattle.rules.specs.Frame.{capitalOrDigit}
+use Rattle.rules.specs.Frame.{capital_or_digit}
 use Rattle.bytes.proofs.Laws.{all-laws}
 use Rattle.bytes.proofs.all_capitals_or_digits.Statement.{statement}
 use Rattle.bytes.proofs.all_capitals_or_digits.Tie as tie
 
 abbrev invariant-loop : tie.invariant-loop
-invariant-loop v i₀ i = (i ≤ length v) × (all capitalOrDigit v ≡ all capitalOrDigit (drop i v))
+invariant-loop v i₀ i = (i ≤ length v) × (all capital_or_digit v ≡ all capital_or_digit (drop i v))
 
 abbrev decreases-loop : tie.decreases-loop
 decreases-loop v i₀ i = length v - i

@@ -1,6 +1,6 @@
 -- `checks::kind_of` meets its contract.
 use borrow.Author.Rules.{rules}
-use Rattle.value.specs.Rules.{faultNo}
+use Rattle.value.specs.Rules.{fault_no}
 use Rattle.checks.proofs.Laws.{kind-none}
 use Rattle.checks.proofs.kind_of.Statement.{statement}
 use Rattle.checks.proofs.kind_of.Tie as tie
@@ -9,7 +9,7 @@ returns : tie.Need-returns
 returns c = search (kind-none, rules)
 
 pub kind-of-spec : {M : Type 1} → statement M
-unfolding faultNo
+unfolding fault_no
 kind-of-spec =
     tie.close
     (tie.spec

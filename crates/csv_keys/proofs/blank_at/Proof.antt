@@ -4,13 +4,13 @@ use mathlib.Core.Path.{◌≡◌}
 use mathlib.Core.Bool.{false}
 use Prim.Native.Nat.{◌+◌, ◌-◌, ◌≤◌}
 use lib.ListN.{length, drop}
-use Rattle.csv_keys.specs.Ways.{blankAt}
+use Rattle.csv_keys.specs.Ways.{blank_at}
 use Rattle.csv_keys.proofs.Items.{blank-starts, blank-found, blank-on, blank_none}
 use Rattle.csv_keys.proofs.blank_at.Statement.{statement}
 use Rattle.csv_keys.proofs.blank_at.Tie as tie
 
 abbrev invariant-loop : tie.invariant-loop
-invariant-loop raw i₀ i = (i ≤ length raw) × (blankAt false raw ≡ i + blankAt false (drop i raw))
+invariant-loop raw i₀ i = (i ≤ length raw) × (blank_at false raw ≡ i + blank_at false (drop i raw))
 
 abbrev decreases-loop : tie.decreases-loop
 decreases-loop raw i₀ i = length raw - i

@@ -1,11 +1,11 @@
 -- `csv_keys::key` meets its contract. Assumes nothing.
 use borrow.Author.Rules.{rules}
-use Rattle.csv_keys.proofs.Rows.{inside-at, text_at, family-at, given-at, fifteen-at, sex-at, class-at, form-at, kind_at}
+use Rattle.csv_keys.proofs.Rows.{inside-at, text_at_lem, family-at, given-at, fifteen-at, sex-at, class-at, form-at, kind_at}
 use Rattle.csv_keys.proofs.key.Statement.{statement}
 use Rattle.csv_keys.proofs.key.Tie as tie
 
 returns : tie.Need-returns
-returns c = search (text_at, rules)
+returns c = search (text_at_lem, rules)
 
 returns-2 : tie.Need-returns-2
 returns-2 c = search (family-at, rules)

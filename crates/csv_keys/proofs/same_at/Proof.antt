@@ -1,6 +1,6 @@
 -- `csv_keys::same_at` meets its contract. Assumes nothing.
 use borrow.Author.Rules.{rules}
-use Rattle.csv_keys.proofs.Rows.{same-items, same_keys, key_fits}
+use Rattle.csv_keys.proofs.Rows.{same-items, same_keys_lem, key_fits}
 use Rattle.csv_keys.proofs.same_at.Statement.{statement}
 use Rattle.csv_keys.proofs.same_at.Tie as tie
 
@@ -11,7 +11,7 @@ same-key-requires : tie.Need-same-key-requires
 same-key-requires c κs = search (key_fits, rules)
 
 returns-2 : tie.Need-returns-2
-returns-2 c = search (same_keys, rules)
+returns-2 c = search (same_keys_lem, rules)
 
 pub same-at-spec : {M : Type 1} → statement M
 same-at-spec =

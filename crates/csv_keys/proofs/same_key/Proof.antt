@@ -3,14 +3,14 @@ use borrow.Author.Rules.{rules}
 use mathlib.Core.Path.{◌≡◌}
 use Prim.Native.Nat.{◌-◌, ◌≤◌}
 use Rattle.rules.specs.Lists.{same}
-use Rattle.csv_keys.specs.Keys.{rawOf}
+use Rattle.csv_keys.specs.Keys.{raw_of}
 use Rattle.csv_keys.specs.Ways.{left_of}
 use Rattle.csv_keys.proofs.Compare.{keys-start, keys-differ, keys_on, keys-end, first-in, second-in}
 use Rattle.csv_keys.proofs.same_key.Statement.{statement}
 use Rattle.csv_keys.proofs.same_key.Tie as tie
 
 abbrev invariant-loop : tie.invariant-loop
-invariant-loop file a b m n i₀ j₀ i j = (i ≤ m) × (same (rawOf file a.lead a.filled a.start a.len) (rawOf file b.lead b.filled b.start b.len) ≡ same (left_of file a.lead a.filled a.start a.len i) (left_of file b.lead b.filled b.start b.len j))
+invariant-loop file a b m n i₀ j₀ i j = (i ≤ m) × (same (raw_of file a.lead a.filled a.start a.len) (raw_of file b.lead b.filled b.start b.len) ≡ same (left_of file a.lead a.filled a.start a.len i) (left_of file b.lead b.filled b.start b.len j))
 
 abbrev decreases-loop : tie.decreases-loop
 decreases-loop file a b m n i₀ j₀ i j = m - i

@@ -5,13 +5,13 @@ use mathlib.Core.Bool.{false}
 use Prim.Native.Nat.{◌-◌, ◌≤◌, ◌<◌}
 use lib.ListN.{length, drop}
 use Rattle.csv_rules.specs.Written.{halved}
-use Rattle.csv_places.specs.Places.{hashFrom, hashOf}
+use Rattle.csv_places.specs.Places.{hash_from, hash_of}
 use Rattle.csv_places.proofs.Laws.{hash-starts, hash-on, hash-ends}
 use Rattle.csv_places.proofs.hash.Statement.{statement}
 use Rattle.csv_places.proofs.hash.Tie as tie
 
 abbrev invariant-loop : tie.invariant-loop
-invariant-loop raw h₀ second₀ i₀ h second i = (i ≤ length raw) × (h < 4294967296) × (hashOf (halved false raw) ≡ hashFrom h (halved second (drop i raw)))
+invariant-loop raw h₀ second₀ i₀ h second i = (i ≤ length raw) × (h < 4294967296) × (hash_of (halved false raw) ≡ hash_from h (halved second (drop i raw)))
 
 abbrev decreases-loop : tie.decreases-loop
 decreases-loop raw h₀ second₀ i₀ h second i = length raw - i

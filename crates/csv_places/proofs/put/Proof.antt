@@ -1,11 +1,11 @@
 -- `csv_places::put` meets its contract. Assumes nothing.
 use borrow.Author.Rules.{rules}
-use Rattle.csv_places.specs.Places.{slotFilled}
+use Rattle.csv_places.specs.Places.{slot_filled}
 use Rattle.csv_places.proofs.put.Statement.{statement}
 use Rattle.csv_places.proofs.put.Tie as tie
 
 returns : tie.Need-returns
-unfolding slotFilled
+unfolding slot_filled
 returns c = search rules
 
 pub put_spec : {M : Type 1} → statement M

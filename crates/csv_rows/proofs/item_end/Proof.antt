@@ -4,13 +4,13 @@ use mathlib.Core.Path.{◌≡◌}
 use mathlib.Core.Bool.{false}
 use Prim.Native.Nat.{◌+◌, ◌-◌, ◌≤◌}
 use lib.ListN.{length, drop}
-use Rattle.csv_rows.specs.Rows.{closingAt}
+use Rattle.csv_rows.specs.Rows.{closing_at}
 use Rattle.csv_rows.proofs.Items.{end-plain, end-two, end-last, end-stop, end-over}
 use Rattle.csv_rows.proofs.item_end.Statement.{statement}
 use Rattle.csv_rows.proofs.item_end.Tie as tie
 
 abbrev invariant-loop : tie.invariant-loop
-invariant-loop file from i₀ i = (from ≤ i) × (i ≤ length file) × (from + closingAt false (drop from file) ≡ i + closingAt false (drop i file))
+invariant-loop file from i₀ i = (from ≤ i) × (i ≤ length file) × (from + closing_at false (drop from file) ≡ i + closing_at false (drop i file))
 
 abbrev decreases-loop : tie.decreases-loop
 decreases-loop file from i₀ i = length file - i

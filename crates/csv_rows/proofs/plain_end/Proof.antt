@@ -3,13 +3,13 @@ use borrow.Author.Rules.{rules}
 use mathlib.Core.Path.{◌≡◌}
 use Prim.Native.Nat.{◌+◌, ◌-◌, ◌≤◌}
 use lib.ListN.{length, drop}
-use Rattle.csv_rows.specs.Plain.{plainAt}
+use Rattle.csv_rows.specs.Plain.{plain_at}
 use Rattle.csv_rows.proofs.Plain.{plain_over, plain-on, plain-stop}
 use Rattle.csv_rows.proofs.plain_end.Statement.{statement}
 use Rattle.csv_rows.proofs.plain_end.Tie as tie
 
 abbrev invariant-loop : tie.invariant-loop
-invariant-loop file from i₀ i = (from ≤ i) × (i ≤ length file) × (from + plainAt (drop from file) ≡ i + plainAt (drop i file))
+invariant-loop file from i₀ i = (from ≤ i) × (i ≤ length file) × (from + plain_at (drop from file) ≡ i + plain_at (drop i file))
 
 abbrev decreases-loop : tie.decreases-loop
 decreases-loop file from i₀ i = length file - i

@@ -2,7 +2,7 @@
 use borrow.Author.Rules.{rules}
 use Rattle.header.proofs.Laws.{header-long}
 use Rattle.known.proofs.Laws.{found_in}
-use Rattle.fetch.proofs.Laws.{asks-component, asks-field, at-within, headed-proper, place-absent, place_at, place-headless, place_none, place-zero}
+use Rattle.fetch.proofs.Laws.{asks-component, asks-field, at-within, headed-proper, place-absent, place_at_lem, place-headless, place_none, place-zero}
 use Rattle.fetch.proofs.place.Statement.{statement}
 use Rattle.fetch.proofs.place.Tie as tie
 
@@ -22,7 +22,7 @@ returns-3 : tie.Need-returns-3
 returns-3 c = search (place_none, place-absent, rules)
 
 returns-4 : tie.Need-returns-4
-returns-4 c = search (place_at, at-within, rules)
+returns-4 c = search (place_at_lem, at-within, rules)
 
 pub place-spec : {M : Type 1} → statement M
 place-spec =

@@ -1,11 +1,11 @@
 -- `delims` meets its contract. Assumes nothing.
 use borrow.Author.Rules.{rules}
-use Rattle.rules.specs.Frame.{delimsOf}
+use Rattle.rules.specs.Frame.{delims_of}
 use Rattle.header.proofs.delims.Statement.{statement}
 use Rattle.header.proofs.delims.Tie as tie
 
 returns : tie.Need-returns
-unfolding delimsOf
+unfolding delims_of
 returns c = search rules
 
 pub delims-spec : {M : Type 1} → statement M

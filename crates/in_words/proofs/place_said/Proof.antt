@@ -1,6 +1,6 @@
 -- `in_words::place_said` meets its contract. Assumes nothing.
 use Rattle.rules.specs.Lists.{bytes}
-use Rattle.in_words.specs.Line.{placeText}
+use Rattle.in_words.specs.Line.{place_text}
 use Rattle.in_words.proofs.Laws.{place_is}
 use Rattle.writer.proofs.Laws.{start}
 use borrow.Author.Rules.{rules}
@@ -8,7 +8,7 @@ use Rattle.in_words.proofs.place_said.Statement.{statement}
 use Rattle.in_words.proofs.place_said.Tie as tie
 
 pub place-said-spec : {M : Type 1} → statement M
-unfolding placeText bytes
+unfolding place_text bytes
 place-said-spec =
     tie.close
     (tie.spec

@@ -4,13 +4,13 @@ use Prim.Native.Nat.{◌-◌, ◌≤◌}
 use mathlib.Core.Path.{◌≡◌}
 use lib.ListN.{length, drop}
 use mathlib.Core.List.{foldl}
-use Rattle.number.specs.Number.{readByte, noneRead}
+use Rattle.number.specs.Number.{read_byte, none_read}
 use Rattle.number.proofs.Laws.{fold-laws}
 use Rattle.number.proofs.read_all.Statement.{statement}
 use Rattle.number.proofs.read_all.Tie as tie
 
 abbrev invariant-loop : tie.invariant-loop
-invariant-loop v t₀ i₀ t i = (i ≤ length v) × (foldl readByte noneRead v ≡ foldl readByte t (drop i v))
+invariant-loop v t₀ i₀ t i = (i ≤ length v) × (foldl read_byte none_read v ≡ foldl read_byte t (drop i v))
 
 abbrev decreases-loop : tie.decreases-loop
 decreases-loop v t₀ i₀ t i = length v - i

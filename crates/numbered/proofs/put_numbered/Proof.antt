@@ -1,6 +1,6 @@
 -- `numbered::put_numbered` meets its contract. Assumes nothing.
 use borrow.Author.Rules.{rules}
-use Rattle.numbered.proofs.Texts.{number_short, number_is, number_size, numbered-specimen, numbered-result}
+use Rattle.numbered.proofs.Texts.{number_short, number_is_lem, number_size, numbered-specimen, numbered-result}
 use Rattle.writer.proofs.Laws.{front-is, front-within}
 use Rattle.rules.specs.Frame.{spelling}
 use Rattle.rules.specs.Lists.{bytes}
@@ -21,7 +21,7 @@ unfolding spelling bytes
 specimen-requires c κs = (search rules, search (number_size, rules))
 
 returns : tie.Need-returns
-returns c = (search (numbered-specimen, number_is, rules), search rules)
+returns c = (search (numbered-specimen, number_is_lem, rules), search rules)
 
 array-share-prefix-digits-2 : tie.Need-array-share-prefix-digits-2
 array-share-prefix-digits-2 c = search (front-within, rules)
@@ -34,7 +34,7 @@ unfolding spelling bytes
 result-requires c κs = (search rules, search (number_size, rules))
 
 returns-2 : tie.Need-returns-2
-returns-2 c = (search (numbered-result, number_is, rules), search rules)
+returns-2 c = (search (numbered-result, number_is_lem, rules), search rules)
 
 pub put-numbered-spec : {M : Type 1} → statement M
 put-numbered-spec =

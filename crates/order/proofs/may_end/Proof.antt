@@ -1,11 +1,11 @@
 -- `may_end` meets its contract. Assumes nothing.
 use borrow.Author.Rules.{rules}
-use Rattle.rules.specs.Frame.{mayEnd}
+use Rattle.rules.specs.Frame.{may_end}
 use Rattle.order.proofs.may_end.Statement.{statement}
 use Rattle.order.proofs.may_end.Tie as tie
 
 returns : tie.Need-returns
-unfolding mayEnd
+unfolding may_end
 returns c = search rules
 
 pub may-end-spec : {M : Type 1} → statement M

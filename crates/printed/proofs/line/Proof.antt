@@ -1,11 +1,11 @@
 -- `printed::line` meets its contract. Assumes nothing.
-use Rattle.printed.specs.Printed.{lineText}
+use Rattle.printed.specs.Printed.{line_text}
 use borrow.Author.Rules.{rules}
 use Rattle.printed.proofs.line.Statement.{statement}
 use Rattle.printed.proofs.line.Tie as tie
 
 returns : tie.Need-returns
-unfolding lineText
+unfolding line_text
 returns c = search rules
 
 pub line-spec : {M : Type 1} → statement M

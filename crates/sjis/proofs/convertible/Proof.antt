@@ -6,12 +6,12 @@ use Prim.Native.Nat.{◌-◌, ◌≤◌}
 use lib.ListN.{length}
 use Rattle.csv_rules.specs.Kanji.{convertible}
 use Rattle.csv_rules.specs.Written.{halved}
-use Rattle.sjis.proofs.Laws.{goodAll, good-starts, clear-on, good-bad, good-on, good-ends}
+use Rattle.sjis.proofs.Laws.{good_all, good-starts, clear-on, good-bad, good-on, good-ends}
 use Rattle.sjis.proofs.convertible.Statement.{statement}
 use Rattle.sjis.proofs.convertible.Tie as tie
 
 abbrev invariant-loop : tie.invariant-loop
-invariant-loop raw i₀ i = (i ≤ length raw) × (convertible (halved false raw) ≡ goodAll raw i)
+invariant-loop raw i₀ i = (i ≤ length raw) × (convertible (halved false raw) ≡ good_all raw i)
 
 abbrev decreases-loop : tie.decreases-loop
 decreases-loop raw i₀ i = length raw - i

@@ -4,14 +4,14 @@ use Prim.Native.Nat.{◌+◌, ◌-◌, ◌≤◌}
 use mathlib.Core.Path.{◌≡◌}
 use lib.ListN.{length, drop}
 use Rattle.rules.specs.Frame.{segments}
-use Rattle.spot.specs.Spot.{goodBytes}
+use Rattle.spot.specs.Spot.{good_bytes}
 use Rattle.spot.proofs.Laws.{good-ends, good-goes, good-open, good-stops}
 use Rattle.rules.proofs.Lists.{part_length, rest-further, rest-inside}
 use Rattle.spot.proofs.good_bytes.Statement.{statement}
 use Rattle.spot.proofs.good_bytes.Tie as tie
 
 abbrev invariant-loop : tie.invariant-loop
-invariant-loop m field at₀ at = (at ≤ length m) × (goodBytes field (segments m) ≡ at + goodBytes field (segments (drop at m)))
+invariant-loop m field at₀ at = (at ≤ length m) × (good_bytes field (segments m) ≡ at + good_bytes field (segments (drop at m)))
 
 abbrev decreases-loop : tie.decreases-loop
 decreases-loop m field at₀ at = length m - at

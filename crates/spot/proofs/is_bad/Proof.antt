@@ -1,11 +1,11 @@
 -- `is_bad` meets its contract. Assumes nothing.
 use borrow.Author.Rules.{rules}
-use Rattle.spot.specs.Spot.{isBad}
+use Rattle.spot.specs.Spot.{is_bad}
 use Rattle.spot.proofs.is_bad.Statement.{statement}
 use Rattle.spot.proofs.is_bad.Tie as tie
 
 pub is-bad-spec : {M : Type 1} → statement M
-unfolding isBad
+unfolding is_bad
 is-bad-spec =
     tie.close
     (tie.spec

@@ -4,13 +4,13 @@ use Prim.Native.Nat.{◌+◌, ◌-◌, ◌≤◌}
 use mathlib.Core.Path.{◌≡◌}
 use lib.ListN.{length, drop}
 use Rattle.rules.specs.declared.Mode.TheVariants.{One}
-use Rattle.spot.specs.Spot.{keptBytes}
+use Rattle.spot.specs.Spot.{kept_bytes}
 use Rattle.spot.proofs.Laws.{kept-ends, kept_goes, kept-stops}
 use Rattle.spot.proofs.kept_bytes.Statement.{statement}
 use Rattle.spot.proofs.kept_bytes.Tie as tie
 
 abbrev invariant-loop : tie.invariant-loop
-invariant-loop s end mode₀ i₀ mode i = (i ≤ length s) × (keptBytes end One s ≡ i + keptBytes end mode (drop i s))
+invariant-loop s end mode₀ i₀ mode i = (i ≤ length s) × (kept_bytes end One s ≡ i + kept_bytes end mode (drop i s))
 
 abbrev decreases-loop : tie.decreases-loop
 decreases-loop s end mode₀ i₀ mode i = length s - i

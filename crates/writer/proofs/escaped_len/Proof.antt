@@ -5,13 +5,13 @@ use Prim.Native.Nat.{◌+◌, ◌-◌, ◌*◌, ◌≤◌}
 use lib.ListN.{length, drop}
 use Rattle.rules.specs.declared.Mode.TheVariants.{One}
 use Rattle.rules.specs.Shift.{marks}
-use Rattle.rules.specs.Escape.{escape, escapeMet}
+use Rattle.rules.specs.Escape.{escape, escape_met}
 use Rattle.writer.proofs.Escapes.{measure-begins, simple-measured, measure-goes, measure-ends}
 use Rattle.writer.proofs.escaped_len.Statement.{statement}
 use Rattle.writer.proofs.escaped_len.Tie as tie
 
 abbrev invariant-loop : tie.invariant-loop
-invariant-loop text d n₀ i₀ n i = (i ≤ length text) × (n ≤ 3 * i) × (n + length (escapeMet d (marks 0x0D One (drop i text))) ≡ length (escape d text))
+invariant-loop text d n₀ i₀ n i = (i ≤ length text) × (n ≤ 3 * i) × (n + length (escape_met d (marks 0x0D One (drop i text))) ≡ length (escape d text))
 
 abbrev decreases-loop : tie.decreases-loop
 decreases-loop text d n₀ i₀ n i = length text - i

@@ -4,14 +4,14 @@ use Prim.Native.Nat.{◌-◌, ◌≤◌}
 use lib.ListN.{length, drop}
 use Rattle.rules.specs.declared.Mode.TheVariants.{One}
 use Rattle.rules.specs.Shift.{marks}
-use Rattle.rules.specs.Escape.{escape, escapeMet}
+use Rattle.rules.specs.Escape.{escape, escape_met}
 use Rattle.writer.proofs.Laws.{Running}
 use Rattle.writer.proofs.Escapes.{escape-begins, simple-room, simple-few, simple-goes, byte-room, stretch-room, escape-goes, escape-ends}
 use Rattle.writer.proofs.put_escaped.Statement.{statement}
 use Rattle.writer.proofs.put_escaped.Tie as tie
 
 abbrev invariant-loop : tie.invariant-loop
-invariant-loop out₀ text d at₀ i₀ out at i = (i ≤ length text) × Running (escape d text) (escapeMet d (marks 0x0D One (drop i text))) out₀ out at
+invariant-loop out₀ text d at₀ i₀ out at i = (i ≤ length text) × Running (escape d text) (escape_met d (marks 0x0D One (drop i text))) out₀ out at
 
 abbrev decreases-loop : tie.decreases-loop
 decreases-loop out₀ text d at₀ i₀ out at i = length text - i

@@ -4,13 +4,13 @@ use Prim.Native.Nat.{◌-◌, ◌≤◌}
 use mathlib.Core.Path.{◌≡◌}
 use lib.ListN.{length, drop}
 use Rattle.rules.proofs.Lists.{part_length, rest-inside, rest-further}
-use Rattle.frame.specs.Frame.{nothingSeen, passFrom, Within}
+use Rattle.frame.specs.Frame.{nothing_seen, pass_from, Within}
 use Rattle.frame.proofs.Laws.{pass-bad, pass-end, pass_on, pass-open, pass-starts, within_all, within-bad, within_on, within-starts}
 use Rattle.frame.proofs.all_segments.pass.Statement.{statement}
 use Rattle.frame.proofs.all_segments.pass.Tie as tie
 
 abbrev invariant-loop : tie.invariant-loop
-invariant-loop m field seen₀ at₀ seen at = (at ≤ length m) × (passFrom nothingSeen field m ≡ passFrom seen field (drop at m)) × Within at seen
+invariant-loop m field seen₀ at₀ seen at = (at ≤ length m) × (pass_from nothing_seen field m ≡ pass_from seen field (drop at m)) × Within at seen
 
 abbrev decreases-loop : tie.decreases-loop
 decreases-loop m field seen₀ at₀ seen at = length m - at
