@@ -71,7 +71,7 @@ fn is_clock(v: &[u8]) -> bool
 pub fn is_date(v: &[u8]) -> bool
     ensures { result ≡ Val.holds Val.date v.now }
 {
-    if !bytes::digits(v, 8) {
+    if !plain_bytes::digits(v, 8) {
         return false;
     }
     is_day(v)
@@ -80,7 +80,7 @@ pub fn is_date(v: &[u8]) -> bool
 pub fn is_time(v: &[u8]) -> bool
     ensures { result ≡ Val.holds Val.time v.now }
 {
-    if !bytes::digits(v, 14) {
+    if !plain_bytes::digits(v, 14) {
         return false;
     }
     is_day(v) & is_clock(v)

@@ -25,8 +25,8 @@ use Rattle.rules.specs.Promises.{Checked}
 use Rattle.rules.proofs.Logic.{not-true, not-false}
 use Rattle.rules.proofs.Names.{in_names}
 use Rattle.rules.proofs.Lists.{over, rest-is, rest-further, rest-on, rest_end}
-use Rattle.bytes.specs.Bytes.{until}
-use Rattle.bytes.specs.Bytes as Bytes
+use Rattle.plain_bytes.specs.Bytes.{until}
+use Rattle.plain_bytes.specs.Bytes as Bytes
 use Rattle.value.specs.declared.Fault.{Fault}
 use Rattle.value.specs.declared.Fault.TheVariants.{Nothing}
 use Rattle.value.specs.Rules.{fault_no, fine_of}

@@ -33,7 +33,7 @@ fn check_places(m: &[u8], d: Delims, counts: Counts) -> Answer
     let mut at = 0;
     while at < m.len() {
         let rest = &m[at..];
-        let n = bytes::before(rest, 0x0D);
+        let n = plain_bytes::before(rest, 0x0D);
         let s = &rest[..n];
         at += n + 1;
         let name = names::name_of(s);

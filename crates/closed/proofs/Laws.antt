@@ -24,7 +24,7 @@ use Rattle.rules.proofs.Split.{split-nil, split-none}
 use Rattle.rules.proofs.Modes.{length-marks}
 use Rattle.rules.proofs.Clean.{same_met}
 use Rattle.rules.proofs.Header.{delim-within}
-use Rattle.bytes.specs.Bytes.{until, is_byte}
+use Rattle.plain_bytes.specs.Bytes.{until, is_byte}
 use Rattle.scan.specs.Scan.{ends, after_sep, next, CutOf, TailOf}
 use Rattle.scan.proofs.Laws.{piece-met}
 use Rattle.value.specs.Rules.{fault_no, rule_of}

@@ -47,7 +47,7 @@ fn led(s: &[u8], b: u8, word: &[u8]) -> bool
     if s.len() == 0 {
         return false;
     }
-    (s[0] == b) & bytes::equal(&s[1..], word)
+    (s[0] == b) & plain_bytes::equal(&s[1..], word)
 }
 
 // ---- MSH-18

@@ -14,7 +14,7 @@ use Rattle.rules.specs.Judge.{judge}
 use Rattle.rules.proofs.Logic.{then-zero}
 use Rattle.rules.proofs.Lists.{rest-is}
 use Rattle.rules.proofs.Modes.{length-met}
-use Rattle.bytes.specs.Bytes.{until, is_byte}
+use Rattle.plain_bytes.specs.Bytes.{until, is_byte}
 use Rattle.scan.specs.Scan.{ends, next, plain_text, CutOf, TailOf}
 use Rattle.scan.proofs.Laws.{from-met, piece-met, ends-far}
 use Rattle.value.specs.Rules.{rule_of, fault_no}

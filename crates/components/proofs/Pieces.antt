@@ -13,7 +13,7 @@ use Rattle.rules.specs.Proper.{Proper}
 use Rattle.rules.proofs.Logic.{cases, never, neither, or-false}
 use Rattle.rules.proofs.Lists.{has-nil, has_here, has_there, has_first}
 use Rattle.rules.proofs.Split.{split-nil, split-here, split-there, split-none, pieces-length}
-use Rattle.bytes.specs.Bytes.{until, is_byte}
+use Rattle.plain_bytes.specs.Bytes.{until, is_byte}
 use Rattle.scan.specs.Scan.{ends, after_sep, onward, next, next_from}
 use Rattle.scan.proofs.Laws.{until-yes, until-no, until-nil, first_piece}
 use Rattle.components.specs.Components.{ends_repetition, forward}

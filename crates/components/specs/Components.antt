@@ -5,7 +5,7 @@ use Rattle.rules.specs.Told.{◌then◌}
 use Rattle.rules.specs.Lists.{has}
 use Rattle.rules.specs.Shift.{met, byte_of}
 use Rattle.rules.specs.Judge.{judge}
-use Rattle.bytes.specs.Bytes.{until, is_byte}
+use Rattle.plain_bytes.specs.Bytes.{until, is_byte}
 use Rattle.scan.specs.Scan.{ends, next}
 use Rattle.value.specs.Rules.{rule_of}
 use Rattle.value.specs.declared.Place.{Place}

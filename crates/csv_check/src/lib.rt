@@ -52,7 +52,7 @@ fn column_count(raw: &[u8]) -> Columns
     let mut i = 0;
     while i < raw.len() {
         let b = raw[i];
-        if !bytes::is_digit(b) {
+        if !plain_bytes::is_digit(b) {
             return Columns {
                 counts: false,
                 number: 0,

@@ -114,7 +114,7 @@ fn fifteen(file: &[u8], start: usize, len: usize) -> KeyAt
         return as_is(start, len);
     }
     let end = start + len;
-    if !bytes::digits(&file[start..end], len) {
+    if !plain_bytes::digits(&file[start..end], len) {
         return as_is(start, len);
     }
     let lead = [48u8; 15];
@@ -310,7 +310,7 @@ fn same_at(file: &[u8], a: &[usize; 90], b: &[usize; 90], how: How, column: usiz
     let n = column - 1;
     let mine = csv_rows::item(file, a, n);
     let other = csv_rows::item(file, b, n);
-    if bytes::equal(mine, other) {
+    if plain_bytes::equal(mine, other) {
         return true;
     }
     let k = key(file, a, how, column);

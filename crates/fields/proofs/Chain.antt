@@ -17,7 +17,7 @@ use Rattle.rules.specs.View.{piece_of, field_of, component_of, first_repetition,
 use Rattle.rules.specs.Judge.{plain_of, judge, judge_all}
 use Rattle.rules.specs.Check.{Context, part_no, own_fault, later_fault, part_fault, fault_told, parts_told}
 use Rattle.rules.proofs.Logic.{cases, then-zero, then-none, done}
-use Rattle.bytes.specs.Bytes.{until, is_byte}
+use Rattle.plain_bytes.specs.Bytes.{until, is_byte}
 use Rattle.scan.specs.Scan.{ends, after_sep, onward}
 use Rattle.value.specs.Rules.{rule_of, fault_no, fine_of}
 use Rattle.value.specs.declared.Fault.{Fault}

@@ -15,7 +15,7 @@ use Rattle.rules.specs.View.{component_of, first_repetition, seen_in}
 use Rattle.rules.proofs.Logic.{cases, both, never, not-true, not-false, then-zero}
 use Rattle.rules.proofs.Lists.{rest-is, rest-length}
 use Rattle.rules.proofs.Header.{delim-small}
-use Rattle.bytes.specs.Bytes.{until, is_byte}
+use Rattle.plain_bytes.specs.Bytes.{until, is_byte}
 use Rattle.scan.specs.Scan.{ends, after_sep, next, onward}
 use Rattle.scan.proofs.Laws.{from-met, far-is, after-field}
 use Rattle.value.specs.Rules.{rule_of, fault_no, fine_of}

@@ -8,7 +8,7 @@ use Rattle.rules.specs.Places.{Field, reads, closed, charset, names, ◌must◌,
 use Rattle.rules.specs.Places as Table
 use Rattle.rules.specs.View.{first_repetition, seen_in}
 use Rattle.rules.specs.Judge.{judge_all, names_fault}
-use Rattle.bytes.specs.Bytes.{until, is_byte}
+use Rattle.plain_bytes.specs.Bytes.{until, is_byte}
 use Rattle.scan.specs.Scan.{ends, after_sep, onward}
 use Rattle.value.specs.Rules.{rule_of, fault_no, fine_of}
 use Rattle.judge.specs.Judge.{Small}

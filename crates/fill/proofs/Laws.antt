@@ -19,7 +19,7 @@ use Rattle.rules.proofs.Logic.{option_cases, both}
 use Rattle.rules.proofs.Lists.{over, rest-is}
 use Rattle.rules.proofs.Split.{ended-append}
 use Rattle.rules.proofs.Modes.{length-met}
-use Rattle.bytes.specs.Bytes.{until}
+use Rattle.plain_bytes.specs.Bytes.{until}
 use Rattle.scan.specs.Scan.{ends, plain_text, CutOf}
 use Rattle.scan.proofs.Laws.{take-until}
 use Rattle.judge.proofs.Laws.{clean_at}

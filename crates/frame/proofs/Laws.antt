@@ -19,10 +19,10 @@ use Rattle.rules.specs.Check.{frame_told}
 use Rattle.rules.proofs.Logic.{cases, both, not-true, not-false, and-true, and-false}
 use Rattle.rules.proofs.Lists.{filled-some, over, rest-is, rest-inside, rest-on, all_cons}
 use Rattle.rules.proofs.Split.{but_last-split, last-split}
-use Rattle.bytes.specs.Bytes.{until}
-use Rattle.bytes.specs.Bytes as Bytes
+use Rattle.plain_bytes.specs.Bytes.{until}
+use Rattle.plain_bytes.specs.Bytes as Bytes
 use Rattle.scan.proofs.Laws.{until-rest}
-use Rattle.bytes.proofs.Laws.{split-last, split-more}
+use Rattle.plain_bytes.proofs.Laws.{split-last, split-more}
 use Rattle.order.specs.Order.{reached_of}
 use Rattle.order.specs.declared.Reached.{Reached}
 use Rattle.order.proofs.Laws.{reached-is}

@@ -32,7 +32,7 @@ pub fn pass(m: &[u8], field: u8) -> SegmentsPassed
     let mut at = 0;
     while at < m.len() {
         let rest = &m[at..];
-        let n = bytes::before(rest, 0x0D);
+        let n = plain_bytes::before(rest, 0x0D);
         if n == rest.len() {
             return SegmentsPassed::Bad;
         }
@@ -72,9 +72,9 @@ pub fn good(s: &[u8], field: u8) -> bool
     if s.len() < 3 {
         return false;
     }
-    let name = bytes::is_capital(s[0])
-        & bytes::is_capital_or_digit(s[1])
-        & bytes::is_capital_or_digit(s[2]);
+    let name = plain_bytes::is_capital(s[0])
+        & plain_bytes::is_capital_or_digit(s[1])
+        & plain_bytes::is_capital_or_digit(s[2]);
     if s.len() == 3 {
         return name;
     }

@@ -18,7 +18,7 @@ fn header(s: &[u8], at: &[usize; 11]) -> Verdict
     requires { Cut 10 s.now at.now }
     ensures { VerdictOn (lines Name.Msh) (lines_of s.now) result }
 {
-    let one = bytes::equal(lines::value_at(s, at, 0, keys::VERSION.len()), b"1");
+    let one = plain_bytes::equal(lines::value_at(s, at, 0, keys::VERSION.len()), b"1");
     let version = lines::line_if(
         Verdict::Fine,
         s,

@@ -10,7 +10,7 @@ use Rattle.rules.specs.declared.Name.{Name}
 use Rattle.rules.specs.declared.Refusal.{Refusal}
 use Rattle.rules.specs.Lists.{bytes, decimal}
 use Rattle.rules.specs.Frame.{spelling}
-use Rattle.bytes.specs.Bytes.{until, is_byte}
+use Rattle.plain_bytes.specs.Bytes.{until, is_byte}
 use Rattle.scan.proofs.Laws.{take-until}
 use Rattle.writer.specs.Over.{Wrote, Put}
 use Rattle.writer.proofs.Laws.{start, then, front-within, front-is}

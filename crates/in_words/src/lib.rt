@@ -1,7 +1,7 @@
 // A refusal in words: one line, with the place as people say it.
 ghost use Rattle.std.specs.Prelude.{◌≡◌, ◌+◌, ◌≤◌, length};
 ghost use Rattle.rules.specs.Frame.{spelling};
-ghost use Rattle.bytes.specs.Bytes.{until, is_byte};
+ghost use Rattle.plain_bytes.specs.Bytes.{until, is_byte};
 ghost use Rattle.writer.specs.Over.{Wrote, Put};
 ghost use Rattle.printed.specs.Printed.{Front};
 ghost use Rattle.in_words.specs.Line.{once, field_text, spot_text, place_text, refusal_in_words, fault_in_words};
@@ -42,7 +42,7 @@ fn put_to_bar(out: &mut [u8], at: usize, text: &[u8]) -> usize
     ensures put { Put at out.old (until (is_byte 0x7C) text.now) result out.new }
     ensures within { result ≤ at + length text.now }
 {
-    let n = bytes::before(text, b'|');
+    let n = plain_bytes::before(text, b'|');
     writer::put_at(out, at, &text[..n])
 }
 

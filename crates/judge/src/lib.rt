@@ -34,7 +34,7 @@ pub fn judge(raw: &[u8], d: Delims, required: bool, rule: Rule) -> Fault
     requires { Small rule }
     ensures { fault_no result ≡ J.judge d required (rule_of rule) (met raw.now) }
 {
-    if bytes::equal(raw, b"\"\"") {
+    if plain_bytes::equal(raw, b"\"\"") {
         return Fault::Null;
     }
     judge_escaped(raw, d, required, rule)
@@ -44,7 +44,7 @@ pub fn judge(raw: &[u8], d: Delims, required: bool, rule: Rule) -> Fault
 pub fn judge_clean(raw: &[u8], required: bool, rule: Rule) -> Fault
     ensures { (d : Delims) → Clean d raw.now → fault_no result ≡ J.judge d required (rule_of rule) (met raw.now) }
 {
-    if bytes::equal(raw, b"\"\"") {
+    if plain_bytes::equal(raw, b"\"\"") {
         return Fault::Null;
     }
     value::fault_of(required, rule, raw)

@@ -16,8 +16,8 @@ use Rattle.rules.specs.Frame as Frame
 use Rattle.rules.specs.Fetch.{ordinal}
 use Rattle.rules.proofs.Logic.{cases, zero_cases}
 use Rattle.rules.proofs.Lists.{over, rest-is, rest-inside, rest_end}
-use Rattle.bytes.specs.Bytes.{until, is_byte}
-use Rattle.bytes.proofs.Laws.{split-last}
+use Rattle.plain_bytes.specs.Bytes.{until, is_byte}
+use Rattle.plain_bytes.proofs.Laws.{split-last}
 use Rattle.frame.proofs.Laws.{there, segment-there, named-there}
 use Rattle.rules.specs.declared.KnownSegment.{KnownSegment}
 use Rattle.rules.specs.declared.Found.{Found}

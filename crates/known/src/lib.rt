@@ -14,7 +14,7 @@ pub fn known_segment(m: &[u8], ordinal: usize) -> Found
     let mut at = 0;
     while at < m.len() {
         let rest = &m[at..];
-        let n = bytes::before(rest, 0x0D);
+        let n = plain_bytes::before(rest, 0x0D);
         if n == rest.len() {
             return Found::Nothing;
         }

@@ -14,14 +14,14 @@ use Rattle.rules.specs.Sheet.{lines_of}
 use Rattle.rules.proofs.Logic.{cases, never, not-true, not-false}
 use Rattle.rules.proofs.Lists.{over, rest-is, rest-inside, take_own}
 use Rattle.rules.proofs.Split.{but_last-split, ended-split}
-use Rattle.bytes.specs.Bytes.{until, is_byte}
+use Rattle.plain_bytes.specs.Bytes.{until, is_byte}
 use Rattle.scan.proofs.Laws.{until-rest}
 use Rattle.value.specs.declared.Fault.{Fault}
 use Rattle.value.specs.declared.Place.{Place}
 use Rattle.value.specs.declared.Place.TheVariants.{Unread, Must, May}
 use Rattle.value.specs.declared.Rule.{Rule as Coded}
 use Rattle.value.specs.Rules.{fault_no, fine_of, rule_of}
-use Rattle.bytes.proofs.Laws.{split-last, split-more}
+use Rattle.plain_bytes.proofs.Laws.{split-last, split-more}
 use Rattle.value.proofs.Laws.{fine-zero, fault-some}
 use Rattle.lines.specs.declared.Verdict.{Verdict}
 use Rattle.lines.specs.declared.Verdict.TheVariants.{Fine, Key, Value}

@@ -49,7 +49,7 @@ fn next_line(s: &[u8], at: usize) -> usize
     ensures within { result ≤ length s.now }
 {
     let rest = &s[at..];
-    let n = bytes::before(rest, 0x0A);
+    let n = plain_bytes::before(rest, 0x0A);
     if n == rest.len() {
         return at;
     }
@@ -115,7 +115,7 @@ pub fn starts(key: &[u8], t: &[u8]) -> bool
     if t.len() < n {
         return false;
     }
-    bytes::equal(&t[..n], key)
+    plain_bytes::equal(&t[..n], key)
 }
 
 // ---- one line judged, after those before it
@@ -128,7 +128,7 @@ fn judged(before: Verdict, k: usize, t: &[u8], key: &[u8], good: bool) -> Verdic
         return first(before, Verdict::Key(k));
     }
     let n = key.len();
-    if bytes::equal(&t[n..], b"\"\"") {
+    if plain_bytes::equal(&t[n..], b"\"\"") {
         return first(before, Verdict::Value(k));
     }
     if !good {

@@ -16,7 +16,7 @@ struct Spelling {
 fn read_byte(t: Spelling, b: u8) -> Spelling
     ensures { result ≡ read_byte t b }
 {
-    let digit = bytes::is_digit(b);
+    let digit = plain_bytes::is_digit(b);
     let point = b == 46;
     Spelling {
         good: t.good & (digit | point) & !(point & t.point),

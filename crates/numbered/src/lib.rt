@@ -120,7 +120,7 @@ fn result<'a>(
 {
     let value_type = lines::value_at(s, places, 2, keys::TYPE.len());
     let value = lines::value_at(s, places, 4, keys::VALUE.len());
-    if bytes::equal(value_type, b"SN") & (value.len() != 0) {
+    if plain_bytes::equal(value_type, b"SN") & (value.len() != 0) {
         return structured(out, obx, number, s, places, d);
     }
     single(out, obx, number, s, places, d)

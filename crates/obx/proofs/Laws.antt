@@ -18,7 +18,7 @@ use Rattle.rules.specs.Check.{Context, unsaid, value_at, raw_four_of, part_no, o
 use Rattle.rules.specs.Judge.{raw_four, beside, value_fault, agrees}
 use Rattle.rules.proofs.Logic.{never, not-true, then-zero}
 use Rattle.rules.proofs.Lists.{rest-is, rest-length}
-use Rattle.bytes.specs.Bytes.{until, is_byte}
+use Rattle.plain_bytes.specs.Bytes.{until, is_byte}
 use Rattle.scan.specs.Scan.{onward}
 use Rattle.value.specs.declared.Fault.TheVariants.{Status}
 use Rattle.value.specs.Rules.{rule_of, text_of, fault_no, fine_of}

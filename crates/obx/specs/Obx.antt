@@ -8,7 +8,7 @@ use Rattle.rules.specs.Places.{places}
 use Rattle.rules.specs.Judge.{raw_four, value_fault}
 use Rattle.rules.specs.Judge as J
 use Rattle.rules.specs.Check.{Context, raw_four_of}
-use Rattle.bytes.specs.Bytes.{until, is_byte}
+use Rattle.plain_bytes.specs.Bytes.{until, is_byte}
 use Rattle.scan.specs.Scan.{onward}
 use Rattle.value.specs.Rules.{fault_no, fine_of}
 use Rattle.fields.specs.declared.Walk.{Walk}

@@ -20,7 +20,7 @@ use Rattle.rules.specs.Judge.{judge, fault_or23, is_sn, raw_four, beside, unjoin
 use Rattle.rules.proofs.Logic.{cases, option_cases, nothing-some, then-none, then-zero, when-none, and-true, and-false}
 use Rattle.rules.proofs.Escaped.{push_cases}
 use Rattle.rules.proofs.Modes.{length-met}
-use Rattle.bytes.specs.Bytes.{until, is_byte}
+use Rattle.plain_bytes.specs.Bytes.{until, is_byte}
 use Rattle.scan.specs.Scan.{ends, next}
 use Rattle.value.specs.Rules.{fault_no, rule_of, rules_of}
 use Rattle.value.specs.declared.Fault.{Fault}

@@ -9,7 +9,7 @@ use Rattle.rules.specs.Value.{Rule}
 use Rattle.rules.specs.Places.{Four}
 use Rattle.rules.specs.Judge.{judge, raw_four, value_fault}
 use Rattle.rules.specs.Judge as J
-use Rattle.bytes.specs.Bytes.{until}
+use Rattle.plain_bytes.specs.Bytes.{until}
 use Rattle.scan.specs.Scan.{ends}
 use Rattle.value.specs.declared.Parts.{Parts}
 use Rattle.judge.specs.Judge.{Small}

@@ -174,7 +174,7 @@ pub fn value(t: &[u8], d: Delims, word: &[u8]) -> ValueRead
     ensures within { result.len ≤ length t.now }
 {
     let rules = value::part_rules(word);
-    if bytes::equal(word, b"SN") {
+    if plain_bytes::equal(word, b"SN") {
         return numbers(t, d, rules);
     }
     single(t, d, rules)

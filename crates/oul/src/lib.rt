@@ -82,7 +82,7 @@ pub fn spot_of(text: &[u8], number: usize) -> Spot
 pub fn csv_count(file: &[u8]) -> Counted
     ensures { SheetsCounted file.now result }
 {
-    csv::csv_count(file)
+    csv_calls::csv_count(file)
 }
 
 // Writes the which-th sheet of a file, from 1, into the lent buffer, whose bytes past the sheet stay; mode, sent and control are the caller's. Its length, or the refusal,
@@ -97,7 +97,7 @@ pub fn csv_sheet(
 ) -> Made
     ensures { CsvSheetWritten file.now which (record { mode = mode.entry.now; sent = sent.now; control = control.now }) out.old result out.new }
 {
-    csv::csv_sheet(file, which, mode, sent, control, out)
+    csv_calls::csv_sheet(file, which, mode, sent, control, out)
 }
 
 // Writes the sheet that begins at a place of a file in the same way, and tells the place behind its rows: from the first row on, sheet after sheet. It takes any bytes and
@@ -112,12 +112,12 @@ pub fn csv_next(
 ) -> Next
     ensures { NextSheetWritten file.now at (record { mode = mode.entry.now; sent = sent.now; control = control.now }) out.old result out.new }
 {
-    csv::csv_next(file, at, mode, sent, control, out)
+    csv_calls::csv_next(file, at, mode, sent, control, out)
 }
 
 // The line, from 1, where a file is refused by 50 to 54, which name no place; 0 where it isn't.
 pub fn csv_spot(file: &[u8]) -> usize
     ensures { LineTold file.now result }
 {
-    csv::csv_spot(file)
+    csv_calls::csv_spot(file)
 }

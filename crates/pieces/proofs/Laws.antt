@@ -14,10 +14,10 @@ use Rattle.rules.specs.Fetch.{span, start_of}
 use Rattle.rules.proofs.Lists.{rest-is, take_own, nth-at}
 use Rattle.rules.proofs.Split.{split-cons}
 use Rattle.rules.proofs.Modes.{length-met, take-marks}
-use Rattle.bytes.specs.Bytes.{until, is_byte}
+use Rattle.plain_bytes.specs.Bytes.{until, is_byte}
 use Rattle.scan.proofs.Laws.{take-until, after-drop, first_piece}
 use Rattle.scan.proofs.Walk.{past_next}
-use Rattle.bytes.proofs.Laws.{split-last, split-more}
+use Rattle.plain_bytes.proofs.Laws.{split-last, split-more}
 use Rattle.pieces.specs.Pieces.{PieceOf, Nearest}
 
 -- what follows a separator that acts is met from one-byte mode on

@@ -7,7 +7,7 @@ use Rattle.rules.specs.declared.Name.TheVariants.{Msh, Pv1, Spm, Obr}
 use Rattle.rules.specs.Lists.{bytes}
 use Rattle.rules.specs.Shift.{met}
 use Rattle.rules.specs.Proper.{Proper}
-use Rattle.bytes.specs.Bytes.{until}
+use Rattle.plain_bytes.specs.Bytes.{until}
 use Rattle.scan.specs.Scan.{ends, onward}
 use Rattle.fill.specs.Fill.{Lined, keyed}
 use Rattle.fill.proofs.Laws.{lined_then}

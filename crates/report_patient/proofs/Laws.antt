@@ -10,7 +10,7 @@ use Rattle.rules.specs.Shift.{met}
 use Rattle.rules.specs.Proper.{Proper}
 use Rattle.rules.specs.View.{component_of}
 use Rattle.rules.specs.Judge.{first_marked}
-use Rattle.bytes.specs.Bytes.{until, is_byte}
+use Rattle.plain_bytes.specs.Bytes.{until, is_byte}
 use Rattle.scan.specs.Scan.{ends, onward, next}
 use Rattle.components.specs.Components.{forward}
 use Rattle.closed.specs.Closed.{MarkedOf}

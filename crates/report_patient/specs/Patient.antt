@@ -4,7 +4,7 @@ use Rattle.rules.specs.declared.Delims.{Delims}
 use Rattle.rules.specs.Lists.{bytes, or_empty}
 use Rattle.rules.specs.View.{component_of}
 use Rattle.rules.specs.Judge.{kanji, kana}
-use Rattle.bytes.specs.Bytes.{until, is_byte}
+use Rattle.plain_bytes.specs.Bytes.{until, is_byte}
 use Rattle.scan.specs.Scan.{onward}
 use Rattle.fill.specs.Fill.{keyed}
 use Rattle.report.specs.Report.{field_lines}

@@ -9,7 +9,7 @@ use Rattle.rules.specs.Lists.{bytes}
 use Rattle.rules.specs.Shift.{met}
 use Rattle.rules.specs.Proper.{Proper}
 use Rattle.rules.specs.Judge.{plain_of, raw_four}
-use Rattle.bytes.specs.Bytes.{until, is_byte}
+use Rattle.plain_bytes.specs.Bytes.{until, is_byte}
 use Rattle.scan.specs.Scan.{ends, onward, next}
 use Rattle.scan.proofs.Laws.{onward-add}
 use Rattle.components.proofs.Pieces.{piece-at}

@@ -3,7 +3,7 @@ use Rattle.std.specs.Prelude.{List, [], ◌∷◌, ◌++◌, ℕ}
 use Rattle.rules.specs.declared.Delims.{Delims}
 use Rattle.rules.specs.Lists.{bytes}
 use Rattle.rules.specs.Judge.{plain_of, raw_four}
-use Rattle.bytes.specs.Bytes.{until, is_byte}
+use Rattle.plain_bytes.specs.Bytes.{until, is_byte}
 use Rattle.scan.specs.Scan.{ends, next, onward}
 use Rattle.fill.specs.Fill.{keyed}
 use Rattle.sources.specs.Sources.{field_from}

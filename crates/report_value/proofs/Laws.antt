@@ -13,7 +13,7 @@ use Rattle.rules.specs.Shift.{met}
 use Rattle.rules.specs.Escape.{unescape, unescape_at}
 use Rattle.rules.specs.Judge.{plain_of, is_sn, raw_four}
 use Rattle.rules.proofs.Logic.{cases, neither}
-use Rattle.bytes.specs.Bytes.{until, is_byte}
+use Rattle.plain_bytes.specs.Bytes.{until, is_byte}
 use Rattle.scan.specs.Scan.{ends, onward, CutOf}
 use Rattle.scan.proofs.Laws.{onward-add, first_piece}
 use Rattle.unescape.specs.Unescaped.{fill}

@@ -28,7 +28,7 @@ fn is_sn(obx2: &[u8], d: Delims) -> bool
 {
     let mut word = [0u8; 2];
     let n = fill::text(&mut word, obx2, d);
-    (n == 2) & bytes::equal(&word, b"SN")
+    (n == 2) & plain_bytes::equal(&word, b"SN")
 }
 
 // SN's four components.

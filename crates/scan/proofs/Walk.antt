@@ -20,7 +20,7 @@ use Rattle.rules.proofs.Logic.{both, not-true, not-false, never, and-true, and_a
 use Rattle.rules.proofs.Lists.{here, over, rest-is, has-cons, has-nil}
 use Rattle.rules.proofs.Modes.{one-is, met-as, byte-met, still_one, marks-here, marks-over, length-marks, met-rest}
 use Rattle.rules.proofs.Header.{printable, delim-small, delim-apart}
-use Rattle.bytes.specs.Bytes.{is_byte, until}
+use Rattle.plain_bytes.specs.Bytes.{is_byte, until}
 use Rattle.scan.specs.Scan.{meets_of, after_sep, onward, between, hidden, Hides, Units, Reaches, ends, escapes, plain_text, next_from, next, alnum, CutOf, TailOf}
 use Rattle.scan.proofs.Laws.{map-append, between_none, between-one, between_first, between-then, between-take, between-length, until-yes, until-no, until-nil, until-stops, after-drop, Far, far-is, far-escapes, ends-far, hidden-append, hidden-nil, hidden-length, hidden-bytes, hidden-until, hidden-has, hidden-plain, plain-cons, plain-nil, from-met, alnum-plain}
 

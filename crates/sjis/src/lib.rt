@@ -14,19 +14,19 @@ ghost use Rattle.sjis.specs.Items.{NextAt, PastAt, char_at, is_clear};
 pub fn clear(b: u8) -> bool
     ensures { result ≡ is_clear b }
 {
-    bytes::is_plain(b) & (b != 0x22)
+    plain_bytes::is_plain(b) & (b != 0x22)
 }
 
 fn is_lead(b: u8) -> bool
     ensures { result ≡ lead b }
 {
-    bytes::in_range(0x81, 0x9F, b) | bytes::in_range(0xE0, 0xEF, b)
+    plain_bytes::in_range(0x81, 0x9F, b) | plain_bytes::in_range(0xE0, 0xEF, b)
 }
 
 fn is_trail(b: u8) -> bool
     ensures { result ≡ trail b }
 {
-    bytes::in_range(0x40, 0x7E, b) | bytes::in_range(0x80, 0xFC, b)
+    plain_bytes::in_range(0x40, 0x7E, b) | plain_bytes::in_range(0x80, 0xFC, b)
 }
 
 // a less b, nothing where b is more.
@@ -121,7 +121,7 @@ fn good_at(raw: &[u8], i: usize) -> bool
         let j = i + 1;
         return is_trail(raw[j]);
     }
-    bytes::is_plain(raw[i])
+    plain_bytes::is_plain(raw[i])
 }
 
 // 52 of an item.

@@ -15,7 +15,7 @@ use Rattle.rules.proofs.Logic.{cases, neither}
 use Rattle.rules.proofs.Lists.{part_length, rest-is}
 use Rattle.rules.proofs.Modes.{length-met}
 use Rattle.rules.proofs.Header.{delim-small}
-use Rattle.bytes.specs.Bytes.{until, is_byte}
+use Rattle.plain_bytes.specs.Bytes.{until, is_byte}
 use Rattle.scan.specs.Scan.{ends, after_sep, onward, next_from, next, CutOf}
 use Rattle.scan.proofs.Laws.{Far, far-is, ends-far, from-met, piece-met}
 use Rattle.components.proofs.Pieces.{onward-within}

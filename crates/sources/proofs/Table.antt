@@ -11,7 +11,7 @@ use Rattle.rules.specs.Places.{places}
 use Rattle.rules.specs.View.{piece_of, field_of, component_of, first_repetition, seen_in, part_of, segment_of, seen_at, part_at}
 use Rattle.rules.specs.Row.{line, lines}
 use Rattle.rules.specs.Sheet.{key_of, lines_text}
-use Rattle.bytes.specs.Bytes.{until, is_byte}
+use Rattle.plain_bytes.specs.Bytes.{until, is_byte}
 use Rattle.scan.specs.Scan.{ends, onward, next}
 use Rattle.scan.proofs.Laws.{onward-add, first_piece}
 use Rattle.components.specs.Components.{forward}

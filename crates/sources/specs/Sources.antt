@@ -7,7 +7,7 @@ use Rattle.rules.specs.Frame.{Known}
 use Rattle.rules.specs.View.{segment_of}
 use Rattle.rules.specs.Row.{Line, lines}
 use Rattle.rules.specs.Sheet.{lines_text}
-use Rattle.bytes.specs.Bytes.{until}
+use Rattle.plain_bytes.specs.Bytes.{until}
 use Rattle.scan.specs.Scan.{ends, after_sep, onward}
 
 -- the lines of a segment of a name, by its bytes as they are met

@@ -3,7 +3,7 @@
 ghost use Rattle.std.specs.Prelude.{◌≡◌, ◌≤◌, length};
 ghost use Rattle.rules.specs.Shift.{met};
 ghost use Rattle.rules.specs.Proper.{Delim, Proper};
-ghost use Rattle.bytes.specs.Bytes.{until, is_byte};
+ghost use Rattle.plain_bytes.specs.Bytes.{until, is_byte};
 ghost use Rattle.scan.specs.Scan as Scan;
 ghost use Rattle.scan.specs.Scan.{ends, next};
 ghost use Rattle.sources.specs.Sources.{Leads};

@@ -53,6 +53,6 @@ pub fn orc(s: &[u8], d: Delims, order: &[u8]) -> SegmentRead
     let w = begin(0);
     let w = field(s, d, w, 1, One(table::CONTROLLED));
     let w = field(s, d, w, 2, One(table::ORDER));
-    let same = bytes::equal(head_of(s, w), order);
+    let same = plain_bytes::equal(head_of(s, w), order);
     ended_unless(w, same, Fault::Differs)
 }

@@ -16,8 +16,8 @@ use Rattle.rules.specs.Shift.{step}
 use Rattle.rules.specs.Frame.{delims_of, segments}
 use Rattle.rules.proofs.Logic.{not-true, not-false}
 use Rattle.rules.proofs.Lists.{here, over, rest-is, rest-inside, part_length}
-use Rattle.bytes.specs.Bytes.{is_byte, until}
-use Rattle.bytes.proofs.Laws.{split-last}
+use Rattle.plain_bytes.specs.Bytes.{is_byte, until}
+use Rattle.plain_bytes.proofs.Laws.{split-last}
 use Rattle.frame.specs.Frame.{good_of}
 use Rattle.frame.proofs.Laws.{there, segment-there}
 use Rattle.spot.specs.declared.Spot.{Spot}

@@ -5,7 +5,7 @@ use Rattle.rules.specs.declared.Mode.TheVariants.{One, Esc1, Esc2, Two, Second, 
 use Rattle.rules.specs.Lists.{count}
 use Rattle.rules.specs.Shift.{step}
 use Rattle.rules.specs.Frame.{delims_of, segments}
-use Rattle.bytes.specs.Bytes.{is_byte}
+use Rattle.plain_bytes.specs.Bytes.{is_byte}
 use Rattle.frame.specs.Frame.{good_of}
 use Rattle.spot.specs.declared.Spot.{Spot}
 

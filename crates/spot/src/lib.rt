@@ -3,7 +3,7 @@ ghost use Rattle.std.specs.Prelude.{◌≡◌, cond, ◌≤◌, length};
 ghost use Rattle.rules.specs.declared.Mode.TheVariants.{One};
 ghost use Rattle.rules.specs.Lists.{count};
 ghost use Rattle.rules.specs.Frame.{delims_of, segments};
-ghost use Rattle.bytes.specs.Bytes.{is_byte};
+ghost use Rattle.plain_bytes.specs.Bytes.{is_byte};
 ghost use Rattle.spot.specs.Spot.{is_bad, kept_bytes, good_bytes, place_at, longest_text, SpotTold};
 
 use frame::all_segments;
@@ -119,7 +119,7 @@ fn good_bytes(m: &[u8], field: u8) -> usize
     let mut at = 0;
     while at < m.len() {
         let rest = &m[at..];
-        let n = bytes::before(rest, 0x0D);
+        let n = plain_bytes::before(rest, 0x0D);
         if n == rest.len() {
             return at;
         }

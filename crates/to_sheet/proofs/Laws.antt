@@ -29,8 +29,8 @@ use Rattle.rules.proofs.Lists.{rest-is, rest-further}
 use Rattle.rules.proofs.Split.{ended-append}
 use Rattle.rules.proofs.Header.{header}
 use Rattle.rules.proofs.Where.{accepted-passes}
-use Rattle.bytes.specs.Bytes.{until}
-use Rattle.bytes.specs.Bytes as Bytes
+use Rattle.plain_bytes.specs.Bytes.{until}
+use Rattle.plain_bytes.specs.Bytes as Bytes
 use Rattle.unescape.specs.Unescaped.{fill}
 use Rattle.frame.specs.Frame.{good_of, frame_of, Sound}
 use Rattle.frame.proofs.Rules.{check-refused, sound}

@@ -50,7 +50,7 @@ fn pass(out: &mut [u8], m: &[u8], d: Delims) -> usize
     let mut at = 0;
     while at < m.len() {
         let rest = &m[at..];
-        let n = bytes::before(rest, 0x0D);
+        let n = plain_bytes::before(rest, 0x0D);
         let s = &rest[..n];
         at += n + 1;
         written = section::put(out, written, s, d);

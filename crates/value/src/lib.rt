@@ -107,7 +107,7 @@ fn capitals(v: &[u8], n: usize) -> bool
     if n < v.len() {
         return false;
     }
-    bytes::all_capitals_or_digits(v)
+    plain_bytes::all_capitals_or_digits(v)
 }
 
 // ---- words
@@ -116,74 +116,74 @@ fn capitals(v: &[u8], n: usize) -> bool
 fn is_mode(v: &[u8]) -> bool
     ensures { result ≡ is_one_of (text_of Words.Modes) v.now }
 {
-    bytes::equal(v, b"P") | bytes::equal(v, b"T") | bytes::equal(v, b"D")
+    plain_bytes::equal(v, b"P") | plain_bytes::equal(v, b"T") | plain_bytes::equal(v, b"D")
 }
 
 // PID-8.
 fn is_sex(v: &[u8]) -> bool
     ensures { result ≡ is_one_of (text_of Words.Sexes) v.now }
 {
-    bytes::equal(v, b"M") | bytes::equal(v, b"F") | bytes::equal(v, b"O") | bytes::equal(v, b"U")
+    plain_bytes::equal(v, b"M") | plain_bytes::equal(v, b"F") | plain_bytes::equal(v, b"O") | plain_bytes::equal(v, b"U")
 }
 
 // PV1-2.
 fn is_class(v: &[u8]) -> bool
     ensures { result ≡ is_one_of (text_of Words.Classes) v.now }
 {
-    bytes::equal(v, b"I") | bytes::equal(v, b"O")
+    plain_bytes::equal(v, b"I") | plain_bytes::equal(v, b"O")
 }
 
 // OBX-2.
 fn is_type(v: &[u8]) -> bool
     ensures { result ≡ is_one_of (text_of Words.Types) v.now }
 {
-    bytes::equal(v, b"NM") | bytes::equal(v, b"SN") | bytes::equal(v, b"ST")
+    plain_bytes::equal(v, b"NM") | plain_bytes::equal(v, b"SN") | plain_bytes::equal(v, b"ST")
 }
 
 // OBX-8.
 fn is_flag(v: &[u8]) -> bool
     ensures { result ≡ is_one_of (text_of Words.Flags) v.now }
 {
-    bytes::equal(v, b"L")
-        | bytes::equal(v, b"H")
-        | bytes::equal(v, b"LL")
-        | bytes::equal(v, b"HH")
-        | bytes::equal(v, b"N")
-        | bytes::equal(v, b"A")
+    plain_bytes::equal(v, b"L")
+        | plain_bytes::equal(v, b"H")
+        | plain_bytes::equal(v, b"LL")
+        | plain_bytes::equal(v, b"HH")
+        | plain_bytes::equal(v, b"N")
+        | plain_bytes::equal(v, b"A")
 }
 
 // OBX-11.
 fn is_status(v: &[u8]) -> bool
     ensures { result ≡ is_one_of (text_of Words.Statuses) v.now }
 {
-    bytes::equal(v, b"F")
-        | bytes::equal(v, b"P")
-        | bytes::equal(v, b"C")
-        | bytes::equal(v, b"I")
-        | bytes::equal(v, b"X")
+    plain_bytes::equal(v, b"F")
+        | plain_bytes::equal(v, b"P")
+        | plain_bytes::equal(v, b"C")
+        | plain_bytes::equal(v, b"I")
+        | plain_bytes::equal(v, b"X")
 }
 
 // SN, component 1.
 fn is_comparator(v: &[u8]) -> bool
     ensures { result ≡ is_one_of (text_of Words.Comparators) v.now }
 {
-    bytes::equal(v, b">")
-        | bytes::equal(v, b"<")
-        | bytes::equal(v, b">=")
-        | bytes::equal(v, b"<=")
-        | bytes::equal(v, b"=")
-        | bytes::equal(v, b"<>")
+    plain_bytes::equal(v, b">")
+        | plain_bytes::equal(v, b"<")
+        | plain_bytes::equal(v, b">=")
+        | plain_bytes::equal(v, b"<=")
+        | plain_bytes::equal(v, b"=")
+        | plain_bytes::equal(v, b"<>")
 }
 
 // SN, component 3.
 fn is_joiner(v: &[u8]) -> bool
     ensures { result ≡ is_one_of (text_of Words.Joiners) v.now }
 {
-    bytes::equal(v, b"-")
-        | bytes::equal(v, b"+")
-        | bytes::equal(v, b"/")
-        | bytes::equal(v, b".")
-        | bytes::equal(v, b":")
+    plain_bytes::equal(v, b"-")
+        | plain_bytes::equal(v, b"+")
+        | plain_bytes::equal(v, b"/")
+        | plain_bytes::equal(v, b".")
+        | plain_bytes::equal(v, b":")
 }
 
 // Whether v is one of the words of a place.
@@ -191,20 +191,20 @@ fn is_word(words: Words, v: &[u8]) -> bool
     ensures { result ≡ is_one_of (text_of words) v.now }
 {
     match words {
-        Words::Oul => bytes::equal(v, b"OUL"),
-        Words::R22 => bytes::equal(v, b"R22"),
-        Words::OulR22 => bytes::equal(v, b"OUL_R22"),
+        Words::Oul => plain_bytes::equal(v, b"OUL"),
+        Words::R22 => plain_bytes::equal(v, b"R22"),
+        Words::OulR22 => plain_bytes::equal(v, b"OUL_R22"),
         Words::Modes => is_mode(v),
-        Words::Version => bytes::equal(v, b"2.5"),
+        Words::Version => plain_bytes::equal(v, b"2.5"),
         Words::Sexes => is_sex(v),
         Words::Classes => is_class(v),
-        Words::Jc10 => bytes::equal(v, b"JC10"),
-        Words::Group => bytes::equal(v, b"99003"),
-        Words::Re => bytes::equal(v, b"RE"),
+        Words::Jc10 => plain_bytes::equal(v, b"JC10"),
+        Words::Group => plain_bytes::equal(v, b"99003"),
+        Words::Re => plain_bytes::equal(v, b"RE"),
         Words::Types => is_type(v),
         Words::Flags => is_flag(v),
         Words::Statuses => is_status(v),
-        Words::Blank => bytes::equal(v, b""),
+        Words::Blank => plain_bytes::equal(v, b""),
         Words::Comparators => is_comparator(v),
         Words::Joiners => is_joiner(v),
     }
@@ -221,7 +221,7 @@ fn holds(rule: Rule, v: &[u8]) -> bool
         Rule::Date => calendar::is_date(v),
         Rule::Number => number::is_number(v),
         Rule::Text(_) => true,
-        Rule::Digits(n) => bytes::digits(v, n),
+        Rule::Digits(n) => plain_bytes::digits(v, n),
         Rule::Capitals(n) => capitals(v, n),
         Rule::OneOf(words) => is_word(words, v),
     }
@@ -267,10 +267,10 @@ pub fn fault_of(required: bool, rule: Rule, v: &[u8]) -> Fault
 pub fn part_rules(obx2: &[u8]) -> Parts
     ensures { rules_of result ≡ value_rules obx2.now }
 {
-    if bytes::equal(obx2, b"SN") {
+    if plain_bytes::equal(obx2, b"SN") {
         return table::SN;
     }
-    if bytes::equal(obx2, b"NM") {
+    if plain_bytes::equal(obx2, b"NM") {
         return table::NM;
     }
     table::ST
@@ -294,7 +294,7 @@ pub fn unjoined(join: bool, second: bool) -> bool
 pub fn agrees(status: &[u8], number: bool, parts: bool) -> bool
     ensures { (c : Four (List ℕ)) → number ≡ filled c.value → parts ≡ Judge.beside c → result ≡ Judge.agrees status.now c }
 {
-    if bytes::equal(status, b"F") | bytes::equal(status, b"P") | bytes::equal(status, b"C") {
+    if plain_bytes::equal(status, b"F") | plain_bytes::equal(status, b"P") | plain_bytes::equal(status, b"C") {
         return number;
     }
     !number & !parts

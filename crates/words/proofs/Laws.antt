@@ -9,7 +9,7 @@ use Rattle.rules.specs.declared.Kind.{Kind}
 use Rattle.rules.specs.declared.Name.{Name}
 use Rattle.rules.specs.Lists.{bytes}
 use Rattle.rules.proofs.Logic.{cases}
-use Rattle.bytes.specs.Bytes.{until, is_byte}
+use Rattle.plain_bytes.specs.Bytes.{until, is_byte}
 use Rattle.csv_rules.specs.declared.FileFault.{FileFault}
 use Rattle.words.specs.declared.Where.{Where}
 use Rattle.words.specs.declared.Breach.{Breach}

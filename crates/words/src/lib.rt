@@ -1,7 +1,7 @@
 // The words of a refusal, and which place is told before them. The texts are those of the table `Words`; each ends at a bar.
 ghost use Rattle.std.specs.Prelude.{◌≡◌};
 ghost use Rattle.rules.specs.Lists.{bytes};
-ghost use Rattle.bytes.specs.Bytes.{until, is_byte};
+ghost use Rattle.plain_bytes.specs.Bytes.{until, is_byte};
 ghost use Rattle.words.specs.Words.{saying, breach_words, breach_of, words_of, fault_words};
 
 use csv_rules::FileFault;

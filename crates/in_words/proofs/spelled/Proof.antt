@@ -1,7 +1,7 @@
 -- `in_words::spelled` meets its contract. Assumes nothing.
 use Rattle.rules.specs.Lists.{bytes}
 use Rattle.rules.specs.Frame.{spelling}
-use Rattle.bytes.specs.Bytes.{until}
+use Rattle.plain_bytes.specs.Bytes.{until}
 use Rattle.in_words.proofs.Laws.{spelled_is}
 use borrow.Author.Rules.{rules}
 use Rattle.in_words.proofs.spelled.Statement.{statement}

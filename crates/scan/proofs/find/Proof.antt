@@ -2,7 +2,7 @@
 use borrow.Author.Rules.{rules}
 use Prim.Native.Nat.{◌-◌, ◌≤◌}
 use lib.ListN.{length}
-use Rattle.bytes.specs.Bytes.{is_byte}
+use Rattle.plain_bytes.specs.Bytes.{is_byte}
 use Rattle.scan.proofs.Walk.{Before, find-on, find-plain, find-here, find-over}
 use Rattle.scan.proofs.find.Statement.{statement}
 use Rattle.scan.proofs.find.Tie as tie

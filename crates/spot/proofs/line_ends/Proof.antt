@@ -4,7 +4,7 @@ use Prim.Native.Nat.{◌+◌, ◌-◌, ◌≤◌}
 use mathlib.Core.Path.{◌≡◌}
 use lib.ListN.{length, drop}
 use Rattle.rules.specs.Lists.{count}
-use Rattle.bytes.specs.Bytes.{is_byte}
+use Rattle.plain_bytes.specs.Bytes.{is_byte}
 use Rattle.spot.proofs.Laws.{ends_on, ends-over}
 use Rattle.spot.proofs.line_ends.Statement.{statement}
 use Rattle.spot.proofs.line_ends.Tie as tie

@@ -1,6 +1,6 @@
 -- `words::breach_words` meets its contract. Assumes nothing.
 use Rattle.rules.specs.Lists.{bytes}
-use Rattle.bytes.specs.Bytes.{until}
+use Rattle.plain_bytes.specs.Bytes.{until}
 use Rattle.words.specs.Words.{saying, breach_words}
 use Rattle.words.proofs.Laws.{breach-words}
 use borrow.Author.Rules.{rules}

@@ -1,6 +1,6 @@
 -- `words::of_fault` meets its contract. Assumes nothing.
 use Rattle.rules.specs.Lists.{bytes}
-use Rattle.bytes.specs.Bytes.{until}
+use Rattle.plain_bytes.specs.Bytes.{until}
 use Rattle.words.specs.Words.{fault_words}
 use Rattle.words.proofs.Laws.{fault-words}
 use borrow.Author.Rules.{rules}

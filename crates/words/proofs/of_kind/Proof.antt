@@ -1,6 +1,6 @@
 -- `words::of_kind` meets its contract. Assumes nothing.
 use Rattle.rules.specs.Lists.{bytes}
-use Rattle.bytes.specs.Bytes.{until}
+use Rattle.plain_bytes.specs.Bytes.{until}
 use Rattle.words.specs.Words.{saying, words_of}
 use Rattle.words.proofs.Laws.{kind-words}
 use borrow.Author.Rules.{rules}

@@ -1,0 +1,238 @@
+// The calls on the commercial centre's file (Req 01): how many sheets it holds, one of them, the one that begins at a place; and where the file is
+// refused. They take any bytes, any ordinal and any place.
+ghost use Rattle.std.specs.Prelude.{◌≡◌, ◌<◌, length};
+ghost use Rattle.rules.specs.Told.{gives};
+ghost use Rattle.csv_rules.specs.Answers.{SheetCall};
+ghost use Rattle.csv_rules.specs.Sheets.{csv_count, place_after};
+ghost use Rattle.csv_rules.specs.Promises.{SheetsCounted, LineTold, CsvSheetWritten, NextSheetWritten};
+ghost use Rattle.csv_rules.specs.Claims.{place_of};
+ghost use Rattle.csv_runs.specs.Sheet.{sheet_at};
+ghost use Rattle.csv_calls.specs.Calls.{Convertible, copied_told, made_told};
+
+use csv_check::FileVerdict;
+use csv_rules::{Counted, CsvSheets, FileFault, Made, Next};
+use rules::{Kind, Refusal};
+use sheets::SheetVerdict;
+
+// ---- the whole file
+// How many sheets a file holds, and where its first row stands; or 50 to 54.
+pub fn csv_count(file: &[u8]) -> Counted
+    ensures { SheetsCounted file.now result }
+{
+    match csv_check::verdict_on(file) {
+        FileVerdict::Right(sheets) => Counted::Sheets(sheets),
+        FileVerdict::Wrong(blame) => {
+            let fault = blame.fault;
+            Counted::NotCounted(fault)
+        }
+    }
+}
+
+// The line where a file is refused, from 1; 0 where it isn't.
+pub fn csv_spot(file: &[u8]) -> usize
+    ensures { LineTold file.now result }
+{
+    match csv_check::verdict_on(file) {
+        FileVerdict::Right(_) => 0,
+        FileVerdict::Wrong(blame) => blame.line,
+    }
+}
+
+// ---- one sheet
+fn refused(kind: Kind) -> Made
+    ensures { result ≡ Made.Unfit (record { kind = kind; segment = 0; field = 0 }) }
+{
+    Made::Unfit(Refusal {
+        kind,
+        segment: 0,
+        field: 0,
+    })
+}
+
+// One byte past the limit of a sheet, so that a longer one gives 40.
+fn room() -> [u8; 65537]
+    ensures { length result ≡ 65537 }
+{
+    [0; 65537]
+}
+
+// A right sheet, copied where there is room: 45.
+fn copied(sheet: &[u8], out: &mut [u8]) -> Made
+    ensures { SheetCall (copied_told sheet.now (length out.old)) out.old result out.new }
+{
+    if out.len() < sheet.len() {
+        return refused(Kind::Room);
+    }
+    Made::Sheet(writer::put(out, sheet))
+}
+
+// A sheet that was made is judged before it is copied: 40 to 43, 45.
+fn handed(sheet: &[u8], out: &mut [u8]) -> Made
+    ensures { SheetCall (made_told sheet.now (length out.old)) out.old result out.new }
+{
+    match sheets::judge(sheet) {
+        SheetVerdict::Wrong(refusal) => Made::Unfit(refusal),
+        SheetVerdict::Right => copied(sheet, out),
+    }
+}
+
+// A sheet that the small buffer can't hold, made once more in one that can: its rows convert.
+fn large(file: &[u8], at: usize, mode: &[u8], sent: &[u8], control: &[u8], out: &mut [u8]) -> Made
+    requires { (at < length file.now) × Convertible file.now at }
+    ensures { SheetCall (made_told (sheet_at file.now at (record { mode = mode.entry.now; sent = sent.now; control = control.now })) (length out.old)) out.old result out.new }
+{
+    let mut sheet = room();
+    made_in(&mut sheet, file, at, mode, sent, control, out)
+}
+
+fn made_in(
+    sheet: &mut [u8],
+    file: &[u8],
+    at: usize,
+    mode: &[u8],
+    sent: &[u8],
+    control: &[u8],
+    out: &mut [u8],
+) -> Made
+    requires { (length sheet.old ≡ 65537) × (at < length file.now) × Convertible file.now at }
+    ensures { SheetCall (made_told (sheet_at file.now at (record { mode = mode.entry.now; sent = sent.now; control = control.now })) (length out.old)) out.old result out.new }
+{
+    let put = csv_runs::put_sheet(sheet, file, at, mode, sent, control);
+    let end = put.end;
+    handed(&sheet[..end], out)
+}
+
+// The sheet that begins at a place, and the place behind its rows: 50, 30; 52 and 53 of its rows; its own 40 to 43; 45. It is made in a buffer of
+// its own, since a refusal leaves the lent one, while its rows are walked. Most sheets are small.
+pub fn csv_next(
+    file: &[u8],
+    at: usize,
+    mode: &[u8],
+    sent: &[u8],
+    control: &[u8],
+    out: &mut [u8],
+) -> Next
+    ensures { NextSheetWritten file.now at (record { mode = mode.entry.now; sent = sent.now; control = control.now }) out.old result out.new }
+{
+    if file.len() <= at {
+        return Next {
+            made: refused(Kind::NoOrdinal),
+            place: file.len(),
+        };
+    }
+    let mut sheet = [0u8; 8192];
+    next_in(&mut sheet, file, at, mode, sent, control, out)
+}
+
+fn next_in(
+    sheet: &mut [u8],
+    file: &[u8],
+    at: usize,
+    mode: &[u8],
+    sent: &[u8],
+    control: &[u8],
+    out: &mut [u8],
+) -> Next
+    requires { at < length file.now }
+    ensures { NextSheetWritten file.now at (record { mode = mode.entry.now; sent = sent.now; control = control.now }) out.old result out.new }
+{
+    let put = csv_runs::put_sheet(sheet, file, at, mode, sent, control);
+    let run = put.run;
+    if run.bad {
+        return Next {
+            made: Made::Faulty(FileFault::Quoting),
+            place: file.len(),
+        };
+    }
+    let place = at + run.size;
+    if !run.good {
+        return Next {
+            made: Made::Faulty(FileFault::Unconverted),
+            place,
+        };
+    }
+    if run.differs {
+        return Next {
+            made: Made::Faulty(FileFault::HeaderDiffers),
+            place,
+        };
+    }
+    let end = put.end;
+    if end < sheet.len() {
+        let made = handed(&sheet[..end], out);
+        return Next { made, place };
+    }
+    let made = large(file, at, mode, sent, control, out);
+    Next { made, place }
+}
+
+// ---- the which-th sheet
+fn place_after(file: &[u8], at: usize) -> usize
+    ensures { result ≡ place_after file.now at }
+{
+    if file.len() <= at {
+        return file.len();
+    }
+    let run = csv_runs::run(file, at);
+    if run.bad {
+        return file.len();
+    }
+    at + run.size
+}
+
+// The place behind n sheets.
+fn place_behind(file: &[u8], first: usize, n: usize) -> usize
+    ensures { result ≡ place_of file.now first n }
+{
+    let mut at = first;
+    let mut left = n;
+    while 0 < left {
+        at = place_after(file, at);
+        left -= 1;
+    }
+    at
+}
+
+// The which-th sheet, from 1, into the lent buffer: 50 to 54, 30, the sheet's own 40 to 43, 45.
+pub fn csv_sheet(
+    file: &[u8],
+    which: usize,
+    mode: &[u8],
+    sent: &[u8],
+    control: &[u8],
+    out: &mut [u8],
+) -> Made
+    ensures { CsvSheetWritten file.now which (record { mode = mode.entry.now; sent = sent.now; control = control.now }) out.old result out.new }
+{
+    match csv_check::verdict_on(file) {
+        FileVerdict::Wrong(blame) => {
+            let fault = blame.fault;
+            Made::Faulty(fault)
+        }
+        FileVerdict::Right(sheets) => sheet_of(file, sheets, which, mode, sent, control, out),
+    }
+}
+
+// The same of a file that is right.
+fn sheet_of(
+    file: &[u8],
+    sheets: CsvSheets,
+    which: usize,
+    mode: &[u8],
+    sent: &[u8],
+    control: &[u8],
+    out: &mut [u8],
+) -> Made
+    requires { csv_count file.now ≡ gives sheets }
+    ensures { CsvSheetWritten file.now which (record { mode = mode.entry.now; sent = sent.now; control = control.now }) out.old result out.new }
+{
+    if which == 0 {
+        return refused(Kind::NoOrdinal);
+    }
+    if sheets.count < which {
+        return refused(Kind::NoOrdinal);
+    }
+    let at = place_behind(file, sheets.first, which - 1);
+    let next = csv_next(file, at, mode, sent, control, out);
+    next.made
+}
