@@ -1,4 +1,6 @@
 // "Time is YYYYMMDDHHMMSS, date YYYYMMDD, years 1900–2099, Gregorian, 00–23, 00–59, 00–59."
+#![tactic(auto)]
+
 ghost use Rattle.std.specs.Prelude.{◌≡◌, ◌+◌, ◌-◌, ◌<◌, ◌≤◌, length};
 ghost use Rattle.rules.specs.Shift.{within};
 ghost use Rattle.rules.specs.Value as Val;

@@ -15,7 +15,7 @@ use value::Place::{May, Must};
 use value::{Fault, earlier, table};
 
 // A closed field: its first fault, and its length.
-#[derive(Drop)]
+#[derive(Clone, Copy)]
 pub struct ClosedRead {
     pub fault: Fault,
     pub len: usize,

@@ -34,7 +34,7 @@ fn judge_clean_place(raw: &[u8], place: Place) -> Fault
 }
 
 // The component at the start of t: its fault and its length.
-#[derive(Drop)]
+#[derive(Clone, Copy)]
 pub struct Judged {
     pub fault: Fault,
     pub len: usize,
@@ -58,7 +58,7 @@ pub fn component(t: &[u8], d: Delims, place: Place) -> Judged
 // ---- the first components of a field
 
 // The field at the start of t: whether it repeats, the first fault of its components, the length of the first one and its own.
-#[derive(Drop)]
+#[derive(Clone, Copy)]
 pub struct Components {
     pub repeats: bool,
     pub fault: Fault,

@@ -83,13 +83,13 @@ fn counted(n: Numbers, name: Name) -> Numbers
 // ---- a pass over the sheet
 
 // How many bytes and segments a message has.
-#[derive(Drop)]
+#[derive(Clone, Copy)]
 pub struct Size {
     pub bytes: usize,
     pub segments: usize,
 }
 
-#[derive(Drop)]
+#[derive(Clone, Copy)]
 pub enum Passed {
     All(Size),
     Not(Refusal),

@@ -16,7 +16,7 @@ use csv_rules::{CsvSheets, FileFault};
 
 // Whether the quoting is broken; the lines before the end, or before the one that breaks it; where 51 and 52 are met, by line, 0 where they aren't;
 // 53 and 54, where none of these is met, as far as the table keeps the numbers; where the first row begins.
-#[derive(Drop)]
+#[derive(Clone, Copy)]
 struct Looked {
     broken: bool,
     lines: usize,
@@ -27,7 +27,7 @@ struct Looked {
 }
 
 // The column count: whether it is a number from 7 up; the number, and 10,000,000,000,000,000,000 for it and all above: no row has so many items.
-#[derive(Drop)]
+#[derive(Clone, Copy)]
 struct Columns {
     counts: bool,
     number: usize,
@@ -227,14 +227,14 @@ fn look(file: &[u8]) -> Looked
 }
 
 // A fault of the file, and the line where it is met.
-#[derive(Drop)]
+#[derive(Clone, Copy)]
 pub struct Blame {
     pub fault: FileFault,
     pub line: usize,
 }
 
 // What is told of a file: its sheets, or its fault.
-#[derive(Drop)]
+#[derive(Clone, Copy)]
 pub enum FileVerdict {
     Right(CsvSheets),
     Wrong(Blame),

@@ -13,7 +13,7 @@ ghost use Rattle.csv_keys.specs.Ways.{blank_at, code_of, item_in, AsIs, Word, Ne
 use value::Rule;
 
 // How a column's text becomes a value, as the table of columns has it.
-#[derive(Drop)]
+#[derive(Clone, Copy)]
 pub enum How {
     Text,
     UpToBlank,
@@ -26,7 +26,7 @@ pub enum How {
 }
 
 // A key's value before it is converted: the first bytes of `lead`, then a stretch of the file.
-#[derive(Drop)]
+#[derive(Clone, Copy)]
 pub struct KeyAt {
     pub lead: [u8; 15],
     pub filled: usize,
@@ -251,7 +251,7 @@ pub fn key(file: &[u8], spans: &[usize; 90], how: How, column: usize) -> KeyAt
 // ---- comparing
 
 // A byte of a key, and the place behind it.
-#[derive(Drop)]
+#[derive(Clone, Copy)]
 struct Step {
     byte: u8,
     next: usize,

@@ -8,7 +8,7 @@ ghost use Rattle.csv_places.specs.Places.{items_at, stirred, hash_of, slot_fille
 ghost use Rattle.csv_places.specs.Slots.{Nothing, free_slot};
 
 // What is kept of a number.
-#[derive(Drop)]
+#[derive(Clone, Copy)]
 pub enum Slot {
     Held(usize), // a row with it begins at this place
     Free(usize), // nothing; this slot is free

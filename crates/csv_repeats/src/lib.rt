@@ -9,7 +9,7 @@ use csv_places::Slot;
 
 // Where 53 and 54 are met so far, by line, 0 where they aren't; how many runs there are; where the first row begins whose number isn't kept, and
 // its line, 0 where every number is. From that row on no more numbers are kept.
-#[derive(Drop)]
+#[derive(Clone, Copy)]
 pub struct Repeated {
     pub differs: usize,
     pub returns: usize,
@@ -19,7 +19,7 @@ pub struct Repeated {
 }
 
 // How a row stands to the rows before it.
-#[derive(Drop)]
+#[derive(Clone, Copy)]
 pub enum Standing {
     Same, // it goes on with the number of the row before
     New, // no row before that is kept has its number
@@ -126,7 +126,7 @@ fn unkept_with(at: usize, kept: bool) -> usize
 }
 
 // How a row stands, and where the first row begins whose number isn't kept.
-#[derive(Drop)]
+#[derive(Clone, Copy)]
 struct Stood {
     standing: Standing,
     unkept: usize,

@@ -10,7 +10,7 @@ ghost use Rattle.csv_rounds.specs.Settled.{Unsettled, Settled};
 use csv_repeats::Repeated;
 
 // Where 53 and 54 are met, by line, 0 where they aren't.
-#[derive(Drop)]
+#[derive(Clone, Copy)]
 pub struct Met {
     pub differs: usize,
     pub returns: usize,

@@ -6,7 +6,7 @@ ghost use Rattle.csv_rows.specs.Plain.{plain_at, comma_at, PlainItem};
 ghost use Rattle.csv_rows.specs.Rows.{closing_at, quote_first, noted_item, item_bytes, Inside, BehindAt, ItemAt, RowIs};
 
 // What stands behind an item's closing quote: its bytes; whether another item follows; whether the quoting is broken.
-#[derive(Drop)]
+#[derive(Clone, Copy)]
 struct Behind {
     size: usize,
     goes: bool,
@@ -15,7 +15,7 @@ struct Behind {
 
 // An item at a place: where its bytes stand in the file, quotes doubled; its bytes with quotes, and comma or CR LF. plain: each byte is seen to
 // stand alone, so that the item converts.
-#[derive(Drop)]
+#[derive(Clone, Copy)]
 struct ItemFound {
     start: usize,
     len: usize,
@@ -37,7 +37,7 @@ const NONE: ItemFound = ItemFound {
 
 // A row: where its first 45 items lie in the file, two numbers an item, where its bytes begin and how many they are, quotes doubled (none: no
 // bytes); the row's bytes, CR LF too; how many items it has; whether each converts; whether its quoting is broken.
-#[derive(Drop)]
+#[derive(Clone, Copy)]
 pub struct RowAt {
     pub spans: [usize; 90],
     pub size: usize,

@@ -5,7 +5,7 @@ ghost use Rattle.csv_rules.specs.Answers.{fault_number};
 use rules::Refusal;
 
 // Why a file is refused: a case for each number of the request.
-#[derive(Drop)]
+#[derive(Clone, Copy)]
 pub enum FileFault {
     Quoting, // 50
     Columns, // 51
@@ -15,20 +15,20 @@ pub enum FileFault {
 }
 
 // How many sheets a file holds, and the place of its first row.
-#[derive(Drop)]
+#[derive(Clone, Copy)]
 pub struct CsvSheets {
     pub count: usize,
     pub first: usize,
 }
 
-#[derive(Drop)]
+#[derive(Clone, Copy)]
 pub enum Counted {
     Sheets(CsvSheets),
     NotCounted(FileFault),
 }
 
 // A sheet out of a file, by its length; the file's refusal; or another: no such sheet, the sheet's own, a buffer too short.
-#[derive(Drop)]
+#[derive(Clone, Copy)]
 pub enum Made {
     Sheet(usize),
     Unfit(Refusal),
@@ -36,7 +36,7 @@ pub enum Made {
 }
 
 // A sheet of a file that is gone through sheet by sheet, and the place behind its rows.
-#[derive(Drop)]
+#[derive(Clone, Copy)]
 pub struct Next {
     pub made: Made,
     pub place: usize,

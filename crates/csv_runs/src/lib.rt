@@ -8,7 +8,7 @@ ghost use Rattle.csv_runs.specs.Sheet.{RowReady, PutIs};
 
 // A run of rows with one number: its bytes; whether each row converts; whether two rows differ in a header key; whether there is none, since the
 // line at the place breaks the quoting.
-#[derive(Drop)]
+#[derive(Clone, Copy)]
 pub struct RunAt {
     pub size: usize,
     pub good: bool,
@@ -17,7 +17,7 @@ pub struct RunAt {
 }
 
 // A run, and where its sheet ends in the buffer.
-#[derive(Drop)]
+#[derive(Clone, Copy)]
 pub struct PutAt {
     pub run: RunAt,
     pub end: usize,
@@ -33,7 +33,7 @@ const NONE: RunAt = RunAt {
 
 // What stands behind some rows of a run: whether it is one more row; where its items lie; its bytes; whether it converts; whether it differs from
 // the first in a header key.
-#[derive(Drop)]
+#[derive(Clone, Copy)]
 struct After {
     spans: [usize; 90],
     size: usize,

@@ -13,7 +13,7 @@ use rules::Delims;
 use value::{Fault, Place};
 
 // What is read of a field: its component 1; some of its first three; the whole of MSH-18 or of PID-5.
-#[derive(Drop)]
+#[derive(Clone, Copy)]
 pub enum Form {
     One(Place),
     Three(Place, Place, Place),
@@ -34,7 +34,7 @@ fn repeated(repeats: bool, f: Fault) -> Fault
 }
 
 // The field at the start of t: its fault, the length of its first component where that is read, and its own.
-#[derive(Drop)]
+#[derive(Clone, Copy)]
 struct Read {
     fault: Fault,
     head: usize,
@@ -80,7 +80,7 @@ fn judge_field(t: &[u8], d: Delims, form: Form) -> Read
 
 // How far a segment is judged: the first fault, if any; the last field that was judged; where it starts, how long its first component is
 // where that is read, and where it ends.
-#[derive(Drop)]
+#[derive(Clone, Copy)]
 pub struct Walk {
     pub fault: Fault,
     pub field: usize,
@@ -152,7 +152,7 @@ pub fn head_of(s: &[u8], w: Walk) -> &[u8]
 // ---- the end of a segment
 
 // A segment: its first fault, and the fault's field; of an OBR also where its order number lies.
-#[derive(Drop)]
+#[derive(Clone, Copy)]
 pub struct SegmentRead {
     pub fault: Fault,
     pub field: usize,

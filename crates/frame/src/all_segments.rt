@@ -7,7 +7,7 @@ use order::Reached;
 use rules::{Counts, Name};
 
 // What a pass has met so far.
-#[derive(Drop)]
+#[derive(Clone, Copy)]
 pub struct Seen {
     pub segments: usize, // of all names
     pub known: usize,
@@ -16,7 +16,7 @@ pub struct Seen {
     pub counts: Counts,
 }
 
-#[derive(Drop)]
+#[derive(Clone, Copy)]
 pub enum SegmentsPassed {
     Whole(Seen),
     Bad,

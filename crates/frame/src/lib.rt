@@ -8,13 +8,13 @@ use rules::{Counts, Delims, Kind, Refusal};
 pub mod all_segments;
 
 // What a message that passes 10 to 15 is read with, and what the check gives in the end.
-#[derive(Drop)]
+#[derive(Clone, Copy)]
 pub struct Opened {
     pub delims: Delims,
     pub counts: Counts,
 }
 
-#[derive(Drop)]
+#[derive(Clone, Copy)]
 pub enum Framed {
     Open(Opened),
     Not(Refusal),

@@ -12,7 +12,7 @@ use value::{Place, Rule};
 pub mod keys;
 
 // On the lines of a group, by their place in it, from 0.
-#[derive(Drop)]
+#[derive(Clone, Copy)]
 pub enum Verdict {
     Fine,
     Key(usize), // 42

@@ -1,11 +1,13 @@
 // NM: "an optional sign, then digits with at most one point before, among or after them, at least one digit"
+#![tactic(auto)]
+
 ghost use Rattle.std.specs.Prelude.{◌≡◌};
 ghost use mathlib.Core.List.{foldl};
 ghost use Rattle.rules.specs.Value as Val;
 ghost use Rattle.number.specs.Number.{read_byte, none_read};
 
 // What the bytes of a number have shown so far.
-#[derive(Drop)]
+#[derive(Clone, Copy)]
 struct Spelling {
     good: bool, // only digits, and at most one point
     point: bool, // a point

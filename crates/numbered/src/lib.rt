@@ -11,7 +11,7 @@ use lines::keys;
 use rules::{Delims, Name};
 
 // "SPM-1 and OBX-1 count from 1, OBX-1 anew in each order".
-#[derive(Drop)]
+#[derive(Clone, Copy)]
 pub struct Numbers {
     pub specimen: usize,
     pub result: usize,

@@ -15,7 +15,7 @@ use rules::Delims;
 use value::{Fault, table};
 
 // How far an OBX is judged, at its value; whether that is filled, and whether a part beside it is.
-#[derive(Drop)]
+#[derive(Clone, Copy)]
 struct Valued {
     walk: Walk,
     filled: bool,

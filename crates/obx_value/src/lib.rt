@@ -52,7 +52,7 @@ fn unjoined(joiner: bool, second: bool) -> Fault
 // ---- NM and ST: one component
 
 // Its first fault, its length, whether the value is filled and whether a part beside it is.
-#[derive(Drop)]
+#[derive(Clone, Copy)]
 pub struct ValueRead {
     pub fault: Fault,
     pub len: usize,
@@ -81,7 +81,7 @@ fn single(t: &[u8], d: Delims, rules: Parts) -> ValueRead
 
 // The joiner and the second number: the fault of the field's shape, their own first fault, the length up to the field's end, and
 // which of the two is filled.
-#[derive(Drop)]
+#[derive(Clone, Copy)]
 struct LastRead {
     form: Fault,
     fault: Fault,
@@ -114,7 +114,7 @@ fn last_two(t: &[u8], d: Delims, rules: Parts) -> LastRead
 }
 
 // The number and what follows it, where a comparator is filled or not; whether the number is filled, and whether a part beside it is.
-#[derive(Drop)]
+#[derive(Clone, Copy)]
 struct NumberRead {
     form: Fault,
     fault: Fault,

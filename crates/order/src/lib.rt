@@ -6,7 +6,7 @@ ghost use Rattle.order.specs.Order.{reached_of};
 use rules::Name;
 
 // Where some names have led: the last of them, `Other` at the start.
-#[derive(Drop)]
+#[derive(Clone, Copy)]
 pub struct Reached {
     pub last: Name,
 }

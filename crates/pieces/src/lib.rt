@@ -6,7 +6,7 @@ ghost use Rattle.pieces.specs.Pieces.{PieceOf, Nearest};
 use rules::Span;
 
 // A piece: which one it is, from 0, where it begins, and how long it is.
-#[derive(Drop)]
+#[derive(Clone, Copy)]
 pub struct Piece {
     pub number: usize,
     pub start: usize,

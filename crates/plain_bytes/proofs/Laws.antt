@@ -12,7 +12,7 @@ use Rattle.rules.specs.Frame.{digit}
 use Rattle.rules.specs.Value as Val
 use Rattle.rules.proofs.Logic.{cases}
 use Rattle.rules.proofs.Lists.{here, over}
-use Rattle.bytes.specs.Bytes.{until, is_byte}
+use Rattle.plain_bytes.specs.Bytes.{until, is_byte}
 
 -- ---- one byte
 pub either_is : (p q a b : Bool) → a ≡ p → b ≡ q → (a || b) ≡ (p || q)
@@ -33,7 +33,7 @@ module _ (p : ℕ → Bool) (s : List ℕ) (i : ℕ) (inv : all p s ≡ all p (d
   unfolding all
   all-ends h = cc (over s i h)
 
-pub ruleset all_laws = (all-stops, all-goes, all-ends)
+pub ruleset all-laws = (all-stops, all-goes, all-ends)
 
 -- two texts are the same
 pub same-long : (a b : List ℕ) → (length a ≡ length b → ⊥) → false ≡ same a b

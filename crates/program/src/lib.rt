@@ -7,7 +7,7 @@ ghost use Rattle.program.specs.Reading.{ending_of, InBuffer, NineDigits};
 
 // ---- input
 // A whole input of so many bytes, at the start of the lent buffer; or none, and why is told already.
-#[derive(Drop)]
+#[derive(Clone, Copy)]
 pub enum Input {
     Whole(usize),
     Failed,
@@ -131,7 +131,7 @@ pub fn explain(usage: &[u8]) -> Input
 
 // ---- a number among the arguments
 // A whole number of at most nine digits.
-#[derive(Drop)]
+#[derive(Clone, Copy)]
 pub enum Number {
     Is(usize),
     Wrong,

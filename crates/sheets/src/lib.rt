@@ -8,7 +8,7 @@ ghost use Rattle.sheets.specs.Sheet.{kind_of, refusal_at, told_judged, readable_
 use lines::Verdict;
 use rules::{Kind, Refusal};
 
-#[derive(Drop)]
+#[derive(Clone, Copy)]
 pub enum SheetVerdict {
     Right,
     Wrong(Refusal),

@@ -10,7 +10,7 @@ use frame::all_segments;
 use rules::Mode;
 
 // A place in a text: its line and its byte, each counted from 1; 0 where none is named.
-#[derive(Drop)]
+#[derive(Clone, Copy)]
 pub struct Spot {
     pub line: usize,
     pub byte: usize,

@@ -7,7 +7,7 @@ ghost use Rattle.unescape.specs.Unescaped.{turn_of, named_of, byte_at, kept_len,
 use rules::{Delims, Mode};
 
 // Where a reader of a component stands: in the text, after an escape byte, after its letter, or past a fault.
-#[derive(Drop)]
+#[derive(Clone, Copy)]
 pub enum At {
     Plain,
     Opened,
@@ -15,7 +15,7 @@ pub enum At {
     Broken,
 }
 
-#[derive(Drop)]
+#[derive(Clone, Copy)]
 pub enum Unescaped {
     Got(usize),
     Faulty,

@@ -1,4 +1,6 @@
 // The value rules of the read places, over plain bytes: a component that is unescaped, or a value of a sheet.
+#![tactic(auto)]
+
 ghost use Rattle.std.specs.Prelude.{◌≡◌, List, ℕ, ◌+◌, ◌-◌, ◌<◌, length};
 ghost use Rattle.rules.specs.Told.{◌then◌};
 ghost use Rattle.rules.specs.Lists.{filled, is_one_of};
@@ -10,7 +12,7 @@ ghost use Rattle.value.specs.Rules.{fault_no, fine_of, text_of, rule_of, rules_o
 pub mod table;
 
 // What a read place breaks: nothing, or one of the refusals 20 to 27.
-#[derive(Drop)]
+#[derive(Clone, Copy)]
 pub enum Fault {
     Nothing,
     Missing,
@@ -24,7 +26,7 @@ pub enum Fault {
 }
 
 // The words that a place may hold.
-#[derive(Drop)]
+#[derive(Clone, Copy)]
 pub enum Words {
     Oul, // MSH-9.1
     R22, // MSH-9.2
@@ -45,7 +47,7 @@ pub enum Words {
 }
 
 // The rule of a read place.
-#[derive(Drop)]
+#[derive(Clone, Copy)]
 pub enum Rule {
     Time, // YYYYMMDDHHMMSS
     Date, // YYYYMMDD
@@ -57,7 +59,7 @@ pub enum Rule {
 }
 
 // A component of a field: not read, required, or read where it is filled.
-#[derive(Drop)]
+#[derive(Clone, Copy)]
 pub enum Place {
     Unread,
     Must(Rule),
@@ -65,7 +67,7 @@ pub enum Place {
 }
 
 // The rules of OBX-5's four parts.
-#[derive(Drop)]
+#[derive(Clone, Copy)]
 pub struct Parts {
     pub compare: Rule,
     pub value: Rule,
@@ -123,7 +125,10 @@ fn is_mode(v: &[u8]) -> bool
 fn is_sex(v: &[u8]) -> bool
     ensures { result ≡ is_one_of (text_of Words.Sexes) v.now }
 {
-    plain_bytes::equal(v, b"M") | plain_bytes::equal(v, b"F") | plain_bytes::equal(v, b"O") | plain_bytes::equal(v, b"U")
+    plain_bytes::equal(v, b"M")
+        | plain_bytes::equal(v, b"F")
+        | plain_bytes::equal(v, b"O")
+        | plain_bytes::equal(v, b"U")
 }
 
 // PV1-2.
@@ -294,7 +299,10 @@ pub fn unjoined(join: bool, second: bool) -> bool
 pub fn agrees(status: &[u8], number: bool, parts: bool) -> bool
     ensures { (c : Four (List ℕ)) → number ≡ filled c.value → parts ≡ Judge.beside c → result ≡ Judge.agrees status.now c }
 {
-    if plain_bytes::equal(status, b"F") | plain_bytes::equal(status, b"P") | plain_bytes::equal(status, b"C") {
+    if plain_bytes::equal(status, b"F")
+        | plain_bytes::equal(status, b"P")
+        | plain_bytes::equal(status, b"C")
+    {
         return number;
     }
     !number & !parts

@@ -8,7 +8,7 @@ use csv_rules::FileFault;
 use rules::{Kind, Name};
 
 // Which place is told before the words.
-#[derive(Drop)]
+#[derive(Clone, Copy)]
 pub enum Where {
     Nowhere,
     AtSpot,
@@ -18,7 +18,7 @@ pub enum Where {
 }
 
 // What 25 says of a field: what its value is not, or no more than that it breaks its rule.
-#[derive(Drop)]
+#[derive(Clone, Copy)]
 pub enum Breach {
     NoTime,
     NoDate,

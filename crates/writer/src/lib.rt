@@ -1,4 +1,6 @@
 // Writing into a lent buffer: bytes, numbers and escaped texts, each over the front of what remains of it, and the rest stays.
+#![tactic(auto)]
+
 ghost use Rattle.std.specs.Prelude.{◌≡◌, ◌+◌, ◌*◌, ◌≤◌, length, drop};
 ghost use Rattle.rules.specs.Escape.{escape};
 ghost use Rattle.rules.specs.Lists.{decimal};
