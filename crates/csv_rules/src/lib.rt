@@ -1,4 +1,6 @@
 // The types of the answers about a commercial centre's file (Req 01).
+#![tactic(auto)]
+
 ghost use Rattle.std.specs.Prelude.{◌≡◌};
 ghost use Rattle.csv_rules.specs.Answers.{fault_number};
 

@@ -1,4 +1,6 @@
 // 11. "The first nine bytes are `MSH`, five different delimiters and the first of these again."
+#![tactic(auto)]
+
 ghost use Rattle.std.specs.Prelude.{◌≡◌, ◌≤◌, length};
 ghost use Rattle.rules.specs.Lists.{has, distinct};
 ghost use Rattle.rules.specs.Frame.{delims_of, delims_ok, five_of, header_ok};

@@ -1,4 +1,6 @@
 // The known names of segments: "MSH PID PV1 SPM OBR ORC OBX".
+#![tactic(auto)]
+
 ghost use Rattle.std.specs.Prelude.{◌≡◌, ◌≤◌, length};
 ghost use Rattle.rules.specs.Told.{◌when◌};
 ghost use Rattle.rules.specs.Lists.{starts};

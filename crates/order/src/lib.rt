@@ -1,4 +1,6 @@
 // "MSH PID PV1, then one or more specimens: SPM and one or more orders: OBR ORC and one or more OBX."
+#![tactic(auto)]
+
 ghost use Rattle.std.specs.Prelude.{◌≡◌};
 ghost use Rattle.rules.specs.Frame.{start, past, may_follow, may_end};
 ghost use Rattle.order.specs.Order.{reached_of};

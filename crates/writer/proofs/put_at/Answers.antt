@@ -1,0 +1,7 @@
+use borrow.Author.Rules.{rules}
+use Rattle.writer.proofs.Laws.{back}
+use borrow.Author.Rules.{rules}
+use Rattle.writer.proofs.put_at.Goals as goal
+
+pub returns : goal.returns
+returns c = search (back, rules)

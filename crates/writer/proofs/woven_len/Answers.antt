@@ -1,0 +1,16 @@
+use borrow.Author.Rules.{rules}
+use Prim.Native.Nat.{◌-◌}
+use Rattle.writer.proofs.Weaving.{holes-go, one-hole, sum-begins, sum-ends, sum_goes}
+use Rattle.writer.proofs.woven_len.Goals as goal
+
+pub loop-i-init : goal.loop-i-init
+loop-i-init c = search (sum-begins, sum_goes, sum-ends, one-hole, holes-go, rules)
+
+pub slot_len-n-requires : goal.slot_len-n-requires
+slot_len-n-requires c = search (one-hole, rules)
+
+pub loop-i-preserved : goal.loop-i-preserved
+loop-i-preserved c = search (sum-begins, sum_goes, sum-ends, one-hole, holes-go, rules)
+
+pub returns : goal.returns
+returns c = search (sum-ends, rules)
