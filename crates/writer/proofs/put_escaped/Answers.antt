@@ -1,6 +1,6 @@
 use borrow.Author.Rules.{rules}
 use Prim.Native.Nat.{◌-◌}
-use Rattle.writer.proofs.Escapes.{escape-begins, simple-room, simple-goes, byte-room, stretch-room, escape-goes, escape-ends}
+use Rattle.writer.proofs.Escapes.{escape-begins, simple-room, simple-few, simple-goes, byte-room, stretch-room, escape-goes, escape-ends}
 use Rattle.writer.proofs.put_escaped.Goals as goal
 
 pub loop-i-init : goal.loop-i-init
@@ -8,6 +8,9 @@ loop-i-init c = search (escape-begins, rules)
 
 pub bounds-out-at : goal.bounds-out-at
 bounds-out-at c = search (simple-room, rules)
+
+pub overflow_add-at : goal.overflow_add-at
+overflow_add-at c = search (simple-few, rules)
 
 pub loop-i-preserved-then-simple : goal.loop-i-preserved-then-simple
 loop-i-preserved-then-simple c = search (simple-goes, rules)
