@@ -1,4 +1,6 @@
 // The closed fields MSH-18 and PID-5, judged: each at the start of what is left of its segment.
+#![tactic(auto)]
+
 ghost use Rattle.std.specs.Prelude.{◌≡◌, false, [], ◌∷◌, ◌≤◌, length};
 ghost use Rattle.rules.specs.Lists.{same, has};
 ghost use Rattle.rules.specs.Shift.{met};

@@ -1,4 +1,6 @@
 // The frame of a message: checks 10 to 15 in their order, its delimiters and its counts.
+#![tactic(auto)]
+
 ghost use Rattle.std.specs.Prelude.{◌≡◌};
 ghost use Rattle.frame.specs.Frame.{most_bytes, framed_told, frame_of, closing, Within, Sound};
 

@@ -1,4 +1,6 @@
 // One read component, judged: 21, 23, 20, 24, 25.
+#![tactic(auto)]
+
 ghost use Rattle.std.specs.Prelude.{◌≡◌};
 ghost use Rattle.rules.specs.Shift.{met};
 ghost use Rattle.rules.specs.Escape.{unescape};

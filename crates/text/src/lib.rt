@@ -1,4 +1,6 @@
 // A component's text, without its escapes, written into a lent buffer.
+#![tactic(auto)]
+
 ghost use Rattle.std.specs.Prelude.{◌≡◌, length};
 ghost use Rattle.rules.specs.Told.{Call};
 ghost use Rattle.rules.specs.Fetch.{unescaped_told};

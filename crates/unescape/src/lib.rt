@@ -1,4 +1,6 @@
 // A component without its escapes: "the escape byte, one of F S T R E, the escape byte".
+#![tactic(auto)]
+
 ghost use Rattle.std.specs.Prelude.{◌≡◌, ◌+◌, ◌<◌};
 ghost use Rattle.rules.specs.Shift.{mark, met};
 ghost use Rattle.rules.specs.Escape.{unescape};
