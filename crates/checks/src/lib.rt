@@ -1,4 +1,6 @@
 // The check of a message: 10 to 27.
+#![tactic(auto)]
+
 ghost use Rattle.std.specs.Prelude.{◌≡◌, false};
 ghost use Rattle.rules.specs.Told.{told, number};
 ghost use Rattle.rules.specs.Promises.{Checked};

@@ -1,4 +1,6 @@
 // A segment, read field by read field: one field as the table of document 01 lists it, and on from one to the next.
+#![tactic(auto)]
+
 ghost use Rattle.std.specs.Prelude.{◌≡◌, not, ◌+◌, ◌-◌, ◌≤◌, length, take, drop};
 ghost use Rattle.rules.specs.Told.{◌then◌, ◌when◌};
 ghost use Rattle.rules.specs.Shift.{met};

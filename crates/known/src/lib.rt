@@ -1,4 +1,6 @@
 // Which known segment an ordinal is.
+#![tactic(auto)]
+
 ghost use Rattle.rules.specs.Promises.{SegmentFound};
 
 use rules::{Found, KnownSegment, Name};

@@ -1,4 +1,6 @@
 // The read places of the leading segments, each once in a message: MSH, PID and PV1.
+#![tactic(auto)]
+
 ghost use Rattle.std.specs.Prelude.{◌≡◌, ◌+◌};
 ghost use Rattle.rules.specs.declared.Name.TheVariants.{Msh, Pid, Pv1};
 ghost use Rattle.rules.specs.Shift.{met};

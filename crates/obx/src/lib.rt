@@ -1,4 +1,6 @@
 // The read places of an OBX, field by field, and 26.
+#![tactic(auto)]
+
 ghost use Rattle.std.specs.Prelude.{◌≡◌, ◌+◌};
 ghost use Rattle.rules.specs.declared.Name.TheVariants.{Obx};
 ghost use Rattle.rules.specs.Shift.{met};

@@ -1,4 +1,6 @@
 // OBX-5, the value of a result, at the start of what is left of its segment: judged by OBX-2's word, component by component.
+#![tactic(auto)]
+
 ghost use Rattle.std.specs.Prelude.{◌≡◌, true, false, not, ◌&&◌, List, ℕ, ◌≤◌, length};
 ghost use Rattle.rules.specs.Told.{◌then◌, ◌when◌};
 ghost use Rattle.rules.specs.Lists.{filled};

@@ -1,4 +1,6 @@
 // The read places of a segment, field by field, as the table of document 01 lists them.
+#![tactic(auto)]
+
 ghost use Rattle.rules.specs.Shift.{met};
 ghost use Rattle.rules.specs.Proper.{Proper};
 ghost use Rattle.value.specs.Rules.{fault_no};

@@ -1,4 +1,6 @@
 // The read places of a specimen and of its orders: SPM, OBR and ORC, and 27.
+#![tactic(auto)]
+
 ghost use Rattle.std.specs.Prelude.{◌≡◌, ◌+◌};
 ghost use Rattle.rules.specs.declared.Name.TheVariants.{Spm, Obr, Orc};
 ghost use Rattle.rules.specs.Shift.{met};
