@@ -1,4 +1,6 @@
 // Fetching a part of a message: "the caller gets back the very stretch of his message, still escaped, from the first repetition".
+#![tactic(auto)]
+
 ghost use Rattle.std.specs.Prelude.{◌≡◌, cond, ◌+◌, ◌≤◌, eqb, length, take, drop};
 ghost use Rattle.rules.specs.Shift.{met};
 ghost use Rattle.rules.specs.Frame.{is, known};

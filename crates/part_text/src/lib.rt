@@ -1,4 +1,6 @@
 // A part of a message, its text without its escapes.
+#![tactic(auto)]
+
 ghost use Rattle.rules.specs.Promises.{TextWritten};
 
 use rules::{Fetched, Written};

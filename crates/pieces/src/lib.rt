@@ -1,4 +1,6 @@
 // The pieces of a text between separators that act, by their places.
+#![tactic(auto)]
+
 ghost use Rattle.std.specs.Prelude.{◌≡◌, ◌+◌, ◌<◌, ◌≤◌, ◌^◌, length};
 ghost use Rattle.rules.specs.Proper.{Delim};
 ghost use Rattle.pieces.specs.Pieces.{PieceOf, Nearest};

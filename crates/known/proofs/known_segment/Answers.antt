@@ -26,7 +26,7 @@ pub loop-at-smaller : goal.loop-at-smaller
 loop-at-smaller c = search (rest-further, rest-inside, rules)
 
 pub loop-at-preserved : goal.loop-at-preserved
-loop-at-preserved c = (search (rest-further, rest-inside, rules), segment-on _ _ _ _ _ c.loop-at.invariant.1 c.before-n.ensures.0 c.before-n.ensures.1 c.if-n-rest.false _ _ c.name_of-name.ensures c.hit-one.ensures.0 c.if-left-one.false)
+loop-at-preserved c = (search (rest-further, rest-inside, rules), segment-on _ _ _ _ _ c.loop-at.invariant.1 c.before-n.ensures.value c.before-n.ensures.within c.if-n-rest.false _ _ c.name_of-name.ensures c.hit-one.ensures.value c.if-left-one.false)
 
 pub returns : goal.returns
 returns c = search (segment-over, nothing-within, rules)
