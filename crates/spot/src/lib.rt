@@ -1,4 +1,6 @@
 // Where a text breaks the rule of its refusal, for those that name no place: 12, 13 and 41.
+#![tactic(auto)]
+
 ghost use Rattle.std.specs.Prelude.{◌≡◌, cond, ◌≤◌, length};
 ghost use Rattle.rules.specs.declared.Mode.TheVariants.{One};
 ghost use Rattle.rules.specs.Lists.{count};
