@@ -11,7 +11,7 @@ use lib.Seq.{drop-drop}
 use Rattle.rules.specs.Lists.{onto}
 use Rattle.rules.proofs.Logic.{cases, both}
 use Rattle.rules.proofs.Lists.{here, over}
-use Rattle.csv_rules.specs.Quote.{Comma, Inside, Quote, Items, Lines, end, broken, line, more, lines_at, cut}
+use Rattle.csv_rules.specs.Quote.{Comma, Inside, Quote, Cr, Items, Lines, end, broken, line, more, lines_at, cut}
 use Rattle.csv_rules.specs.Written.{halved}
 use Rattle.csv_rows.specs.Rows.{closing_at, quote_first, put_before, afterwards, BehindAt, ItemAt}
 
@@ -20,14 +20,24 @@ pub close-plain : (b : ℕ) (s : List ℕ) → eqb b 0x22 ≡ false → closing_
 unfolding closing_at
 close-plain b s e = rw (e, closing_at)
 
+-- a quote was met before, and none follows
+stopped : (t : ℕ) (s : List ℕ) → eqb t 0x22 ≡ false → closing_at true (t ∷ s) ≡ 0
+unfolding closing_at
+stopped t s f = rw (f, closing_at)
+
 pub close-stop : (b : ℕ) (s : List ℕ) → eqb b 0x22 ≡ true → quote_first s ≡ false → closing_at false (b ∷ s) ≡ 0
 unfolding closing_at quote_first
 close-stop b [] e f = rw (e, closing_at)
-close-stop b (t ∷ s) e f = rw (e, closing_at, f)
+close-stop b (t ∷ s) e f =
+    let l : closing_at false (b ∷ (t ∷ s)) ≡ closing_at true (t ∷ s) = rw (e, closing_at) in
+    l ∙ stopped t s f
 
 close-two : (b t : ℕ) (s : List ℕ) → eqb b 0x22 ≡ true → eqb t 0x22 ≡ true → closing_at false (b ∷ (t ∷ s)) ≡ suc (suc (closing_at false s))
 unfolding closing_at
-close-two b t s e f = rw (e, closing_at, f)
+close-two b t s e f =
+    let l : closing_at false (b ∷ (t ∷ s)) ≡ closing_at true (t ∷ s) = rw (e, closing_at) in
+    let r : closing_at true (t ∷ s) ≡ suc (suc (closing_at false s)) = rw (f, closing_at) in
+    l ∙ r
 
 two_here : (s : List ℕ) (i j : ℕ) → j ≡ i + 1 → j < length s → drop i s ≡ get_or s i 0 ∷ (get_or s j 0 ∷ drop (i + 2) s)
 two_here s i j e h =
@@ -237,9 +247,16 @@ module _ (b : ℕ) (e : eqb b 0x22 ≡ false) where
   read-comma s g = rw (e, lines_at, g)
 
   module _ (g : eqb b 0x2C ≡ false) where
+    -- a 0D behind an item
+    at-0D : (c : ℕ) (s : List ℕ) → eqb b 0x0D ≡ true → lines_at Quote (b ∷ (c ∷ s)) ≡ more (λ is. is) (lines_at Cr (c ∷ s))
+    unfolding lines_at
+    at-0D c s k = rw (e, lines_at, g, k)
+
     read-crlf : (c : ℕ) (s : List ℕ) → eqb b 0x0D ≡ true → eqb c 0x0A ≡ true → lines_at Quote (b ∷ (c ∷ s)) ≡ line ([] ∷ []) 2 (cut s)
     unfolding lines_at more cut
-    read-crlf c s k l = rw (e, lines_at, g, k, l, lines_at)
+    read-crlf c s k l =
+        let r : lines_at Cr (c ∷ s) ≡ line ([] ∷ []) 1 (cut s) = rw (l, lines_at) in
+        at-0D c s k ∙ ap (more (λ is. is)) r
 
     read-last : lines_at Quote (b ∷ []) ≡ broken
     unfolding lines_at more
@@ -248,7 +265,7 @@ module _ (b : ℕ) (e : eqb b 0x22 ≡ false) where
     read-bad : (c : ℕ) (s : List ℕ) → (eqb b 0x0D && eqb c 0x0A) ≡ false → lines_at Quote (b ∷ (c ∷ s)) ≡ broken
     unfolding lines_at more
     read-bad c s q =
-        cases (eqb b 0x0D) (λ k. let l : eqb c 0x0A ≡ false = rw k at q in rw (e, lines_at, g, k, l, lines_at)) (λ k. rw (e, lines_at, g, k))
+        cases (eqb b 0x0D) (λ k. let l : eqb c 0x0A ≡ false = rw k at q in let r : lines_at Cr (c ∷ s) ≡ broken = rw (l, lines_at) in at-0D c s k ∙ ap (more (λ is. is)) r) (λ k. rw (e, lines_at, g, k))
 
 pub drop-same : (f : List ℕ) (j : ℕ) → drop (j + 0) f ≡ drop j f
 drop-same f j = let q : j + 0 ≡ j = omega arith in ap (λ (n : ℕ). drop n f) q

@@ -1,4 +1,6 @@
 // A row of the commercial centre's file (Req 01): one walk from a place, where it ends and where its items stand.
+#![tactic(auto)]
+
 ghost use Rattle.std.specs.Prelude.{◌≡◌, false, ◌||◌, ◌+◌, ◌≤◌, ◌<◌, length, get_or, take, drop};
 ghost use Rattle.csv_rules.specs.Kanji.{convertible};
 ghost use Rattle.csv_rules.specs.Written.{halved};

@@ -1,5 +1,7 @@
 // The lines of a sheet, written as far as the lent buffer reaches. Each routine tells how long its text is, whatever the room: lent nothing, it
 // measures.
+#![tactic(auto)]
+
 ghost use Rattle.std.specs.Prelude.{◌≡◌, [], ◌∷◌, ◌++◌, ◌+◌, ◌≤◌, ◌<◌, length};
 ghost use Rattle.rules.specs.Shift.{met};
 ghost use Rattle.rules.specs.Proper.{Proper};

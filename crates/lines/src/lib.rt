@@ -1,4 +1,6 @@
 // A sheet's lines, found by their 0A; and one line judged, by its key and then its value: "42 before 43".
+#![tactic(auto)]
+
 ghost use Rattle.std.specs.Prelude.{◌≡◌, true, ◌+◌, ◌≤◌, ◌<◌, length, drop};
 ghost use Rattle.rules.specs.Lists.{nth};
 ghost use Rattle.rules.specs.Lists as Lists;

@@ -1,4 +1,6 @@
 // Writing as far as a lent buffer reaches, and no further: each routine tells where its text ends, which is the buffer's end where it is cut.
+#![tactic(auto)]
+
 ghost use Rattle.std.specs.Prelude.{[], ◌∷◌, ◌≤◌, length};
 ghost use Rattle.reach.specs.Reach.{Adds};
 

@@ -1,4 +1,6 @@
 // The lines of MSH, PV1, SPM and OBR, their values found in one walk.
+#![tactic(auto)]
+
 ghost use Rattle.std.specs.Prelude.{◌+◌, ◌≤◌, length};
 ghost use Rattle.rules.specs.declared.Name.TheVariants.{Msh, Pv1, Spm, Obr};
 ghost use Rattle.rules.specs.Shift.{met};

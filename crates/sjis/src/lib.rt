@@ -1,5 +1,7 @@
 // Shift_JIS (Req 01): whether an item of the commercial centre's file converts, and the item converted, from how it lies in the file, its quotes
 // doubled.
+#![tactic(auto)]
+
 ghost use Rattle.std.specs.Prelude.{◌≡◌, false, cond, ltb, ◌-◌, ◌≤◌, ◌<◌, length};
 ghost use Rattle.csv_rules.specs.Kanji as Kanji;
 ghost use Rattle.csv_rules.specs.Kanji.{lead, trail, converted, good_character};

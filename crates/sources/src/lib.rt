@@ -1,5 +1,7 @@
 // Where the lines of a segment take their values from: its fields and components, found in one walk. Each routine is given what is left of the segment,
 // a part that starts in the middle.
+#![tactic(auto)]
+
 ghost use Rattle.std.specs.Prelude.{◌≡◌, ◌≤◌, length};
 ghost use Rattle.rules.specs.Shift.{met};
 ghost use Rattle.rules.specs.Proper.{Delim, Proper};
