@@ -1,4 +1,6 @@
 // The lines of PID, their values found in one walk.
+#![tactic(auto)]
+
 ghost use Rattle.std.specs.Prelude.{◌≡◌, false, [], ◌∷◌, ◌+◌, ◌≤◌, length};
 ghost use Rattle.rules.specs.declared.Name.TheVariants.{Pid};
 ghost use Rattle.rules.specs.Lists.{has, or_empty, split};

@@ -1,4 +1,6 @@
 // The lines of an OBX, their values found in one walk.
+#![tactic(auto)]
+
 ghost use Rattle.std.specs.Prelude.{◌+◌, ◌≤◌, length};
 ghost use Rattle.rules.specs.declared.Name.TheVariants.{Obx};
 ghost use Rattle.rules.specs.Shift.{met};

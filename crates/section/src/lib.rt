@@ -1,4 +1,6 @@
 // A segment's section of the sheet: its lines, by its name.
+#![tactic(auto)]
+
 ghost use Rattle.std.specs.Prelude.{◌+◌, ◌≤◌, length};
 ghost use Rattle.rules.specs.Shift.{met};
 ghost use Rattle.rules.specs.Frame.{name_of};

@@ -1,4 +1,6 @@
 // Message to sheet: the message is checked, its sheet is measured, then written.
+#![tactic(auto)]
+
 ghost use Rattle.std.specs.Prelude.{◌+◌, length};
 ghost use Rattle.rules.specs.Told.{Call};
 ghost use Rattle.rules.specs.Frame.{segments};

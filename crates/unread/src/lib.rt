@@ -1,1 +1,2 @@
 // Demand 3, a theorem over the rules: no code.
+#![tactic(auto)]
