@@ -1,4 +1,6 @@
 // A sheet's groups, each judged line by line.
+#![tactic(auto)]
+
 ghost use Rattle.std.specs.Prelude.{◌≡◌, ◌≤◌, length, take};
 ghost use Rattle.rules.specs.Judge as Judge;
 ghost use Rattle.rules.specs.Row as Row;

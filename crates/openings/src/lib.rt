@@ -1,4 +1,6 @@
 // What follows a group of a sheet: where it leads, and the group to be read next.
+#![tactic(auto)]
+
 ghost use Rattle.std.specs.Prelude.{◌≡◌};
 ghost use Rattle.rules.specs.Lists.{nth};
 ghost use Rattle.rules.specs.Frame.{start, past};

@@ -1,4 +1,6 @@
 // A sheet judged: 40 and 41, then its groups, line by line, 42 and 43.
+#![tactic(auto)]
+
 ghost use Rattle.std.specs.Prelude.{◌≡◌, ◌+◌, ◌≤◌, length};
 ghost use Rattle.rules.specs.Lists.{empty, last, split};
 ghost use Rattle.lines.specs.Lines.{longest_sheet};
