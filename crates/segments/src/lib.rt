@@ -1,4 +1,6 @@
 // The segments without a number of their own, each written by its pattern from the lines of its group, where there is room for it.
+#![tactic(auto)]
+
 ghost use Rattle.std.specs.Prelude.{◌≡◌, true, false, ◌≤◌};
 ghost use Rattle.rules.specs.Sheet.{lines_of};
 ghost use Rattle.rules.specs.Message.{zeros};

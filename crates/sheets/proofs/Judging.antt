@@ -10,9 +10,11 @@ use Rattle.rules.specs.declared.Kind.{Kind}
 use Rattle.rules.specs.declared.Kind.TheVariants.{Key}
 use Rattle.rules.specs.declared.Refusal.{Refusal}
 use Rattle.rules.specs.declared.Name.{Name}
+use Rattle.rules.specs.declared.Name.TheVariants.{Obr}
 use Rattle.rules.specs.Told.{Told, gives, refused, refusal, ◌>>=◌}
 use Rattle.rules.specs.Lists.{empty, nth}
-use Rattle.rules.specs.Frame.{start, may_end}
+use Rattle.rules.specs.Frame as Frame
+use Rattle.rules.specs.Frame.{is, start, may_end}
 use Rattle.rules.specs.Row.{lines, Row, row_of}
 use Rattle.rules.specs.Sheet.{lines_of, group_told, past_group, rows_told}
 use Rattle.rules.proofs.Logic.{never, not-true, not-false, not-given, told_cases, zero_cases}
@@ -85,7 +87,7 @@ reads s places a h cut e = record {
   cut = rw (rest-is s 0) cut;
   within = omega arith;
   lines-low = omega arith;
-  between = rw e;
+  between = ap (λ (x : Frame.Reached). is x.last Obr) e;
   told = rw e (bind-none (rows_in s));
 }
 
@@ -165,7 +167,7 @@ module _ {s : List ℕ} {rows : List Row} {a : Reached} {at line : ℕ} {places 
               cut = next-cut;
               within = ahead count.1;
               lines-low = omega (arith, inv.lines-low, count.1);
-              between = rw g (between-past (reached_of a) h);
+              between = ap (λ (x : Frame.Reached). is x.last Obr) g ∙ between-past (reached_of a) h;
               told = told-by ∙ ap (λ (x : Verdict). told_of x line (group_values h ts) >>= behind) fine ∙ bind-twice after (row_of h (group_values h ts)) rows ∙ rw (g, on count.1, count.0);
             }
 

@@ -1,0 +1,11 @@
+use borrow.Author.Rules.{rules}
+use Rattle.writer.specs.Woven.{holes, taken, sizes}
+use Rattle.segments.proofs.Texts.{order_is}
+use Rattle.segments.proofs.order.Goals as goal
+
+pub fit_woven-requires : goal.fit_woven-requires
+unfolding holes taken sizes
+fit_woven-requires c = search rules
+
+pub returns : goal.returns
+returns c = search (order_is, rules)
