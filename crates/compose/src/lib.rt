@@ -1,5 +1,7 @@
 // Sheet to message. A pass over the sheet's groups judges them, unless they are known to be right, measures the message, and writes each segment
 // into what remains of the lent buffer, as far as there is room.
+#![tactic(auto)]
+
 ghost use Rattle.std.specs.Prelude.{◌≡◌, true, ◌+◌, ◌≤◌, length};
 ghost use Rattle.rules.specs.Frame as Frame;
 ghost use Rattle.rules.specs.Row.{lines};

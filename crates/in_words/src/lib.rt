@@ -1,4 +1,6 @@
 // A refusal in words: one line, with the place as people say it.
+#![tactic(auto)]
+
 ghost use Rattle.std.specs.Prelude.{◌≡◌, ◌+◌, ◌≤◌, length};
 ghost use Rattle.rules.specs.Frame.{spelling};
 ghost use Rattle.plain_bytes.specs.Bytes.{until, is_byte};

@@ -1,4 +1,6 @@
 // The segments with a number of their own, a specimen's and a result's; and the first segment of any group.
+#![tactic(auto)]
+
 ghost use Rattle.std.specs.Prelude.{◌≡◌, true, false, ◌≤◌, length};
 ghost use Rattle.rules.specs.Sheet.{lines_of};
 ghost use Rattle.rules.specs.Proper.{Proper};

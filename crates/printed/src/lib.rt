@@ -1,4 +1,6 @@
 // What the programs print on standard output, as texts: the counts, a number, and a refusal in three lines.
+#![tactic(auto)]
+
 ghost use Rattle.std.specs.Prelude.{◌++◌, ◌+◌, ◌≤◌, length};
 ghost use Rattle.rules.specs.Lists.{bytes, decimal};
 ghost use Rattle.writer.specs.Over.{Wrote, Put};

@@ -1,4 +1,6 @@
 // The words of a refusal, and which place is told before them. The texts are those of the table `Words`; each ends at a bar.
+#![tactic(auto)]
+
 ghost use Rattle.std.specs.Prelude.{◌≡◌};
 ghost use Rattle.rules.specs.Lists.{bytes};
 ghost use Rattle.plain_bytes.specs.Bytes.{until, is_byte};
