@@ -1,4 +1,6 @@
 // The keys of a row (Req 01): cut, looked up and compared as their bytes lie in the file; nothing is copied but fifteen bytes at most.
+#![tactic(auto)]
+
 ghost use Rattle.std.specs.Prelude.{◌≡◌, true, false, ◌&&◌, [], ◌∷◌, ◌+◌, ◌≤◌, ◌<◌, length, take, drop};
 ghost use Rattle.rules.specs.declared.Name.TheVariants.{Pid, Pv1, Spm, Obr};
 ghost use Rattle.rules.specs.Lists.{same};

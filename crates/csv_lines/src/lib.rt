@@ -1,4 +1,6 @@
 // The lines of a sheet that a row gives (Req 01), converted, as far as the buffer reaches.
+#![tactic(auto)]
+
 ghost use Rattle.std.specs.Prelude.{◌≡◌, true, [], ◌∷◌, ◌++◌, ◌≤◌, length};
 ghost use Rattle.rules.specs.declared.Name.TheVariants.{Pid, Pv1, Spm, Obr, Obx};
 ghost use Rattle.rules.specs.Lists.{all};

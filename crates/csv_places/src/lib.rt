@@ -1,5 +1,7 @@
 // A table of places in the commercial centre's file (Req 01): where a row with a result number begins, by a hash of the number. A slot has two entries,
 // the place and the hash. Each number may have 256 of the 32,768 slots, from the one of its hash on, and has the first of them that was free.
+#![tactic(auto)]
+
 ghost use Rattle.std.specs.Prelude.{◌≡◌, false, cond, ◌<◌, length};
 ghost use Rattle.csv_rules.specs.Written.{halved};
 ghost use Rattle.csv_rules.specs.Columns.{number_of};

@@ -1,4 +1,6 @@
 // How a row of the commercial centre's file (Req 01) stands to the rows before it: 53 and 54, by looking back, as far as a table keeps the numbers.
+#![tactic(auto)]
+
 ghost use Rattle.std.specs.Prelude.{◌≡◌, false, cond, ◌&&◌, ◌≤◌, ◌<◌, eqb, length};
 ghost use Rattle.csv_rows.specs.Rows.{Inside, row_at};
 ghost use Rattle.csv_repeats.specs.declared.Standing.TheVariants.{Same, Back, Differs};

@@ -1,4 +1,6 @@
 // The run of rows that begins at a place of the commercial centre's file (Req 01), and its sheet.
+#![tactic(auto)]
+
 ghost use Rattle.std.specs.Prelude.{cond, [], ◌++◌, ◌≤◌, ◌<◌, length};
 ghost use Rattle.csv_rows.specs.Rows.{Inside, row_at};
 ghost use Rattle.csv_lines.specs.Lines.{AddsLines, header_lines, first_lines, next_lines};

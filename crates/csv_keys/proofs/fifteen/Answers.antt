@@ -1,0 +1,15 @@
+use borrow.Author.Rules.{rules}
+use Rattle.csv_keys.proofs.Items.{fifteen-stays, fifteen-other, fifteen-key, at-most}
+use Rattle.csv_keys.proofs.fifteen.Goals as goal
+
+pub returns-then-len : goal.returns-then-len
+returns-then-len c = search (fifteen-stays, rules)
+
+pub returns-then-not-digits : goal.returns-then-not-digits
+returns-then-not-digits c = search (fifteen-other, rules)
+
+pub overflow_sub-result : goal.overflow_sub-result
+overflow_sub-result c = search (at-most, rules)
+
+pub returns : goal.returns
+returns c = search (fifteen-key, rules)
