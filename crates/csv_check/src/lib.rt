@@ -1,5 +1,7 @@
 // 50 to 54 over the commercial centre's file (Req 01), in one walk over its lines, once the column count is read, and further rounds over the rows
 // whose numbers the table of that walk could not keep.
+#![tactic(auto)]
+
 ghost use Rattle.std.specs.Prelude.{◌≡◌, true, false, cond, ltb};
 ghost use Rattle.rules.specs.Frame.{digit};
 ghost use Rattle.csv_rules.specs.Quote.{cut, lines_in};

@@ -1,5 +1,7 @@
 // 53 and 54 of the rows that a walk has left (Req 01), since the table could not keep their numbers: gone through again, round after round, each with
 // a table of its own.
+#![tactic(auto)]
+
 ghost use Rattle.std.specs.Prelude.{◌≡◌, true, cond, ◌+◌, ◌≤◌, ◌<◌, eqb, length};
 ghost use Rattle.rules.specs.Lists.{all};
 ghost use Rattle.csv_rules.specs.Sheets.{row_converts};
