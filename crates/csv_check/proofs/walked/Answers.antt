@@ -5,7 +5,7 @@ use Rattle.csv_check.proofs.Repeating.{rep-starts, rep-over, rep-broken, rep-ask
 use Rattle.csv_check.proofs.walked.Goals as goal
 
 pub loop-at-init : goal.loop-at-init
-loop-at-init c = record { walk_is = search (walk-starts, rules); rows = search (rep-starts, rules) }
+loop-at-init c = (search (walk-starts, rules), search (rep-starts, rules))
 
 pub returns-then-row : goal.returns-then-row
 returns-then-row c = record { walk_is = search (walk-broken, rules); rows = search (rep-broken, rules) }
@@ -28,14 +28,12 @@ loop-at-smaller c =
     (search (c.loop-at-test, rules))
 
 pub loop-at-preserved : goal.loop-at-preserved
-loop-at-preserved c =
-    let found = c.before.before.before.before.before in
-    let begun = found.before.before.before.before.before.before in (
-      walk-on _ _ _ _ _ _ _ c.loop-at.invariant.0 _ _ _ _ _ c.row-row.ensures c.if-row.false _ _ _
-          c.first_found-miscounted.ensures c.first_found-unconverted.ensures found.before-rows.ensures
-          (search (c.loop-at-test, rules)) (search (begun.before.before.before.before.before, rules)),
-      search (rep-on, rules),
-    )
+loop-at-preserved c = (
+  walk-on _ _ _ _ _ _ _ c.loop-at.invariant.0 _ _ _ _ _ c.row-row.ensures c.if-row.false _ _ _
+      c.first_found-miscounted.ensures c.first_found-unconverted.ensures c.before_rows-first.ensures
+      (search (c.loop-at-test, rules)) (search rules),
+  search (rep-on, rules),
+)
 
 pub returns : goal.returns
 returns c = record { walk_is = search (walk-over, rules); rows = search (rep-over, rules) }
