@@ -1,5 +1,7 @@
 // A sheet turned into a message. The first pass over the sheet's groups has nothing to write into: it judges them and measures the message.
 // The second writes each segment into what remains of the lent buffer, once it is known that there is room.
+#![tactic(auto)]
+
 ghost use Rattle.std.specs.Prelude.{◌≡◌};
 ghost use Rattle.rules.specs.Told.{gives};
 ghost use Rattle.rules.specs.Message.{base};

@@ -31,15 +31,15 @@ put_group-bytes-requires c =
       record {
         short = rest-low kept.read;
         cut = kept.read.cut;
-        specimens-few = omega (arith, kept, kept.read, c.counted-numbers.ensures.1);
-        results-few = omega (arith, kept, kept.read, c.counted-numbers.ensures.1);
+        specimens-few = omega (arith, kept, kept.read, c.counted-numbers.ensures.within);
+        results-few = omega (arith, kept, kept.read, c.counted-numbers.ensures.within);
         proper = kept.proper;
       },
       omega (arith, kept, kept.read),
     )
 
 pub overflow_add-segments : goal.overflow_add-segments
-overflow_add-segments c = omega (arith, c.loop-d.invariant, c.loop-d.invariant.read, c.hit-segments.ensures)
+overflow_add-segments c = omega (arith, c.loop-d.invariant, c.loop-d.invariant.read, c.hit.ensures)
 
 pub overflow_add-line : goal.overflow_add-line
 overflow_add-line c = omega (arith, c.loop-d.invariant.read, c.lines_in-n.ensures)
@@ -61,7 +61,7 @@ loop-d-smaller c =
 
 pub loop-d-preserved : goal.loop-d-preserved
 loop-d-preserved c =
-    goes c.loop-d.invariant c.has_line.ensures c.loop-d-test.true c.next_group-next.ensures c.verdict-v.ensures c.lines_in-n.ensures c.counted-numbers.ensures c.fine.ensures (ap not c.if-not-fine.false) c.past_group-reached.ensures c.put_group-bytes.ensures c.hit-segments.ensures c.cut-places-in-loop-d.ensures
+    goes c.loop-d.invariant c.has_line.ensures c.loop-d-test.true c.next_group-next.ensures c.verdict-v.ensures c.lines_in-n.ensures (c.counted-numbers.ensures.result_value, c.counted-numbers.ensures.within) c.fine.ensures (ap not c.if-not-fine.false) c.past_group-reached.ensures (c.put_group-bytes.ensures.fit_at, c.put_group-bytes.ensures.within) (c.hit.ensures.value, c.hit.ensures.small) c.cut-places-in-loop-d.ensures
 
 pub returns-then-not-may_end : goal.returns-then-not-may_end
 returns-then-not-may_end c =
