@@ -1,5 +1,7 @@
 // The calls on the commercial centre's file (Req 01): how many sheets it holds, one of them, the one that begins at a place; and where the file is
 // refused. They take any bytes, any ordinal and any place.
+#![tactic(auto)]
+
 ghost use Rattle.std.specs.Prelude.{◌≡◌, ◌<◌, length};
 ghost use Rattle.rules.specs.Told.{gives};
 ghost use Rattle.csv_rules.specs.Answers.{SheetCall};
