@@ -56,7 +56,7 @@ fn read_standard(rt: &HostRuntime, program: &[u8], buf: &mut [u8]) -> Input
         say(rt, program);
         say(rt, b": waiting for standard input\n");
     }
-    read_from(rt, program, b"standard input", &mut input, buf)
+    read_all(rt, program, b"standard input", &mut input, buf)
 }
 
 // A word that begins with - names no file: ./-x does.
@@ -67,12 +67,12 @@ fn read_file(rt: &HostRuntime, program: &[u8], usage: &[u8], path: &[u8], buf: &
         return explain(rt, usage);
     }
     match open(rt, path) {
-        Ok(mut file) => read_from(rt, program, path, &mut file, buf),
+        Ok(mut file) => read_all(rt, program, path, &mut file, buf),
         Err(error) => fail(rt, program, path, &error),
     }
 }
 
-// The library takes a name only as text.
+// std takes a name only as text.
 fn open(rt: &HostRuntime, path: &[u8]) -> io::Result<File> {
     match str::from_utf8(path) {
         Ok(name) => File::open(rt, name),
@@ -82,7 +82,7 @@ fn open(rt: &HostRuntime, path: &[u8]) -> io::Result<File> {
 
 // Reads until the input ends or the buffer is full.
 #[tactic(auto, using(crate::proofs::Laws::ending_within))]
-fn read_from<R: Read>(
+fn read_all<R: Read>(
     rt: &HostRuntime,
     program: &[u8],
     file: &[u8],
@@ -143,7 +143,7 @@ pub fn fail(rt: &HostRuntime, program: &[u8], file: &[u8], error: &io::Error) ->
     Input::Failed
 }
 
-// The system's words, without the number that the library puts behind them.
+// The system's words, without the number that std puts behind them.
 fn say_reason(rt: &HostRuntime, error: &io::Error) {
     let mut text = [0u8; 320];
     let n = put_error(&mut text, error);
