@@ -1,77 +1,78 @@
 // Turns the commercial centre's file on standard input, or in the file that is named, into the messages of all its sheets, one after the other; the k-th has the control that
 // is given followed by k. Where the file or a sheet is refused it prints the number of the sheet (0 for the file's own) and the refusal, and nothing of any message: all sheets
 // are tried before the first is written.
+#![tactic(auto)]
+
 ghost use Rattle.std.specs.Prelude.{◌+◌, ◌≤◌, length};
 
 use csv_rules::{Counted, CsvSheets, Made};
 use program::{Input, file};
 use rules::{Refusal, Written};
+use std::rt::Env;
 
 const NAME: [u8; 15] = *b"csv_to_messages";
 
 const USAGE: [u8; 48] = *b"usage: csv_to_messages MODE SENT CONTROL [FILE]\n";
 
-fn main() {
-    if os::arg_count() < 4 {
-        explain();
+fn main(rt: HostRuntime) {
+    if program::arg_count(&rt) < 4 {
+        explain(&rt);
     } else {
-        with_texts();
+        with_texts(&rt);
     }
 }
 
-fn explain() {
-    program::explain(&USAGE);
+fn explain(rt: &HostRuntime) {
+    program::explain(rt, &USAGE);
 }
 
-fn with_texts() {
-    let mut mode = io::buffer();
-    let mut sent = io::buffer();
-    let mut control = io::buffer();
-    let m = os::arg(1, &mut mode);
-    if os::errno() != 0 {
-        return explain();
-    }
-    let s = os::arg(2, &mut sent);
-    if os::errno() != 0 {
-        return explain();
-    }
-    let c = os::arg(3, &mut control);
-    if os::errno() != 0 {
-        return explain();
-    }
+fn with_texts(rt: &HostRuntime) {
+    let mut mode = [0u8; 4096];
+    let mut sent = [0u8; 4096];
+    let mut control = [0u8; 4096];
+    let Ok(m) = rt.arg(1, &mut mode) else {
+        return explain(rt);
+    };
+    let Ok(s) = rt.arg(2, &mut sent) else {
+        return explain(rt);
+    };
+    let Ok(c) = rt.arg(3, &mut control) else {
+        return explain(rt);
+    };
     let mut text = file::room();
-    run(&mut text, &mode[..m], &sent[..s], &control[..c])
+    run(rt, &mut text, &mode[..m], &sent[..s], &control[..c])
 }
 
-fn run(text: &mut [u8], mode: &[u8], sent: &[u8], control: &[u8])
+fn run(rt: &HostRuntime, text: &mut [u8], mode: &[u8], sent: &[u8], control: &[u8])
     requires { length control.now ≤ 4096 }
 {
-    match file::read(&NAME, &USAGE, 4, text) {
-        Input::Whole(n) => convert(program::front(text, n), mode, sent, control),
+    match file::read(rt, &NAME, &USAGE, 4, text) {
+        Input::Whole(n) => convert(rt, program::front(text, n), mode, sent, control),
         Input::Failed => {}
     }
 }
 
 // A file that is right: every sheet is tried, and then every message written.
-fn convert(text: &[u8], mode: &[u8], sent: &[u8], control: &[u8])
+fn convert(rt: &HostRuntime, text: &[u8], mode: &[u8], sent: &[u8], control: &[u8])
     requires { length control.now ≤ 4096 }
 {
     match oul::csv_count(text) {
         Counted::Sheets(sheets) => {
-            if all(text, sheets, mode, sent, control, false)
-                && all(text, sheets, mode, sent, control, true)
+            if all(rt, text, sheets, mode, sent, control, false)
+                && all(rt, text, sheets, mode, sent, control, true)
             {
-                program::output(&NAME, b"", b"");
+                program::output(rt, &NAME, b"", b"");
             }
         }
         Counted::NotCounted(fault) => {
-            refusals::tell_file(&NAME, b"sheet=0\n", text, fault);
+            refusals::tell_file(rt, &NAME, b"sheet=0\n", text, fault);
         }
     }
 }
 
 // Every sheet in turn, its message handed over where `writing` says so. False where one is refused or can't be written, which is told.
 fn all(
+    rt: &HostRuntime,
     text: &[u8],
     sheets: CsvSheets,
     mode: &[u8],
@@ -87,6 +88,7 @@ fn all(
     // a control and a number
     let mut own = [0u8; 4116];
     each(
+        rt,
         text,
         sheets,
         mode,
@@ -100,6 +102,7 @@ fn all(
 }
 
 fn each(
+    rt: &HostRuntime,
     text: &[u8],
     sheets: CsvSheets,
     mode: &[u8],
@@ -120,43 +123,53 @@ fn each(
         let next = oul::csv_next(text, at, mode, sent, program::front(own, n), sheet);
         let made = next.made;
         at = next.place;
-        if !one(text, k, made, sheet, message, writing) {
+        if !one(rt, text, k, made, sheet, message, writing) {
             return false;
         }
     }
     true
 }
 
-fn one(text: &[u8], k: usize, made: Made, sheet: &[u8], message: &mut [u8], writing: bool) -> bool {
+fn one(
+    rt: &HostRuntime,
+    text: &[u8],
+    k: usize,
+    made: Made,
+    sheet: &[u8],
+    message: &mut [u8],
+    writing: bool,
+) -> bool {
     match made {
-        Made::Sheet(n) => message_of(k, program::front(sheet, n), message, writing),
-        Made::Unfit(refusal) => refuse(k, refusal),
+        Made::Sheet(n) => message_of(rt, k, program::front(sheet, n), message, writing),
+        Made::Unfit(refusal) => refuse(rt, k, refusal),
         Made::Faulty(fault) => {
-            refusals::tell_file(&NAME, b"sheet=0\n", text, fault);
+            refusals::tell_file(rt, &NAME, b"sheet=0\n", text, fault);
             false
         }
     }
 }
 
-fn message_of(k: usize, sheet: &[u8], message: &mut [u8], writing: bool) -> bool {
+fn message_of(rt: &HostRuntime, k: usize, sheet: &[u8], message: &mut [u8], writing: bool) -> bool {
     match oul::to_message(sheet, message) {
-        Written::Wrote(n) => handed(program::front(message, n), writing),
-        Written::NotWritten(refusal) => refuse(k, refusal),
+        Written::Wrote(n) => handed(rt, program::front(message, n), writing),
+        Written::NotWritten(refusal) => refuse(rt, k, refusal),
     }
 }
 
-fn handed(message: &[u8], writing: bool) -> bool {
+fn handed(rt: &HostRuntime, message: &[u8], writing: bool) -> bool {
     if !writing {
         return true;
     }
-    if io::write_all(1, message) {
-        return true;
+    match rt.stdout().write_all(message) {
+        Ok(()) => true,
+        Err(error) => {
+            program::fail(rt, &NAME, b"standard output", &error);
+            false
+        }
     }
-    program::fail(&NAME, b"standard output");
-    false
 }
 
-fn refuse(k: usize, refusal: Refusal) -> bool {
-    refusals::tell_one(&NAME, k, refusal);
+fn refuse(rt: &HostRuntime, k: usize, refusal: Refusal) -> bool {
+    refusals::tell_one(rt, &NAME, k, refusal);
     false
 }

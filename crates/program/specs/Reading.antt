@@ -1,14 +1,14 @@
 -- What reading tells.
-use Rattle.std.specs.Prelude.{ℕ, ◌≤◌, ℤ, pos, negsuc}
+use Rattle.std.specs.Prelude.{ℕ, ◌≤◌, Result, Ok, Err}
 use Rattle.program.specs.declared.Input.{Input}
 use Rattle.program.specs.declared.Input.TheVariants.{Whole, Failed}
 use Rattle.program.specs.declared.Number.{Number}
 use Rattle.program.specs.declared.Number.TheVariants.{Is, Wrong}
 
--- a read that brought nothing, behind so many bytes: its answer is 0 at the end of the input, -1 where it failed
-unfoldable pub ending_of : ℤ → ℕ → Input
-ending_of (pos k) done = Whole done
-ending_of (negsuc k) done = Failed
+-- a read that brought nothing, behind so many bytes: it succeeds at the end of the input
+unfoldable pub ending_of : {E : Type 0} → Result ℕ E → ℕ → Input
+ending_of (Ok k) done = Whole done
+ending_of (Err e) done = Failed
 
 -- an input lies in its buffer of n bytes
 abbrev pub InBuffer : ℕ → Input → Type 0

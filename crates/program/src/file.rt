@@ -12,24 +12,24 @@ pub fn room() -> [u8; 4194305]
 }
 
 // Reads the file in the way of `read_input`, into a buffer that is longer by one byte than the longest file.
-pub fn read(program: &[u8], usage: &[u8], others: usize, buf: &mut [u8]) -> Input
+pub fn read(rt: &HostRuntime, program: &[u8], usage: &[u8], others: usize, buf: &mut [u8]) -> Input
     ensures { InBuffer (length buf.new) result }
 {
     let room = buf.len();
-    match crate::read_input(program, usage, others, buf) {
-        Input::Whole(n) => fitting(program, n, room),
+    match crate::read_input(rt, program, usage, others, buf) {
+        Input::Whole(n) => fitting(rt, program, n, room),
         Input::Failed => Input::Failed,
     }
 }
 
-fn fitting(program: &[u8], n: usize, room: usize) -> Input
+fn fitting(rt: &HostRuntime, program: &[u8], n: usize, room: usize) -> Input
     requires { n ≤ room }
     ensures { InBuffer room result }
 {
     if n < room {
         return Input::Whole(n);
     }
-    io::write_all(2, program);
-    io::write_all(2, b": the file has more than 4,194,304 bytes\n");
+    crate::say(rt, program);
+    crate::say(rt, b": the file has more than 4,194,304 bytes\n");
     Input::Failed
 }

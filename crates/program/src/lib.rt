@@ -1,9 +1,17 @@
 // What a program does around its call: its input is read whole or not at all, its output is handed over whole or told as failed, and wrong arguments are answered by how it
 // is called. No contract can say what is read or written; what fails is told on standard error, with the system's reason.
+#![tactic(auto)]
+
 pub mod file;
 
 ghost use Rattle.std.specs.Prelude.{◌≡◌, length, take};
 ghost use Rattle.program.specs.Reading.{ending_of, InBuffer, NineDigits};
+
+use std::env::FillError;
+use std::fs::{File, OpenOptions};
+use std::io::{IsTerminal, Read, Write};
+use std::rt::Env;
+use std::{fs, io};
 
 // ---- input
 // A whole input of so many bytes, at the start of the lent buffer; or none, and why is told already.
@@ -14,88 +22,98 @@ pub enum Input {
 }
 
 // Reads the file that the last argument names, or standard input where there is none. Before it stand `others` arguments, the program's own name among them.
-pub fn read_input(program: &[u8], usage: &[u8], others: usize, buf: &mut [u8]) -> Input
+pub fn read_input(
+    rt: &HostRuntime,
+    program: &[u8],
+    usage: &[u8],
+    others: usize,
+    buf: &mut [u8],
+) -> Input
     ensures { InBuffer (length buf.new) result }
 {
-    let given = os::arg_count();
+    let given = arg_count(rt);
     if given == others {
-        return read_standard(program, buf);
+        return read_standard(rt, program, buf);
     }
     if given < others {
-        return explain(usage);
+        return explain(rt, usage);
     }
     if given - others != 1 {
-        return explain(usage);
+        return explain(rt, usage);
     }
-    let mut path = io::buffer();
-    let n = os::arg(others, &mut path);
-    if os::errno() != 0 {
-        return fail(program, b"FILE");
+    let mut path = [0u8; 4096];
+    match rt.arg(others, &mut path) {
+        Ok(n) => read_file(rt, program, usage, &path[..n], buf),
+        Err(_) => fail(rt, program, b"FILE", &name_too_long()),
     }
-    read_file(program, usage, &path[..n], buf)
 }
 
-fn read_standard(program: &[u8], buf: &mut [u8]) -> Input
+fn read_standard(rt: &HostRuntime, program: &[u8], buf: &mut [u8]) -> Input
     ensures { InBuffer (length buf.new) result }
 {
-    if libc::isatty(0) == 1 {
-        io::write_all(2, program);
-        io::write_all(2, b": waiting for standard input\n");
+    let mut input = rt.stdin();
+    if input.is_terminal() {
+        say(rt, program);
+        say(rt, b": waiting for standard input\n");
     }
-    read_from(program, b"standard input", 0, buf)
+    read_all(rt, program, b"standard input", &mut input, buf)
 }
 
 // A word that begins with - names no file: ./-x does.
-fn read_file(program: &[u8], usage: &[u8], path: &[u8], buf: &mut [u8]) -> Input
+fn read_file(rt: &HostRuntime, program: &[u8], usage: &[u8], path: &[u8], buf: &mut [u8]) -> Input
     ensures { InBuffer (length buf.new) result }
 {
-    if is_option(path) {
-        return explain(usage);
+    if path.starts_with(b"-") {
+        return explain(rt, usage);
     }
-    let fd = os::open_read(path);
-    if fd < 0 {
-        return fail(program, path);
+    match open(rt, path) {
+        Ok(mut file) => read_all(rt, program, path, &mut file, buf),
+        Err(error) => fail(rt, program, path, &error),
     }
-    read_from(program, path, fd, buf)
 }
 
-fn is_option(word: &[u8]) -> bool {
-    if word.len() == 0 {
-        return false;
-    }
-    word[0] == b'-'
-}
-
-fn read_from(program: &[u8], file: &[u8], fd: i32, buf: &mut [u8]) -> Input
-    ensures { InBuffer (length buf.new) result }
-{
-    match read_all(fd, buf) {
-        Input::Whole(n) => Input::Whole(n),
-        Input::Failed => fail(program, file),
+// std takes a name only as text.
+fn open(rt: &HostRuntime, path: &[u8]) -> io::Result<File> {
+    match str::from_utf8(path) {
+        Ok(name) => File::open(rt, name),
+        Err(_) => Err(io::Error::new(io::ErrorKind::InvalidInput, "the name is not UTF-8")),
     }
 }
 
 // Reads until the input ends or the buffer is full.
-fn read_all(fd: i32, buf: &mut [u8]) -> Input
+#[tactic(auto, using(crate::proofs::Laws::ending_within))]
+fn read_all<R: Read>(
+    rt: &HostRuntime,
+    program: &[u8],
+    file: &[u8],
+    reader: &mut R,
+    buf: &mut [u8],
+) -> Input
     ensures { InBuffer (length buf.new) result }
 {
     let mut done = 0;
     while done < buf.len() {
-        let answer = libc::read(fd, &mut buf[done..]);
-        let more = io::count(answer, &buf[done..]);
-        if more == 0 {
-            return ending(answer, done);
+        match reader.read(&mut buf[done..]) {
+            Ok(more) if more > 0 => done += more,
+            answer => return ending(rt, program, file, answer, done),
         }
-        done += more;
     }
     Input::Whole(done)
 }
 
-// What a read that brought nothing says: its answer is 0 at the end of the input, -1 where it failed. A failure is never taken for the end.
-fn ending(answer: isize, done: usize) -> Input
+// What a read that brought nothing says: it succeeds at the end of the input. A failure is told, and never taken for the end.
+#[tactic(auto, unfolding(crate::specs::Reading::ending_of))]
+fn ending(
+    rt: &HostRuntime,
+    program: &[u8],
+    file: &[u8],
+    answer: io::Result<usize>,
+    done: usize,
+) -> Input
     ensures { result ≡ ending_of answer done }
 {
-    if answer < 0 {
+    if let Err(error) = answer {
+        fail(rt, program, file, &error);
         return Input::Failed;
     }
     Input::Whole(done)
@@ -112,24 +130,70 @@ pub fn front(buf: &[u8], n: usize) -> &[u8]
 }
 
 // ---- what fails, and how the program is called
-// The program, the file, and the reason of the call that failed last: a write that succeeds leaves errno as it is.
-pub fn fail(program: &[u8], file: &[u8]) -> Input
+// The program, the file, and the reason.
+pub fn fail(rt: &HostRuntime, program: &[u8], file: &[u8], error: &io::Error) -> Input
     ensures { result ≡ Input.Failed }
 {
-    io::write_all(2, program);
-    io::write_all(2, b": ");
-    os::fail(file);
+    say(rt, program);
+    say(rt, b": ");
+    say(rt, file);
+    say(rt, b": ");
+    say_reason(rt, error);
+    say(rt, b"\n");
     Input::Failed
 }
 
-pub fn explain(usage: &[u8]) -> Input
+// The system's words, without the number that std puts behind them.
+fn say_reason(rt: &HostRuntime, error: &io::Error) {
+    let mut text = [0u8; 320];
+    let n = put_error(&mut text, error);
+    let words = front(&text, n);
+    let end = words
+        .windows(NUMBER.len())
+        .position(|w| w == NUMBER.as_slice())
+        .unwrap_or(n);
+    say(rt, front(words, end));
+}
+
+const NUMBER: [u8; 11] = *b" (os error ";
+
+// How many bytes an error's text has, which is put at the front of the buffer.
+fn put_error(text: &mut [u8], error: &io::Error) -> usize {
+    let room = text.len();
+    let mut rest = text;
+    let _ = write!(rest, "{error}");
+    room.saturating_sub(rest.len())
+}
+
+// The system's reason for a name with more bytes than it takes, ENAMETOOLONG.
+fn name_too_long() -> io::Error {
+    io::Error::from_raw_os_error(36)
+}
+
+pub fn explain(rt: &HostRuntime, usage: &[u8]) -> Input
     ensures { result ≡ Input.Failed }
 {
-    io::write_all(2, usage);
+    say(rt, usage);
     Input::Failed
 }
 
-// ---- a number among the arguments
+// Words on standard error. Where that fails, nothing is left to tell it on.
+pub fn say(rt: &HostRuntime, words: &[u8]) {
+    let _ = rt.stderr().write_all(words);
+}
+
+// ---- the arguments
+// How many there are, the program's own name among them.
+pub fn arg_count(rt: &HostRuntime) -> usize {
+    (0..usize::MAX)
+        .find(|i| !is_given(rt, *i))
+        .unwrap_or(usize::MAX)
+}
+
+fn is_given(rt: &HostRuntime, i: usize) -> bool {
+    !matches!(rt.arg(i, &mut []), Err(FillError::NotPresent))
+}
+
 // A whole number of at most nine digits.
 #[derive(Clone, Copy)]
 pub enum Number {
@@ -137,12 +201,14 @@ pub enum Number {
     Wrong,
 }
 
-pub fn number_at(i: usize) -> Number
+pub fn number_at(rt: &HostRuntime, i: usize) -> Number
     ensures { NineDigits result }
 {
     let mut digits = [0u8; 9];
-    let n = os::arg(i, &mut digits);
-    read_number(&digits[..n])
+    match rt.arg(i, &mut digits) {
+        Ok(n) => read_number(&digits[..n]),
+        Err(_) => Number::Wrong,
+    }
 }
 
 // At least one digit, and nothing else.
@@ -172,9 +238,32 @@ fn read_number(s: &[u8]) -> Number
 }
 
 // ---- output
-// Hands bytes, and what ends them, to standard output, and closes it: some file systems tell a full disk only then.
-pub fn output(program: &[u8], bytes: &[u8], end: &[u8]) {
-    if !(io::write_all(1, bytes) && io::write_all(1, end) && libc::close(1) == 0) {
-        fail(program, b"standard output");
+// Hands bytes, and what ends them, to standard output.
+pub fn output(rt: &HostRuntime, program: &[u8], bytes: &[u8], end: &[u8]) {
+    if let Err(error) = hand_over(rt, bytes, end) {
+        fail(rt, program, b"standard output", &error);
     }
 }
+
+fn hand_over(rt: &HostRuntime, bytes: &[u8], end: &[u8]) -> io::Result<()> {
+    let mut out = rt.stdout();
+    out.write_all(bytes)?;
+    out.write_all(end)?;
+    // fails where standard output is closed, even if there was nothing to write
+    out.write(b"")?;
+    match output_file(rt) {
+        Some(file) => file.sync_data(),
+        None => Ok(()),
+    }
+}
+
+// Standard output, where that is a file: some file systems tell a full disk only when a file is synced.
+fn output_file(rt: &HostRuntime) -> Option<File> {
+    let about = fs::metadata(rt, OUTPUT).ok()?;
+    if !about.is_file() {
+        return None;
+    }
+    OpenOptions::new().write(true).open(rt, OUTPUT).ok()
+}
+
+const OUTPUT: &str = "/dev/stdout";
