@@ -1,4 +1,6 @@
 // The face of the library: its calls, each by its one named promise. None asks anything of its caller.
+#![tactic(auto)]
+
 ghost use Rattle.rules.specs.Promises.{Checked, Located, PartGiven, StretchGiven, SegmentFound, TextWritten, SheetWritten, MessageWritten};
 ghost use Rattle.csv_rules.specs.Promises.{SheetsCounted, LineTold, CsvSheetWritten, NextSheetWritten};
 ghost use Rattle.spot.specs.Spot.{SpotTold};

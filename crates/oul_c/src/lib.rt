@@ -1,5 +1,7 @@
 // The face of the library for C: the calls of `oul` on numbers and bytes. Each answers 0, or the number of the refusal, and fills three numbers that the caller
 // lends: what was asked for, or the refusal's segment (or line), its field and 0. include/oul.h declares them.
+#![tactic(auto)]
+
 ghost use Rattle.std.specs.Prelude.{◌≡◌, [], ◌∷◌, length};
 ghost use Rattle.rules.specs.Told.{gives, number, told_length};
 ghost use Rattle.rules.specs.Frame.{known};
