@@ -1,6 +1,6 @@
 /* read_csv: goes through the commercial centre's file on standard input sheet by sheet, and says what the message of each holds, or why it is refused and where.
  *
- *     rt staticlib oul_c
+ *     bin/build oul_c
  *     cc -I include examples/read_csv.c target/staticlib/liboul_c.a -o read_csv        (on x86-64 Linux)
  *     ./read_csv <tests/outside/004-csv-v4-full-width.csv
  */

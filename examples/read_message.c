@@ -1,6 +1,6 @@
 /* read_message: checks the message on standard input and says what it holds, with its sheet, or why it is refused and where.
  *
- *     rt staticlib oul_c
+ *     bin/build oul_c
  *     cc -I include examples/read_message.c target/staticlib/liboul_c.a -o read_message        (on x86-64 Linux)
  *     ./read_message <tests/outside/01-whole-case.msg
  */

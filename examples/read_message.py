@@ -3,7 +3,7 @@
 
 The library is the archive as a shared one, for x86-64 Linux:
 
-    rt staticlib oul_c
+    bin/build oul_c
     cc -shared -Wl,--whole-archive target/staticlib/liboul_c.a -Wl,--no-whole-archive -o liboul.so
     python3 examples/read_message.py ./liboul.so <tests/outside/01-whole-case.msg
 """

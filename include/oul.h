@@ -1,4 +1,4 @@
-/* oul.h: the library for C. Link target/staticlib/liboul_c.a (`rt staticlib oul_c`), for x86-64 Linux.
+/* oul.h: the library for C. Link target/staticlib/liboul_c.a (`bin/build oul_c`), for x86-64 Linux.
  *
  * Every call takes any bytes, always returns, and keeps no pointer. It answers 0, or the number of the one refusal that is met first (enum oul_refusal; docs/USER.md
  * says what to do about each). It always fills told[0] to told[2], which the caller lends:

@@ -1,5 +1,5 @@
 //! Links the library's archive: from the folder that `OUL_ARCHIVES` names, else from where
-//! `rt staticlib oul_c` puts it in this repository.
+//! `bin/build oul_c` puts it in this repository.
 
 use std::env;
 use std::path::{absolute, PathBuf};
@@ -12,7 +12,7 @@ fn main() {
     println!("cargo::rerun-if-changed={}", archive.display());
     if !archive.is_file() {
         println!(
-            "cargo::error={} is missing: `rt staticlib oul_c` makes it, OUL_ARCHIVES names another folder",
+            "cargo::error={} is missing: `bin/build oul_c` makes it, OUL_ARCHIVES names another folder",
             archive.display()
         );
         return;

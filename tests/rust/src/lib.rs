@@ -50,7 +50,7 @@ use refusal::number;
 use sheet_writer::SheetWriter;
 use std::ops::Range;
 
-pub use csv_calls::{
+pub use csv::{
     csv_count, csv_next, csv_sheet, csv_sheets, csv_spot, pair, unpaired, Given, Next, Sheet,
     Sheets,
 };
