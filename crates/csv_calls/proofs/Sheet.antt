@@ -11,7 +11,7 @@ use lib.ListN.{length, take, drop, get_elem?, drop_of_length-le}
 use lib.Seq.{length-take-le}
 use Rattle.rules.specs.declared.Kind.TheVariants.{NoOrdinal, Room}
 use Rattle.rules.specs.declared.Refusal.{Refusal}
-use Rattle.rules.specs.Told.{Told, gives, refused, refusal, over}
+use Rattle.rules.specs.Told.{Told, gives, refused, refusal}
 use Rattle.rules.specs.Lists.{all}
 use Rattle.rules.specs.Fetch.{ordinal}
 use Rattle.rules.specs.Sheet.{sheet_of, read_sheet}

@@ -81,7 +81,7 @@ fn handed(sheet: &[u8], out: &mut [u8]) -> Made
 // A sheet that the small buffer can't hold, made once more in one that can: its rows convert.
 fn large(file: &[u8], at: usize, mode: &[u8], sent: &[u8], control: &[u8], out: &mut [u8]) -> Made
     requires { (at < length file.now) × Convertible file.now at }
-    ensures { SheetCall (made_told (sheet_at file.now at (record { mode = mode.entry.now; sent = sent.now; control = control.now })) (length out.old)) out.old result out.new }
+    ensures { SheetCall (made_told (sheet_at file.now at (record { mode = mode.now; sent = sent.now; control = control.now })) (length out.old)) out.old result out.new }
 {
     let mut sheet = room();
     made_in(&mut sheet, file, at, mode, sent, control, out)
@@ -97,7 +97,7 @@ fn made_in(
     out: &mut [u8],
 ) -> Made
     requires { (length sheet.old ≡ 65537) × (at < length file.now) × Convertible file.now at }
-    ensures { SheetCall (made_told (sheet_at file.now at (record { mode = mode.entry.now; sent = sent.now; control = control.now })) (length out.old)) out.old result out.new }
+    ensures { SheetCall (made_told (sheet_at file.now at (record { mode = mode.now; sent = sent.now; control = control.now })) (length out.old)) out.old result out.new }
 {
     let put = csv_runs::put_sheet(sheet, file, at, mode, sent, control);
     let end = put.end;
@@ -114,7 +114,7 @@ pub fn csv_next(
     control: &[u8],
     out: &mut [u8],
 ) -> Next
-    ensures { NextSheetWritten file.now at (record { mode = mode.entry.now; sent = sent.now; control = control.now }) out.old result out.new }
+    ensures { NextSheetWritten file.now at (record { mode = mode.now; sent = sent.now; control = control.now }) out.old result out.new }
 {
     if file.len() <= at {
         return Next {
@@ -136,7 +136,7 @@ fn next_in(
     out: &mut [u8],
 ) -> Next
     requires { at < length file.now }
-    ensures { NextSheetWritten file.now at (record { mode = mode.entry.now; sent = sent.now; control = control.now }) out.old result out.new }
+    ensures { NextSheetWritten file.now at (record { mode = mode.now; sent = sent.now; control = control.now }) out.old result out.new }
 {
     let put = csv_runs::put_sheet(sheet, file, at, mode, sent, control);
     let run = put.run;
@@ -204,7 +204,7 @@ pub fn csv_sheet(
     control: &[u8],
     out: &mut [u8],
 ) -> Made
-    ensures { CsvSheetWritten file.now which (record { mode = mode.entry.now; sent = sent.now; control = control.now }) out.old result out.new }
+    ensures { CsvSheetWritten file.now which (record { mode = mode.now; sent = sent.now; control = control.now }) out.old result out.new }
 {
     match csv_check::verdict_on(file) {
         FileVerdict::Wrong(blame) => {
@@ -226,7 +226,7 @@ fn sheet_of(
     out: &mut [u8],
 ) -> Made
     requires { csv_count file.now ≡ gives sheets }
-    ensures { CsvSheetWritten file.now which (record { mode = mode.entry.now; sent = sent.now; control = control.now }) out.old result out.new }
+    ensures { CsvSheetWritten file.now which (record { mode = mode.now; sent = sent.now; control = control.now }) out.old result out.new }
 {
     if which == 0 {
         return refused(Kind::NoOrdinal);

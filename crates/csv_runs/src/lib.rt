@@ -158,7 +158,7 @@ pub fn put_sheet(
     control: &[u8],
 ) -> PutAt
     requires { at < length file.now }
-    ensures { PutIs file.now at (record { mode = mode.entry.now; sent = sent.now; control = control.now }) out.old result.run.size result.end result.run.good result.run.differs result.run.bad out.new }
+    ensures { PutIs file.now at (record { mode = mode.now; sent = sent.now; control = control.now }) out.old result.run.size result.end result.run.good result.run.differs result.run.bad out.new }
 {
     let first = csv_rows::row(file, at, false);
     if first.bad {

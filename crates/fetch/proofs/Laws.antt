@@ -31,7 +31,6 @@ use Rattle.rules.proofs.Logic.{neither, not-true, not-false}
 use Rattle.rules.proofs.Header.{header}
 use Rattle.rules.proofs.Pieces.{start_first}
 use Rattle.rules.proofs.Where.{accepted-passes}
-use Rattle.plain_bytes.specs.Bytes.{is_byte}
 use Rattle.rules.specs.declared.KnownSegment.{KnownSegment}
 use Rattle.rules.specs.declared.Found.{Found}
 use Rattle.rules.specs.declared.Found.TheVariants as Found

@@ -97,7 +97,7 @@ pub fn csv_sheet(
     control: &[u8],
     out: &mut [u8],
 ) -> Made
-    ensures { CsvSheetWritten file.now which (record { mode = mode.entry.now; sent = sent.now; control = control.now }) out.old result out.new }
+    ensures { CsvSheetWritten file.now which (record { mode = mode.now; sent = sent.now; control = control.now }) out.old result out.new }
 {
     csv_calls::csv_sheet(file, which, mode, sent, control, out)
 }
@@ -112,7 +112,7 @@ pub fn csv_next(
     control: &[u8],
     out: &mut [u8],
 ) -> Next
-    ensures { NextSheetWritten file.now at (record { mode = mode.entry.now; sent = sent.now; control = control.now }) out.old result out.new }
+    ensures { NextSheetWritten file.now at (record { mode = mode.now; sent = sent.now; control = control.now }) out.old result out.new }
 {
     csv_calls::csv_next(file, at, mode, sent, control, out)
 }

@@ -18,7 +18,7 @@ use Rattle.rules.specs.declared.Found.{Found}
 use Rattle.rules.specs.declared.Found.TheVariants as Found
 use Rattle.rules.specs.declared.Written.{Written}
 use Rattle.rules.specs.declared.Written.TheVariants.{Wrote, NotWritten}
-use Rattle.rules.specs.Told.{Told, gives, number, told, told_span, told_length, over, length_of, Call}
+use Rattle.rules.specs.Told.{Told, gives, number, told, told_span, told_length, length_of, Call}
 use Rattle.rules.specs.Shift.{met}
 use Rattle.rules.specs.Frame.{Known}
 use Rattle.rules.specs.Fetch.{found_told}

@@ -140,7 +140,7 @@ pub extern "C" fn oul_csv_sheet(
     out: &mut [u8],
     told: &mut [usize; 3],
 ) -> usize
-    ensures { TellsWritten (csv_sheet file.now which (record { mode = mode.entry.now; sent = sent.now; control = control.now }) (length out.old)) out.old result told.new out.new }
+    ensures { TellsWritten (csv_sheet file.now which (record { mode = mode.now; sent = sent.now; control = control.now }) (length out.old)) out.old result told.new out.new }
 {
     made(oul::csv_sheet(file, which, mode, sent, control, out), told)
 }
@@ -156,7 +156,7 @@ pub extern "C" fn oul_csv_next(
     out: &mut [u8],
     told: &mut [usize; 3],
 ) -> usize
-    ensures { TellsNext (csv_next file.now at (record { mode = mode.entry.now; sent = sent.now; control = control.now }) (length out.old)) (place_after file.now at) out.old result told.new out.new }
+    ensures { TellsNext (csv_next file.now at (record { mode = mode.now; sent = sent.now; control = control.now }) (length out.old)) (place_after file.now at) out.old result told.new out.new }
 {
     let next = oul::csv_next(file, at, mode, sent, control, out);
     let answer = next.made;

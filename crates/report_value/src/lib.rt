@@ -59,7 +59,7 @@ fn four<'a>(
     d: Delims,
 ) -> usize
     requires { Proper d × (length compare.now ≤ 4096) × (length value.now ≤ 4096) × (length join.now ≤ 4096) × (length second.now ≤ 4096) × Near 4 at }
-    ensures lined { Lined at out.old (four_lines d (record { compare = met compare.entry.now; value = met value.now; join = met join.now; second = met second.now })) result out.new }
+    ensures lined { Lined at out.old (four_lines d (record { compare = met compare.now; value = met value.now; join = met join.now; second = met second.now })) result out.new }
     ensures within { result ≤ at + longest 4 }
 {
     let at = fill::two_lines(out, at, b"compare=", compare, b"value=", value, d);

@@ -11,7 +11,7 @@ use Rattle.rules.specs.declared.Delims.{Delims}
 use Rattle.rules.specs.declared.Kind.TheVariants.{Overflow, Room}
 use Rattle.rules.specs.declared.Refusal.{Refusal}
 use Rattle.rules.specs.declared.Written.TheVariants.{Wrote, NotWritten}
-use Rattle.rules.specs.Told.{Told, gives, refused, refusal, over, Call}
+use Rattle.rules.specs.Told.{Told, gives, refused, refusal, Call}
 use Rattle.rules.specs.Lists.{bytes, all, any, has, distinct}
 use Rattle.rules.specs.Frame.{delims_ok}
 use Rattle.rules.specs.Proper.{Proper}
