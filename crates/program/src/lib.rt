@@ -249,11 +249,20 @@ fn hand_over(rt: &HostRuntime, bytes: &[u8], end: &[u8]) -> io::Result<()> {
     let mut out = rt.stdout();
     out.write_all(bytes)?;
     out.write_all(end)?;
-    // fails where standard output is closed, even if there was nothing to write
-    out.write(b"")?;
+    // fails where standard output is closed, even if there was nothing to write; a full device, too, refuses that
+    passing(out.write(b"").map(|_| ()), io::ErrorKind::StorageFull)?;
     match output_file(rt) {
-        Some(file) => file.sync_data(),
+        // what can't be synced is written
+        Some(file) => passing(file.sync_data(), io::ErrorKind::InvalidInput),
         None => Ok(()),
+    }
+}
+
+// An answer, but for failures of one kind.
+fn passing(answer: io::Result<()>, kind: io::ErrorKind) -> io::Result<()> {
+    match answer {
+        Err(error) if error.kind() == kind => Ok(()),
+        other => other,
     }
 }
 
