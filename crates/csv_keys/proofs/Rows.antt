@@ -127,7 +127,7 @@ module _ (r q : Items) where
 
   pub name-is : (column : ℕ) (t u : Bool) → t ≡ same (raw_by (how_of UpToBlank) r column) (raw_by (how_of UpToBlank) q column)
       → u ≡ same (raw_by (how_of PastBlank) r column) (raw_by (how_of PastBlank) q column)
-      → (t && u) ≡ (same (raw_by Columns.upToBlank r column) (raw_by Columns.upToBlank q column) && same (raw_by Columns.pastBlank r column) (raw_by Columns.pastBlank q column))
+      → (t && u) ≡ (same (raw_by Columns.up_to_blank r column) (raw_by Columns.up_to_blank q column) && same (raw_by Columns.past_blank r column) (raw_by Columns.past_blank q column))
   unfolding how_of
   name-is column t u e g = rw (e, g)
 
@@ -159,14 +159,14 @@ module _ (r q : Items) where
   seven true true true true true true g = sym (and-true g)
 
   pub patient-is : (a b c d e : Bool) → a ≡ same (raw_by (how_of Text) r 8) (raw_by (how_of Text) q 8)
-      → b ≡ (same (raw_by Columns.upToBlank r 9) (raw_by Columns.upToBlank q 9) && same (raw_by Columns.pastBlank r 9) (raw_by Columns.pastBlank q 9))
-      → c ≡ (same (raw_by Columns.upToBlank r 10) (raw_by Columns.upToBlank q 10) && same (raw_by Columns.pastBlank r 10) (raw_by Columns.pastBlank q 10))
+      → b ≡ (same (raw_by Columns.up_to_blank r 9) (raw_by Columns.up_to_blank q 9) && same (raw_by Columns.past_blank r 9) (raw_by Columns.past_blank q 9))
+      → c ≡ (same (raw_by Columns.up_to_blank r 10) (raw_by Columns.up_to_blank q 10) && same (raw_by Columns.past_blank r 10) (raw_by Columns.past_blank q 10))
       → d ≡ same (raw_by (how_of Text) r 11) (raw_by (how_of Text) q 11) → e ≡ same (raw_by (how_of Sex) r 12) (raw_by (how_of Sex) q 12)
       → ((((a && b) && c) && d) && e) ≡ raw_agree Pid r q
   unfolding raw_keys columns same_texts how_of
   patient-is a b c d e ea eb ec ed ee =
       rw (ea, eb, ec, ed, ee)
-      (seven (same (raw_by Columns.text r 8) (raw_by Columns.text q 8)) (same (raw_by Columns.upToBlank r 9) (raw_by Columns.upToBlank q 9))
-      (same (raw_by Columns.pastBlank r 9) (raw_by Columns.pastBlank q 9)) (same (raw_by Columns.upToBlank r 10) (raw_by Columns.upToBlank q 10))
-      (same (raw_by Columns.pastBlank r 10) (raw_by Columns.pastBlank q 10)) (same (raw_by Columns.text r 11) (raw_by Columns.text q 11))
+      (seven (same (raw_by Columns.text r 8) (raw_by Columns.text q 8)) (same (raw_by Columns.up_to_blank r 9) (raw_by Columns.up_to_blank q 9))
+      (same (raw_by Columns.past_blank r 9) (raw_by Columns.past_blank q 9)) (same (raw_by Columns.up_to_blank r 10) (raw_by Columns.up_to_blank q 10))
+      (same (raw_by Columns.past_blank r 10) (raw_by Columns.past_blank q 10)) (same (raw_by Columns.text r 11) (raw_by Columns.text q 11))
       (same (raw_by (Columns.coded sexes) r 12) (raw_by (Columns.coded sexes) q 12)))

@@ -11,8 +11,8 @@ use Rattle.csv_keys.specs.declared.How.TheVariants.{Text, UpToBlank, PastBlank, 
 -- the table's way that a case of the code's enum stands for
 unfoldable pub how_of : How → Columns.How
 how_of Text = Columns.text
-how_of UpToBlank = Columns.upToBlank
-how_of PastBlank = Columns.pastBlank
+how_of UpToBlank = Columns.up_to_blank
+how_of PastBlank = Columns.past_blank
 how_of Fifteen = Columns.fifteen
 how_of Sex = Columns.coded sexes
 how_of Class = Columns.coded classes

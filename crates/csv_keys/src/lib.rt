@@ -323,7 +323,7 @@ fn same_at(file: &[u8], a: &[usize; 90], b: &[usize; 90], how: How, column: usiz
 // Whether two rows agree in the halves of a name.
 fn same_name(file: &[u8], a: &[usize; 90], b: &[usize; 90], column: usize) -> bool
     requires { Inside file.now a.now × Inside file.now b.now × (1 ≤ column) × (column ≤ 45) }
-    ensures { result ≡ (same (raw_by Columns.upToBlank (row_at file.now a.now) column) (raw_by Columns.upToBlank (row_at file.now b.now) column) && same (raw_by Columns.pastBlank (row_at file.now a.now) column) (raw_by Columns.pastBlank (row_at file.now b.now) column)) }
+    ensures { result ≡ (same (raw_by Columns.up_to_blank (row_at file.now a.now) column) (raw_by Columns.up_to_blank (row_at file.now b.now) column) && same (raw_by Columns.past_blank (row_at file.now a.now) column) (raw_by Columns.past_blank (row_at file.now b.now) column)) }
 {
     same_at(file, a, b, How::UpToBlank, column) & same_at(file, a, b, How::PastBlank, column)
 }

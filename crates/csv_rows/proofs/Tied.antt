@@ -13,15 +13,15 @@ use Rattle.rules.proofs.Logic.{both}
 use Rattle.rules.proofs.Lists.{all_cons, all_first}
 use Rattle.csv_rules.specs.Quote.{Items}
 use Rattle.csv_rules.specs.Kanji.{characters_at, characters, convertible}
-use Rattle.csv_rules.specs.Columns.{How, text, upToBlank, pastBlank, fifteen, blank, coded, typed, family_of, given_of, fifteen_of, meaning_of, type_of, text_at, value_by, Entry, columns, keys, number_of}
+use Rattle.csv_rules.specs.Columns.{How, text, up_to_blank, past_blank, fifteen, blank, coded, typed, family_of, given_of, fifteen_of, meaning_of, type_of, text_at, value_by, Entry, columns, keys, number_of}
 use Rattle.csv_rules.specs.Raw.{raw_by, raw_keys}
 use Rattle.csv_rows.specs.Rows.{item_at, items_from, row_at, Spans}
 
 -- ---- every column of the table is one of the 45
 unfoldable reaches : How → ℕ → Bool
 reaches text n = leb n 45
-reaches upToBlank n = leb n 45
-reaches pastBlank n = leb n 45
+reaches up_to_blank n = leb n 45
+reaches past_blank n = leb n 45
 reaches fifteen n = leb n 45
 reaches blank n = leb n 45
 reaches (coded cs) n = leb n 45
@@ -49,8 +49,8 @@ module _ (r q : Items) (s : (n : ℕ) → n < 45 → nth r n ≡ nth q n) where
   raw_same : (h : How) (n : ℕ) → reaches h n ≡ true → raw_by h r n ≡ raw_by h q n
   unfolding raw_by reaches
   raw_same text n k = column-same n k
-  raw_same upToBlank n k = ap family_of (column-same n k)
-  raw_same pastBlank n k = ap given_of (column-same n k)
+  raw_same up_to_blank n k = ap family_of (column-same n k)
+  raw_same past_blank n k = ap given_of (column-same n k)
   raw_same fifteen n k = ap fifteen_of (column-same n k)
   raw_same blank n k = refl
   raw_same (coded cs) n k = ap (meaning_of cs) (column-same n k)
@@ -65,8 +65,8 @@ module _ (r q : Items) (s : (n : ℕ) → n < 45 → nth r n ≡ nth q n) where
   value_same : (h : How) (n : ℕ) → reaches h n ≡ true → value_by h r n ≡ value_by h q n
   unfolding value_by reaches
   value_same text n k = text_same n k
-  value_same upToBlank n k = ap family_of (text_same n k)
-  value_same pastBlank n k = ap given_of (text_same n k)
+  value_same up_to_blank n k = ap family_of (text_same n k)
+  value_same past_blank n k = ap given_of (text_same n k)
   value_same fifteen n k = ap fifteen_of (text_same n k)
   value_same blank n k = refl
   value_same (coded cs) n k = ap (meaning_of cs) (text_same n k)

@@ -20,7 +20,7 @@ use Rattle.rules.proofs.Logic.{cases, both, either, never, and-false, or-true, n
 use Rattle.rules.proofs.Lists.{same-eq, same_self, empty-is, all_first, all_cons, all-each}
 use Rattle.csv_rules.specs.Kanji.{lead, trail, first, second, is_pair, Character, one, pair, characters_at, characters, good_character, convertible, into, back, shifted, converted}
 use Rattle.csv_rules.specs.Quote.{Items}
-use Rattle.csv_rules.specs.Columns.{How, text, upToBlank, pastBlank, fifteen, blank, coded, typed, family_of, given_of, fifteen_of, meaning_of, type_of, text_at, value_by, Entry, columns, keys}
+use Rattle.csv_rules.specs.Columns.{How, text, up_to_blank, past_blank, fifteen, blank, coded, typed, family_of, given_of, fifteen_of, meaning_of, type_of, text_at, value_by, Entry, columns, keys}
 use Rattle.csv_rules.specs.Sheets.{same_texts, agree}
 use Rattle.csv_rules.specs.Raw.{raw_by, raw_keys, raw_agree}
 use Rattle.csv_rules.proofs.Pairs.{every-pair}
@@ -350,8 +350,8 @@ type-becomes v f h k =
 -- ---- a key's value is the converted text of its raw value
 unfoldable pub plain_how : How → Bool
 plain_how text = true
-plain_how upToBlank = true
-plain_how pastBlank = true
+plain_how up_to_blank = true
+plain_how past_blank = true
 plain_how fifteen = true
 plain_how blank = true
 plain_how (coded cs) = plain_codes cs
@@ -365,8 +365,8 @@ item-converts (i ∷ row) (suc n) h = item-converts row n (all_first convertible
 pub value-becomes : (how : How) (row : Items) (n : ℕ) → plain_how how ≡ true → all convertible row ≡ true → Becomes (raw_by how row n) (value_by how row n)
 unfolding raw_by value_by text_at plain_how
 value-becomes text row n p h = record { good = item-converts row (n - 1) h; is = refl }
-value-becomes upToBlank row n p h = (halves-become (nth row (n - 1)) (item-converts row (n - 1) h)).0
-value-becomes pastBlank row n p h = (halves-become (nth row (n - 1)) (item-converts row (n - 1) h)).1
+value-becomes up_to_blank row n p h = (halves-become (nth row (n - 1)) (item-converts row (n - 1) h)).0
+value-becomes past_blank row n p h = (halves-become (nth row (n - 1)) (item-converts row (n - 1) h)).1
 value-becomes fifteen row n p h = fifteen-becomes (nth row (n - 1)) (item-converts row (n - 1) h)
 value-becomes blank row n p h = nothing-becomes
 value-becomes (coded cs) row n p h = meaning-becomes cs (nth row (n - 1)) p (item-converts row (n - 1) h)

@@ -13,7 +13,7 @@ use Rattle.csv_rules.specs.Kanji.{converted}
 -- ---- how a column's text becomes a value
 pub data How : Type 0 where
   -- as it is; before the first blank, after it; fifteen digits; always blank
-  text upToBlank pastBlank fifteen blank : How
+  text up_to_blank past_blank fifteen blank : How
   -- by a table of codes
   coded : List (String × String) → How
   -- the type, where this column is the form of the value in column n
@@ -45,8 +45,8 @@ text_at row n = converted (nth row (n - 1))
 
 unfoldable pub value_by : How → Items → ℕ → List ℕ
 value_by text row n = text_at row n
-value_by upToBlank row n = family_of (text_at row n)
-value_by pastBlank row n = given_of (text_at row n)
+value_by up_to_blank row n = family_of (text_at row n)
+value_by past_blank row n = given_of (text_at row n)
 value_by fifteen row n = fifteen_of (text_at row n)
 value_by blank row n = []
 value_by (coded cs) row n = meaning_of cs (text_at row n)
@@ -78,10 +78,10 @@ unfoldable pub columns : Name → List Entry
 unfolding entry
 columns Pid =
     entry "patient" 8 "患者ID(カルテ番号)" text
-    ∷ entry "family" 9 "患者氏名(漢字氏名)" upToBlank
-    ∷ entry "given" 9 "患者氏名(漢字氏名)" pastBlank
-    ∷ entry "kanafamily" 10 "半角カナ氏名" upToBlank
-    ∷ entry "kanagiven" 10 "半角カナ氏名" pastBlank
+    ∷ entry "family" 9 "患者氏名(漢字氏名)" up_to_blank
+    ∷ entry "given" 9 "患者氏名(漢字氏名)" past_blank
+    ∷ entry "kanafamily" 10 "半角カナ氏名" up_to_blank
+    ∷ entry "kanagiven" 10 "半角カナ氏名" past_blank
     ∷ entry "birth" 11 "生年月日" text
     ∷ entry "sex" 12 "性別" (coded sexes)
     ∷ []

@@ -4,13 +4,13 @@ use Rattle.std.specs.Prelude.{Bool, List, [], map, ℕ, ◌-◌}
 use Rattle.rules.specs.declared.Name.{Name}
 use Rattle.rules.specs.Lists.{nth}
 use Rattle.csv_rules.specs.Quote.{Items}
-use Rattle.csv_rules.specs.Columns.{How, text, upToBlank, pastBlank, fifteen, blank, coded, typed, family_of, given_of, fifteen_of, meaning_of, type_of, Entry, columns}
+use Rattle.csv_rules.specs.Columns.{How, text, up_to_blank, past_blank, fifteen, blank, coded, typed, family_of, given_of, fifteen_of, meaning_of, type_of, Entry, columns}
 use Rattle.csv_rules.specs.Sheets.{same_texts}
 
 unfoldable pub raw_by : How → Items → ℕ → List ℕ
 raw_by text row n = nth row (n - 1)
-raw_by upToBlank row n = family_of (nth row (n - 1))
-raw_by pastBlank row n = given_of (nth row (n - 1))
+raw_by up_to_blank row n = family_of (nth row (n - 1))
+raw_by past_blank row n = given_of (nth row (n - 1))
 raw_by fifteen row n = fifteen_of (nth row (n - 1))
 raw_by blank row n = []
 raw_by (coded cs) row n = meaning_of cs (nth row (n - 1))
