@@ -6,14 +6,14 @@ use Prim.Native.Nat.{ℕ, suc, ◌+◌, ◌-◌, ◌≤◌, ◌<◌}
 use native.Mathlib.Numerals.{add-one}
 use native.Mathlib.Omega.{arith}
 use lib.ListN.{length, take, drop, length-take}
+use Rattle.std.specs.declared.result.Result.{Result}
+use Rattle.std.specs.declared.result.Result.TheVariants.{Ok, Err}
 use Rattle.rules.specs.declared.Delims.{Delims}
 use Rattle.rules.specs.declared.Counts.{Counts}
 use Rattle.rules.specs.declared.Kind.{Kind}
 use Rattle.rules.specs.declared.Refusal.{Refusal}
 use Rattle.rules.specs.declared.Name.{Name}
 use Rattle.rules.specs.declared.Name.TheVariants.{Obr, Other}
-use Rattle.rules.specs.declared.Answer.{Answer}
-use Rattle.rules.specs.declared.Answer.TheVariants.{Accepted, Refused}
 use Rattle.rules.specs.Told.{Told, gives, refused, number, told, ◌>>◌}
 use Rattle.rules.specs.Lists.{split, all_but_last}
 use Rattle.rules.specs.Shift.{met}
@@ -33,10 +33,8 @@ use Rattle.value.specs.Rules.{fault_no, fine_of}
 use Rattle.value.proofs.Laws.{fine-zero, fault-some}
 use Rattle.fields.specs.Segment.{as_known, said, FoundIn}
 use Rattle.specimen.specs.Specimen.{OrderAt}
-use Rattle.frame.specs.Frame.{framed_told, frame_of, Sound}
+use Rattle.frame.specs.Frame.{frame_of, Sound}
 use Rattle.frame.specs.declared.Opened.{Opened}
-use Rattle.frame.specs.declared.Framed.{Framed}
-use Rattle.frame.specs.declared.Framed.TheVariants.{Open, Not}
 use Rattle.frame.proofs.Rules.{check-refused, check-given}
 use Rattle.frame.proofs.Laws.{segments-next, there, ends-inside, good-there, named-there}
 use Rattle.checks.specs.Check.{read_told}
@@ -94,7 +92,7 @@ read_is : (d : Delims) (m : List ℕ) (c : Counts) → Sound m d → (told_from 
 unfolding read_told told_from view known
 read_is d m c s = rw s.delims
 
-pub ends : (d : Delims) (m order : List ℕ) (i at : ℕ) (c : Counts) → Sound m d → Going d m order i at → length m ≤ at → told (Accepted c) ≡ read_told d c m
+pub ends : (d : Delims) (m order : List ℕ) (i at : ℕ) (c : Counts) → Sound m d → Going d m order i at → length m ≤ at → told (Ok c) ≡ read_told d c m
 ends d m order i at c s g h = sym (ap (λ t. t >> gives c) (g.told ∙ none)) ∙ read_is d m c s
   where
     none : told_from d (said order) i at (drop at m) ≡ gives tt
@@ -143,7 +141,7 @@ module _ (d : Delims) (m order : List ℕ) (i at n : ℕ) (g : Going d m order i
           ∙ rw (named, rest_end m at n short, rest-on m at n)
 
       pub refuses : (c : Counts) (kind : Kind) → Sound m d → not u ≡ true → number kind ≡ fault_no f
-          → told (Refused (record { kind = kind; segment = i; field = field })) ≡ read_told d c m
+          → told (Err (record { kind = kind; segment = i; field = field })) ≡ read_told d c m
       refuses c kind s hu ek =
           let r : told_from d unsaid 1 0 m ≡ refused (fault_no f) i field = turned ∙ stopped f i field (tail after) (sym eu ∙ not-true u hu) in
           ap (λ k. refused k i field) ek ∙ sym (ap (λ t. t >> gives c) r) ∙ read_is d m c s
@@ -180,13 +178,13 @@ pub kind-none : (f : Fault) (n : ℕ) → f ≡ Nothing → fine_of f ≡ false 
 unfolding fine_of fault_no
 kind-none f n e h = absurd (false≢true (sym h ∙ ap fine_of e))
 
-module _ (m : List ℕ) (p : Framed) (ep : framed_told p ≡ frame_of m) where
-  pub check-not : (r : Refusal) → p ≡ Not r → Checked m (Refused r)
-  check-not r e = sym (check-refused m (number r.kind) r.segment r.field (sym ep ∙ ap framed_told e))
+module _ (m : List ℕ) (p : Result Opened Refusal) (ep : told p ≡ frame_of m) where
+  pub check-not : (r : Refusal) → p ≡ Err r → Checked m (Err r)
+  check-not r e = sym (check-refused m (number r.kind) r.segment r.field (sym ep ∙ ap told e))
 
-  pub check-read : (o : Opened) (a : Answer) → p ≡ Open o → told a ≡ read_told o.delims o.counts m → Checked m a
+  pub check-read : (o : Opened) (a : Result Counts Refusal) → p ≡ Ok o → told a ≡ read_told o.delims o.counts m → Checked m a
   unfolding read_told
-  check-read o a e h = h ∙ sym (check-given m o (sym ep ∙ ap framed_told e))
+  check-read o a e h = h ∙ sym (check-given m o (sym ep ∙ ap told e))
 
-pub sound-of : (m : List ℕ) (p : Framed) (o : Opened) → ((q : Opened) → p ≡ Open q → Sound m q.delims) → p ≡ Open o → Sound m o.delims
+pub sound-of : (m : List ℕ) (p : Result Opened Refusal) (o : Opened) → ((q : Opened) → p ≡ Ok q → Sound m q.delims) → p ≡ Ok o → Sound m o.delims
 sound-of m p o f e = f o e

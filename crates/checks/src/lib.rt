@@ -8,16 +8,15 @@ ghost use Rattle.value.specs.Rules.{fault_no, fine_of};
 ghost use Rattle.frame.specs.Frame.{Sound};
 ghost use Rattle.checks.specs.Check.{read_told};
 
-use frame::Framed;
-use rules::{Answer, Counts, Delims, Kind, Name, Refusal};
+use rules::{Counts, Delims, Kind, Name, Refusal};
 use value::Fault;
 
-pub fn check(m: &[u8]) -> Answer
+pub fn check(m: &[u8]) -> Result<Counts, Refusal>
     ensures { Checked m.now result }
 {
     match frame::frame(m) {
-        Framed::Not(r) => Answer::Refused(r),
-        Framed::Open(o) => {
+        Err(r) => Err(r),
+        Ok(o) => {
             let d = o.delims;
             let counts = o.counts;
             check_places(m, d, counts)
@@ -26,7 +25,7 @@ pub fn check(m: &[u8]) -> Answer
 }
 
 // 20 to 27, segment by segment; the order number of the last OBR is passed on.
-fn check_places(m: &[u8], d: Delims, counts: Counts) -> Answer
+fn check_places(m: &[u8], d: Delims, counts: Counts) -> Result<Counts, Refusal>
     requires { Sound m.now d }
     ensures { told result ≡ read_told d counts m.now }
 {
@@ -46,7 +45,7 @@ fn check_places(m: &[u8], d: Delims, counts: Counts) -> Answer
         let fault = read.fault;
         if !value::fine(fault) {
             let kind = kind_of(fault);
-            return Answer::Refused(Refusal {
+            return Err(Refusal {
                 kind,
                 segment: ordinal,
                 field: read.field,
@@ -59,7 +58,7 @@ fn check_places(m: &[u8], d: Delims, counts: Counts) -> Answer
             order = &s[from..to];
         }
     }
-    Answer::Accepted(counts)
+    Ok(counts)
 }
 
 // The kind of a refusal for a fault.

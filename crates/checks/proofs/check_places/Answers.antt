@@ -1,6 +1,5 @@
 use native.Mathlib.Omega.{arith}
 use borrow.Author.Rules.{rules}
-use Prim.Native.Nat.{◌-◌}
 use Rattle.rules.proofs.Lists.{part_length}
 use Rattle.checks.proofs.Laws.{ends, order-ends, faulty, further, orders, passes, refuses, skipped, starts}
 use Rattle.checks.proofs.check_places.Goals as goal
