@@ -6,24 +6,17 @@ ghost use Rattle.std.specs.Prelude.{◌≡◌, [], ◌∷◌, ◌++◌, ◌+◌,
 ghost use Rattle.rules.specs.Shift.{met};
 ghost use Rattle.rules.specs.Proper.{Proper};
 ghost use Rattle.rules.specs.Judge.{plain_of};
-ghost use Rattle.fill.specs.Fill.{lesser, Filled, FilledAt, Lined, keyed, longest, Near};
+ghost use Rattle.fill.specs.Fill.{Filled, FilledAt, Lined, keyed, longest, Near};
 
 use rules::Delims;
 use unescape::Unescaped;
 
-// The lesser of two numbers.
-pub fn lesser(a: usize, b: usize) -> usize
-    ensures value { result ≡ lesser a b }
-    ensures within { (result ≤ a) × (result ≤ b) }
-{
-    if a < b { a } else { b }
-}
-
 // Bytes as they are.
+#[tactic(auto, using(crate::proofs::Laws::prefix_room, crate::proofs::Laws::put_fills))]
 fn put(out: &mut [u8], bytes: &[u8]) -> usize
     ensures { Filled result out.new bytes.now out.old }
 {
-    let n = lesser(bytes.len(), out.len());
+    let n = bytes.len().min(out.len());
     writer::put(out, &bytes[..n]);
     bytes.len()
 }
@@ -48,24 +41,27 @@ pub fn text(out: &mut [u8], raw: &[u8], d: Delims) -> usize
 
 // ---- from a place on
 
+#[tactic(auto, using(crate::proofs::Laws::back))]
 fn put_at(out: &mut [u8], at: usize, bytes: &[u8]) -> usize
     requires { at + length bytes.now < 18446744073709551616 }
     ensures { FilledAt at out.old bytes.now result out.new }
 {
-    let from = lesser(at, out.len());
+    let from = at.min(out.len());
     at + put(&mut out[from..], bytes)
 }
 
+#[tactic(auto, using(crate::proofs::Laws::back))]
 fn text_at(out: &mut [u8], at: usize, raw: &[u8], d: Delims) -> usize
     requires { Proper d × (length raw.now ≤ 4096) × (at + length raw.now < 18446744073709551616) }
     ensures filled_at { FilledAt at out.old (plain_of d (met raw.now)) result out.new }
     ensures within { result ≤ at + length raw.now }
 {
-    let from = lesser(at, out.len());
+    let from = at.min(out.len());
     at + text(&mut out[from..], raw, d)
 }
 
 // A line: its key with `=`, its value, 0A.
+#[tactic(auto, using(crate::proofs::Laws::line_is))]
 pub fn line(out: &mut [u8], at: usize, key: &[u8], raw: &[u8], d: Delims) -> usize
     requires { Proper d × (length key.now ≤ 16) × (length raw.now ≤ 4096) × Near 1 at }
     ensures lined { Lined at out.old (keyed d key.now (met raw.now) ∷ []) result out.new }
@@ -77,6 +73,7 @@ pub fn line(out: &mut [u8], at: usize, key: &[u8], raw: &[u8], d: Delims) -> usi
 }
 
 // A line whose value is written as it is.
+#[tactic(auto, using(crate::proofs::Laws::line_is))]
 pub fn line_as_is(out: &mut [u8], at: usize, key: &[u8], value: &[u8]) -> usize
     requires { (length key.now ≤ 16) × (length value.now ≤ 4096) × Near 1 at }
     ensures lined { Lined at out.old ((key.now ++ value.now) ∷ []) result out.new }
@@ -88,6 +85,7 @@ pub fn line_as_is(out: &mut [u8], at: usize, key: &[u8], value: &[u8]) -> usize
 }
 
 // A line whose value is blank.
+#[tactic(auto, using(crate::proofs::Laws::blank_is))]
 pub fn blank_line(out: &mut [u8], at: usize, key: &[u8]) -> usize
     requires { (length key.now ≤ 16) × Near 1 at }
     ensures lined { Lined at out.old (key.now ∷ []) result out.new }
@@ -97,6 +95,7 @@ pub fn blank_line(out: &mut [u8], at: usize, key: &[u8]) -> usize
 }
 
 // Two lines, or three: the keys j, k and l with the components a, b and c.
+#[tactic(auto, using(crate::proofs::Laws::two_is))]
 pub fn two_lines<'a>(
     out: &mut [u8],
     at: usize,
@@ -114,6 +113,7 @@ pub fn two_lines<'a>(
     line(out, at, k, b, d)
 }
 
+#[tactic(auto, using(crate::proofs::Laws::three_is))]
 pub fn three_lines<'a>(
     out: &mut [u8],
     at: usize,
