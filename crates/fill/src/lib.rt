@@ -9,7 +9,6 @@ ghost use Rattle.rules.specs.Judge.{plain_of};
 ghost use Rattle.fill.specs.Fill.{Filled, FilledAt, Lined, keyed, longest, Near};
 
 use rules::Delims;
-use unescape::Unescaped;
 
 // Bytes as they are.
 #[tactic(auto, using(crate::proofs::Laws::prefix_room, crate::proofs::Laws::put_fills))]
@@ -33,9 +32,8 @@ pub fn text(out: &mut [u8], raw: &[u8], d: Delims) -> usize
     }
     let mut buf = [0u8; 4096];
     match unescape::unescape_into(raw, d, &mut buf) {
-        Unescaped::Got(n) => put(out, &buf[..n]),
-        Unescaped::Faulty => 0,
-        Unescaped::Over(_) => 0,
+        Ok(n) => put(out, &buf[..n]),
+        Err(_) => 0,
     }
 }
 
