@@ -12,12 +12,10 @@ ghost use Rattle.sources.specs.Sources.{Leads};
 
 use rules::Delims;
 
-// A part of a segment, and the delimiters that it is read by.
+// A part of a segment, which has at most 4,096 bytes.
 #[derive(Clone, Copy)]
 pub struct Part<'a> {
     pub text: &'a [u8],
-    pub delims: Delims,
-    ghost proper: { Proper delims },
     ghost short: { length text.now ≤ 4096 },
 }
 
@@ -27,51 +25,44 @@ impl<'a> Part<'a> {
         requires { Delim sep }
         ensures result_value { met result.text.now ≡ Scan.onward sep n (met self.entry.text.now) }
         ensures within { length result.text.now ≤ length self.entry.text.now }
-        ensures delims { result.delims ≡ self.entry.delims }
     {
         Part {
             text: scan::skip(self.text, sep, n),
-            delims: self.delims,
         }
     }
 
     // What follows the k-th field separator from here, where what is read already, which begins here, holds none and is passed over.
-    pub fn field_behind(self, read: Part<'a>, k: usize) -> Part<'a>
-        requires { Leads self.delims (length read.text.now) self.text.now × (1 ≤ k) }
-        ensures result_value { met result.text.now ≡ Scan.onward self.entry.delims.field k (met self.entry.text.now) }
+    pub fn field_behind(self, read: Part<'a>, d: Delims, k: usize) -> Part<'a>
+        requires { Proper d × Leads d (length read.text.now) self.text.now × (1 ≤ k) }
+        ensures result_value { met result.text.now ≡ Scan.onward d.field k (met self.entry.text.now) }
         ensures within { length result.text.now ≤ length self.entry.text.now }
-        ensures delims { result.delims ≡ self.entry.delims }
     {
         Part {
-            text: scan::skip(&self.text[read.text.len()..], self.delims.field, k),
-            delims: self.delims,
+            text: scan::skip(&self.text[read.text.len()..], d.field, k),
         }
     }
 
     // The component here.
-    pub fn component(self) -> Part<'a>
-        ensures result_value { met result.text.now ≡ until (ends self.entry.delims) (met self.entry.text.now) }
+    pub fn component(self, d: Delims) -> Part<'a>
+        requires { Proper d }
+        ensures result_value { met result.text.now ≡ until (ends d) (met self.entry.text.now) }
         ensures within { length result.text.now ≤ length self.entry.text.now }
-        ensures leads { Leads self.entry.delims (length result.text.now) self.entry.text.now }
-        ensures delims { result.delims ≡ self.entry.delims }
+        ensures leads { Leads d (length result.text.now) self.entry.text.now }
     {
-        let c = scan::first(self.text, self.delims);
+        let c = scan::first(self.text, d);
         Part {
             text: &self.text[..c.len],
-            delims: self.delims,
         }
     }
 
     // From the next component on, where the one here is read already.
-    pub fn next_component(self, read: Part<'a>) -> Part<'a>
-        requires { (length read.text.now ≡ length (until (ends self.delims) (met self.text.now))) × (length read.text.now ≤ length self.text.now) }
-        ensures result_value { met result.text.now ≡ next self.entry.delims (met self.entry.text.now) }
+    pub fn next_component(self, read: Part<'a>, d: Delims) -> Part<'a>
+        requires { (length read.text.now ≡ length (until (ends d) (met self.text.now))) × (length read.text.now ≤ length self.text.now) × Proper d }
+        ensures result_value { met result.text.now ≡ next d (met self.entry.text.now) }
         ensures within { length result.text.now ≤ length self.entry.text.now }
-        ensures delims { result.delims ≡ self.entry.delims }
     {
         Part {
-            text: scan::behind(self.text, read.text.len(), self.delims),
-            delims: self.delims,
+            text: scan::behind(self.text, read.text.len(), d),
         }
     }
 
@@ -79,12 +70,10 @@ impl<'a> Part<'a> {
     pub fn piece(self, sep: u8) -> Part<'a>
         ensures result_value { met result.text.now ≡ until (is_byte sep) (met self.entry.text.now) }
         ensures within { length result.text.now ≤ length self.entry.text.now }
-        ensures delims { result.delims ≡ self.entry.delims }
     {
         let n = scan::find(self.text, 0x0D, sep);
         Part {
             text: &self.text[..n],
-            delims: self.delims,
         }
     }
 }
