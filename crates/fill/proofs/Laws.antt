@@ -33,7 +33,9 @@ use Rattle.unescape.specs.declared.NotHeld.TheVariants.{Faulty, Over}
 use Rattle.writer.specs.Over.{Wrote}
 use Rattle.writer.specs.Over as W
 use Rattle.writer.proofs.Laws.{tail_none}
-use Rattle.fill.specs.Fill.{Filled, fill_at, FilledAt, Lined}
+use Rattle.fill.specs.declared.Lines.{Lines}
+use Rattle.fill.specs.Fill.{Filled, fill_at, FilledAt, Lined, longest}
+use Rattle.fill.specs.Lines.{Same, Continued}
 
 -- ---- bytes as they are
 fill-over : (s old : List ℕ) (n : ℕ) → n ≡ min (length s) (length old) → take n s ++ drop n old ≡ fill s old
@@ -133,19 +135,32 @@ add-then {at} {r} {k} {x} {y} {z} {b} {c} p q = record {
   is = q.is ∙ rw (p.ends, p.is) (add_twice at b c x);
 }
 
-pub line_is : (at a b r : ℕ) (x y z w k v n : List ℕ) → FilledAt at x k a y → FilledAt a y v b z → FilledAt b z n r w → n ≡ 0x0A ∷ [] → Lined at x ((k ++ v) ∷ []) r w
-unfolding ended
-line_is at a b r x y z w k v n p q s e = record { filled = rw e at (add-then (add-then p q) s) }
-
-pub blank_is : (at r : ℕ) (x y k v : List ℕ) → v ≡ [] → Lined at x ((k ++ v) ∷ []) r y → Lined at x (k ∷ []) r y
-blank_is at r x y k v e p = rw (e, append-nil) at p
-
 pub lined_then : {at r k : ℕ} {x y z : List ℕ} {ls ms : List (List ℕ)} → Lined at x ls r y → Lined r y ms k z → Lined at x (ls ++ ms) k z
 lined_then {ls = ls} {ms} p q = record { filled = rw (ended-append 0x0A ls ms) (add-then p.filled q.filled) }
 
-module _ (at r k : ℕ) (x y z a b : List ℕ) where
-  pub two_is : Lined at x (a ∷ []) r y → Lined r y (b ∷ []) k z → Lined at x (a ∷ b ∷ []) k z
-  two_is p q = lined_then p q
+-- ---- lines where they are written
+pub same_then : {l m n : Lines} → Same l m → Same m n → Same l n
+same_then p q = record { out = q.out ∙ p.out; delims = q.delims ∙ p.delims }
 
-  pub three_is : (c : List ℕ) → Lined at x (a ∷ b ∷ []) r y → Lined r y (c ∷ []) k z → Lined at x (a ∷ b ∷ c ∷ []) k z
-  three_is c p q = lined_then p q
+-- a key, a value and 0A are a line
+pub line_is : {l m n o : Lines} (k e : List ℕ) (v : Delims → List ℕ) → Same l m → Same m n → Same n o → FilledAt l.at l.out.now k m.at m.out.now
+    → FilledAt m.at m.out.now (v m.delims) n.at n.out.now → FilledAt n.at n.out.now e o.at o.out.now → e ≡ 0x0A ∷ [] → o.at ≤ l.at + longest 1
+    → Continued 1 l o (λ d. (k ++ v d) ∷ [])
+unfolding ended
+line_is k e v s t u p q r i w = record {
+  same = same_then s (same_then t u);
+  lined = record { filled = rw (s.delims, i) at (add-then (add-then p q) r) };
+  within = w;
+}
+
+-- lines behind lines
+pub then : {a b : ℕ} {l m n : Lines} {f g : Delims → List (List ℕ)} → Continued a l m f → Continued b m n g → Continued (a + b) l n (λ d. f d ++ g d)
+then {g = g} p q = record {
+  same = same_then p.same q.same;
+  lined = lined_then p.lined (rw p.same.delims at q.lined);
+  within = omega (arith, p.within, q.within);
+}
+
+-- lines by their texts
+pub lines_as : {n : ℕ} {l m : Lines} {f g : Delims → List (List ℕ)} → Continued n l m f → f l.delims ≡ g l.delims → Continued n l m g
+lines_as p e = record { same = p.same; lined = rw e at p.lined; within = p.within }
