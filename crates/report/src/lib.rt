@@ -17,8 +17,8 @@ pub fn header(lines: &mut Lines<'_>, s: Part<'_>)
     requires { Near 4 lines.old.at }
     ensures { Continued 4 lines.old lines.new (λ d. lines_of_body d Msh (met s.entry.text.now)) }
 {
-    lines.line_as_is(b"version=", b"1");
     let t = s.onward(lines.delims.field, 6);
+    lines.line_as_is(b"version=", b"1");
     from_sent(lines, t);
 }
 
