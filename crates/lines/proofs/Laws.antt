@@ -11,7 +11,9 @@ use lib.Seq.{drop-drop, get_or-drop, get_or-set_same, get_or-set_other}
 use Rattle.rules.specs.Lists.{bytes, empty, filled, nth, same, starts, split, all_but_last, last, ended}
 use Rattle.rules.specs.Value.{fits}
 use Rattle.rules.specs.Sheet.{lines_of}
-use Rattle.rules.proofs.Logic.{cases, never, not-true, not-false}
+use Rattle.std.specs.Prelude.{cond, Ok, Err}
+use Rattle.std.specs.Str.{bytes_eq}
+use Rattle.rules.proofs.Logic.{cases, never, and-false}
 use Rattle.rules.proofs.Lists.{over, rest-is, rest-inside, take_own}
 use Rattle.rules.proofs.Split.{but_last-split, ended-split}
 use Rattle.plain_bytes.specs.Bytes.{until, is_byte}
@@ -23,9 +25,8 @@ use Rattle.value.specs.declared.Rule.{Rule as Coded}
 use Rattle.value.specs.Rules.{fault_no, fine_of, rule_of}
 use Rattle.plain_bytes.proofs.Laws.{split-last, split-more}
 use Rattle.value.proofs.Laws.{fine-zero, fault-some}
-use Rattle.lines.specs.declared.Verdict.{Verdict}
-use Rattle.lines.specs.declared.Verdict.TheVariants.{Fine, Key, Value}
-use Rattle.lines.specs.Lines.{behind_line, Cut, fits_place, and_then, is_fine, line_as, line_at}
+use Rattle.lines.specs.declared.LineFault.TheVariants.{Key, Value}
+use Rattle.lines.specs.Lines.{behind_line, Cut, fits_place, Verdict, line_as, line_at}
 
 -- ---- lines by their 0A
 none : (s : List ℕ) → length (until (is_byte 0x0A) s) ≡ length s → lines_of s ≡ []
@@ -198,52 +199,39 @@ pub part-short : (s : List ℕ) (a n : ℕ) → length (take n (drop a s)) ≤ l
 part-short s a n = simp (length-take, length-drop) (omega arith)
 
 -- ---- a key
-starts-front : (key t : List ℕ) → length key ≤ length t → same (take (length key) t) key ≡ starts key t
-unfolding starts same
-starts-front [] t h = refl
-starts-front (a ∷ key) [] h = absurd (omega arith)
-starts-front (a ∷ key) (b ∷ t) h = cases (eqb b a) (λ e. rw (e, same, starts) (starts-front key t (omega arith))) (λ e. rw (e, same, starts))
+-- `==` of the library compares as `same` does
+same-is : (s t : List ℕ) → bytes_eq s t ≡ same s t
+unfolding same
+same-is [] [] = refl
+same-is [] (b ∷ t) = refl
+same-is (a ∷ s) [] = refl
+same-is (a ∷ s) (b ∷ t) = cases (eqb a b) (λ e. rw (e, same) (same-is s t)) (λ e. rw (e, same))
 
-pub starts_is : (key t : List ℕ) (r : Bool) → length key ≤ length t → r ≡ same (take (length key) t) key → r ≡ starts key t
-starts_is key t r h e = e ∙ starts-front key t h
-
-pub starts-within : (key t : List ℕ) → starts key t ≡ true → length key ≤ length t
+prefix-is : (key t : List ℕ) → bytes_eq (take (length key) t) key ≡ starts key t
 unfolding starts
-starts-within [] t h = omega arith
-starts-within (a ∷ key) [] h = never (sym h)
-starts-within (a ∷ key) (b ∷ t) h = cases (eqb b a) (λ e. omega (arith, starts-within key t (rw (e, starts) at h))) (λ e. never (sym (rw (e, starts) at h)))
-
--- ---- verdicts
-pub fine-is : (v x : Verdict) (r : Bool) → v ≡ x → r ≡ is_fine x → r ≡ is_fine v
-fine-is v x r e h = cc
-
-pub first-is : (a b x r : Verdict) → a ≡ x → r ≡ and_then x b → r ≡ and_then a b
-first-is a b x r e h = cc
+prefix-is [] t = refl
+prefix-is (a ∷ key) [] = refl
+prefix-is (a ∷ key) (b ∷ t) = cases (eqb b a) (λ e. rw (e, starts) (prefix-is key t)) (λ e. rw (e, starts))
 
 -- ---- one line
-module _ (before : Verdict) (k : ℕ) (key : List ℕ) (good : Bool) (t : List ℕ) (q : Bool) (r : Verdict) (f : q ≡ starts key t) where
-  pub key-room : not q ≡ false → length key ≤ length t
-  key-room h = starts-within key t (sym f ∙ not-false q h)
-
-  pub line-key : not q ≡ true → r ≡ and_then before (Key k) → r ≡ and_then before (line_as k key good t)
+module _ (k : ℕ) (key : List ℕ) (good : Bool) (t : List ℕ) where
+  pub line-key : bytes_eq (take (length key) t) key ≡ false → Err (Key k) ≡ line_as k key good t
   unfolding line_as
-  line-key h g = g ∙ rw (← f, not-true q h)
+  line-key h = rw (← prefix-is key t, h)
 
-  module _ (u : Bool) (n : u ≡ same (take (length t - length key) (drop (length key) t)) (34 ∷ 34 ∷ [])) (h : not q ≡ false) where
-    null : same (drop (length key) t) (34 ∷ 34 ∷ []) ≡ u
-    null = sym (n ∙ ap (λ (v : List ℕ). same v (34 ∷ 34 ∷ [])) (rest-is t (length key)))
-
-    pub line-null : u ≡ true → r ≡ and_then before (Value k) → r ≡ and_then before (line_as k key good t)
+  module _ (v : List ℕ) (h : bytes_eq (take (length key) t) key ≡ true) (e : v ≡ drop (length key) t) where
+    line-found : line_as k key good t ≡ cond (not (bytes_eq v (34 ∷ 34 ∷ [])) && good) (Ok tt) (Err (Value k))
     unfolding line_as bytes
-    line-null j g = g ∙ rw (← f, not-false q h, null, j)
+    line-found = rw (← prefix-is key t, h, ← e, same-is v (34 ∷ 34 ∷ []))
 
-    pub line-bad : u ≡ false → not good ≡ true → r ≡ and_then before (Value k) → r ≡ and_then before (line_as k key good t)
-    unfolding line_as bytes
-    line-bad j b g = g ∙ rw (← f, not-false q h, null, j, not-true good b)
+    pub line-good : good ≡ true → not (bytes_eq v (34 ∷ 34 ∷ [])) ≡ true → Ok tt ≡ line_as k key good t
+    line-good g n = rw (line-found, n, g)
 
-    pub line-good : u ≡ false → not good ≡ false → r ≡ and_then before Fine → r ≡ and_then before (line_as k key good t)
-    unfolding line_as bytes
-    line-good j b g = g ∙ rw (← f, not-false q h, null, j, not-false good b)
+    pub line-null : good ≡ true → not (bytes_eq v (34 ∷ 34 ∷ [])) ≡ false → Err (Value k) ≡ line_as k key good t
+    line-null g n = rw (line-found, n)
+
+    pub line-bad : good ≡ false → Err (Value k) ≡ line_as k key good t
+    line-bad g = rw (line-found, g, and-false (not (bytes_eq v (34 ∷ 34 ∷ []))))
 
 pub keeps-is : (f : Fault) (x : ℕ) (r : Bool) → r ≡ fine_of f → fault_no f ≡ x → r ≡ eqb x 0
 keeps-is f x r e h =
@@ -261,9 +249,9 @@ module _ (place : Place) (v : List ℕ) where
   pub fits-may : (r : Coded) (q : Bool) → place ≡ May r → q ≡ fits false (rule_of r) v → q ≡ fits_place place v
   fits-may r q e h = rw e h
 
-pub line-if-is : (before r : Verdict) (k : ℕ) (key : List ℕ) (ts : List (List ℕ)) (t v : List ℕ) (good also : Bool) (place : Place) → t ≡ nth ts k → v ≡ drop (length key) t → good ≡ fits_place place v
-    → r ≡ and_then before (line_as k key (good && also) t) → r ≡ and_then before (line_at k key place also ts)
-line-if-is before r k key ts t v good also place d e f g = rw (← d, ← e, ← f) g
+pub line-if-is : (r : Verdict) (k : ℕ) (key : List ℕ) (ts : List (List ℕ)) (t v : List ℕ) (good also : Bool) (place : Place) → t ≡ nth ts k → v ≡ drop (length key) t → good ≡ fits_place place v
+    → r ≡ line_as k key (good && also) t → r ≡ line_at k key place also ts
+line-if-is r k key ts t v good also place d e f g = rw (← d, ← e, ← f) g
 
 -- what stands behind a key, and where the line ends within it
 pub value_none : (t : List ℕ) (n : ℕ) → length t < n → take (length t - length t) (drop (length t) t) ≡ drop n t

@@ -4,7 +4,7 @@ use Rattle.rules.proofs.Lists.{rest-is, rest-shorter}
 use Rattle.lines.proofs.behind_key.Goals as goal
 
 pub returns-then-len-n : goal.returns-then-len-n
-returns-then-len-n c = (search (value_none, rules), search (rest-shorter, rules))
+returns-then-len-n c = record { value = search (value_none, rules); within = search (rest-shorter, rules) }
 
 pub returns : goal.returns
-returns c = (search (rest-is, rules), search (rest-shorter, rules))
+returns c = record { value = search (rest-is, rules); within = search (rest-shorter, rules) }
