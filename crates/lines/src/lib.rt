@@ -91,6 +91,7 @@ impl<'a> Group<'a> {
         requires { n ≤ 10 }
         ensures rest { lines_of result.now ≡ drop n (lines_of self.now) }
         ensures within { length result.now ≤ length self.now }
+        ensures shorter { filled (lines_of self.now) ≡ true → 0 < n → length result.now < length self.now }
     {
         &self.text[self.places[n]..]
     }
@@ -143,11 +144,11 @@ impl<'a> Group<'a> {
 fn judged(k: usize, t: &[u8], key: &[u8], good: bool) -> Result<(), LineFault>
     ensures { result ≡ line_as k key.now good t.now }
 {
-    match t.strip_prefix(key) {
-        None => Err(LineFault::Key(k)),
-        Some(v) if good && v != b"\"\"".as_slice() => Ok(()),
-        Some(_) => Err(LineFault::Value(k)),
+    let v = t.strip_prefix(key).ok_or(LineFault::Key(k))?;
+    if !good | (v == b"\"\"".as_slice()) {
+        return Err(LineFault::Value(k));
     }
+    Ok(())
 }
 
 // A value rule holds.

@@ -1,15 +1,12 @@
 use borrow.Author.Rules.{rules}
-use Rattle.lines.proofs.Laws.{line-key, line-good, line-null, line-bad}
+use Rattle.lines.proofs.Laws.{line-key, line-good, line-bad}
 use Rattle.lines.proofs.judged.Goals as goal
 
-pub returns-in-None : goal.returns-in-None
-returns-in-None c = search (line-key, rules)
+pub returns-in_err-v : goal.returns-in_err-v
+returns-in_err-v c = search (line-key, rules)
 
-pub returns-in-Some : goal.returns-in-Some
-returns-in-Some c = search (line-good, rules)
+pub returns-then-good-eq : goal.returns-then-good-eq
+returns-then-good-eq c = search (line-bad, rules)
 
-pub returns-in-Some-2 : goal.returns-in-Some-2
-returns-in-Some-2 c = search (line-null, rules)
-
-pub returns-in-Some-2-2 : goal.returns-in-Some-2-2
-returns-in-Some-2-2 c = search (line-bad, rules)
+pub returns : goal.returns
+returns c = search (line-good, rules)

@@ -1,6 +1,5 @@
 use borrow.Author.Rules.{rules}
-use Prim.Native.Nat.{◌-◌}
-use Rattle.lines.proofs.Laws.{cut-start, cut_on, cut-ends, cut-place}
+use Rattle.lines.proofs.Laws.{cut-start, cut_on, cut-place}
 use Rattle.lines.proofs.Group.of.Goals as goal
 
 pub loop-k-init : goal.loop-k-init
@@ -11,6 +10,3 @@ next_line-requires c = search (cut-place, rules)
 
 pub loop-k-preserved : goal.loop-k-preserved
 loop-k-preserved c = search (cut_on, rules)
-
-pub returns : goal.returns
-returns c = search (cut-ends, rules)
