@@ -10,7 +10,9 @@ use lib.ListN.{length, take, drop, get_or, set, length-set, length-take, length-
 use lib.Seq.{drop-drop, get_or-drop, get_or-set_same, get_or-set_other}
 use Rattle.rules.specs.Lists.{bytes, empty, filled, nth, same, starts, split, all_but_last, last, ended}
 use Rattle.rules.specs.Sheet.{lines_of}
-use Rattle.std.specs.Prelude.{cond, Ok, Err}
+use Rattle.std.specs.Prelude.{cond, Result, Ok, Err}
+use Rattle.std.specs.Result.{IsErrAnd}
+use Rattle.std.proofs.lemmas.Result.{err_from_is_err_and}
 use Rattle.std.specs.Str.{bytes_eq}
 use Rattle.rules.proofs.Logic.{cases, never, zero_cases}
 use Rattle.rules.proofs.Lists.{empty-zero, rest-is, rest-inside, take_own}
@@ -249,3 +251,7 @@ keeps-is f x r e h =
     cases (fine_of f)
     (λ y. e ∙ y ∙ sym (eq-eqb x 0 (sym h ∙ fine-zero f y)))
     (λ y. e ∙ y ∙ sym (ne_eqb x 0 (λ z. absurd (omega (arith, h, z, fault-some f y)))))
+
+-- what the exit of a `?` returns, where the error stays as it is
+pub exit-is : {T E : Type 0} {r : Result T E} {f : E} → IsErrAnd r (λ x. x ≡ f) → r ≡ Err f
+exit-is {r = r} h = let p = err_from_is_err_and r h in p.1 ∙ ap Err p.2

@@ -31,7 +31,7 @@ abbrev pub Verdict : Type 0
 Verdict = Result (Unit {0}) LineFault
 
 -- the first fault counts
-unfoldable pub and_then : Verdict → Verdict → Verdict
+abbrev pub and_then : Verdict → Verdict → Verdict
 and_then (Ok t) w = w
 and_then (Err f) w = Err f
 
