@@ -14,7 +14,7 @@ use Rattle.std.specs.Prelude.{cond, Result, Ok, Err}
 use Rattle.std.specs.Result.{IsErrAnd}
 use Rattle.std.proofs.lemmas.Result.{err_from_is_err_and}
 use Rattle.std.specs.Str.{bytes_eq}
-use Rattle.rules.proofs.Logic.{cases, never, zero_cases}
+use Rattle.rules.proofs.Logic.{eqb-sym, cases, never, zero_cases}
 use Rattle.rules.proofs.Lists.{empty-zero, rest-is, rest-inside, take_own}
 use Rattle.rules.proofs.Split.{but_last-split, ended-split}
 use Rattle.plain_bytes.specs.Bytes.{until, is_byte}
@@ -217,6 +217,13 @@ unfolding starts
 prefix-is [] t = refl
 prefix-is (a ∷ key) [] = refl
 prefix-is (a ∷ key) (b ∷ t) = cases (eqb b a) (λ e. rw (e, starts) (prefix-is key t)) (λ e. rw (e, starts))
+
+-- what the library's `starts_with` says
+pub starts_is : (key t : List ℕ) → bytes_eq key (take (length key) t) ≡ starts key t
+unfolding starts
+starts_is [] t = refl
+starts_is (a ∷ key) [] = refl
+starts_is (a ∷ key) (b ∷ t) = cases (eqb b a) (λ e. rw (eqb-sym a b, e, starts) (starts_is key t)) (λ e. rw (eqb-sym a b, e, starts))
 
 -- ---- one line
 module _ (k : ℕ) (key : List ℕ) (good : Bool) (t : List ℕ) where
