@@ -52,12 +52,9 @@ fn hash(raw: &[u8]) -> usize
 {
     let mut h = 0;
     let mut second = false;
-    let mut i = 0;
-    while i < raw.len() {
-        let b = raw[i];
+    for &b in raw {
         h = with_byte(h, b, second);
         second = !second & (b == 0x22);
-        i += 1;
     }
     h
 }
@@ -117,8 +114,7 @@ pub fn look_up(file: &[u8], places: &[u32; 65536], spans: &[usize; 90], hash: us
     ensures { SlotIs file.now places.now (row_at file.now spans.now) result }
 {
     let mut slot = hash % 32768;
-    let mut left = 256usize;
-    while 0 < left {
+    for _ in 0..256usize {
         let p = widened(places[2 * slot]);
         if p == 0 {
             return Slot::Free(slot);
@@ -128,7 +124,6 @@ pub fn look_up(file: &[u8], places: &[u32; 65536], spans: &[usize; 90], hash: us
             return Slot::Held(p);
         }
         slot = slot_after(slot);
-        left -= 1;
     }
     Slot::Crowded
 }
