@@ -35,14 +35,7 @@ fn with_byte(h: usize, b: u8, second: bool) -> usize
     if second {
         return h;
     }
-    ((h + wide(b)) * 2654435769) % 4294967296
-}
-
-fn wide(b: u8) -> usize
-    ensures value { result ≡ b }
-    ensures byte { result < 256 }
-{
-    b as usize
+    ((h + usize::from(b)) * 2654435769) % 4294967296
 }
 
 // The hash of an item, from how it lies in the file.
@@ -80,13 +73,6 @@ fn slot_after(slot: usize) -> usize
     slot + 1
 }
 
-// An entry of the table.
-fn widened(entry: u32) -> usize
-    ensures { result ≡ entry }
-{
-    entry as usize
-}
-
 // Whether the row that begins at a place has the number of a row.
 fn number_there(file: &[u8], p: usize, spans: &[usize; 90]) -> bool
     requires { RowThere file.now p × Inside file.now spans.now }
@@ -115,11 +101,11 @@ pub fn look_up(file: &[u8], places: &[u32; 65536], spans: &[usize; 90], hash: us
 {
     let mut slot = hash % 32768;
     for _ in 0..256usize {
-        let p = widened(places[2 * slot]);
+        let p = places[2 * slot] as usize;
         if p == 0 {
             return Slot::Free(slot);
         }
-        let mark = widened(places[2 * slot + 1]);
+        let mark = places[2 * slot + 1] as usize;
         if number_marked(file, p, mark, spans, hash) {
             return Slot::Held(p);
         }
