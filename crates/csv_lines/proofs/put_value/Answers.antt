@@ -1,6 +1,0 @@
-use borrow.Author.Rules.{rules}
-use Rattle.csv_lines.proofs.Groups.{value-is}
-use Rattle.csv_lines.proofs.put_value.Goals as goal
-
-pub returns : goal.returns
-returns c = search (value-is, rules)
