@@ -20,7 +20,6 @@ use Rattle.csv_rules.specs.Raw.{raw_by, raw_agree}
 use Rattle.csv_rules.specs.Sheets.{agree}
 use Rattle.csv_rules.proofs.Texts.{in_bounds}
 use Rattle.csv_rules.proofs.Raw.{plain_codes, plain_how, value-becomes, agree-raw}
-use Rattle.reach.specs.Reach.{Adds}
 use Rattle.reach.proofs.Laws.{adds_then}
 use Rattle.csv_keys.specs.declared.How.{How}
 use Rattle.csv_keys.specs.declared.How.TheVariants.{Text, UpToBlank, PastBlank, Fifteen, Sex, Class, Form, ValueType}

@@ -31,6 +31,15 @@ pub struct Lines<'o> {
 impl<'o> Lines<'o> {
     ghost use Rattle.csv_lines.specs.Written.{Puts, Writes};
 
+    // From the buffer's front on.
+    pub fn new(out: &'o mut [u8]) -> Lines<'o>
+        ensures front { result.at ≡ 0 }
+        ensures over { result.out.now ≡ out.old }
+        ensures same { result.out.ghost_name ≡ out.entry.ghost_name }
+    {
+        Lines { out, at: 0 }
+    }
+
     // ---- a line
 
     fn put(&mut self, bytes: &[u8])

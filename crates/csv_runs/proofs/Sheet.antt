@@ -2,8 +2,7 @@
 use mathlib.Core.Path.{◌≡◌, refl, sym, ap, ◌∙◌}
 use mathlib.Core.Bool.{Bool, true, false, cond, ◌&&◌, ◌||◌}
 use mathlib.Core.List.{List, [], ◌∷◌, ◌++◌, append-nil, append_assoc}
-use Prim.Native.Nat.{ℕ, ◌+◌, ◌≤◌}
-use lib.ListN.{length}
+use Prim.Native.Nat.{ℕ, ◌+◌}
 use Rattle.rules.specs.Lists.{all, ended}
 use Rattle.rules.specs.Sheet.{row_lines, sheet_of}
 use Rattle.rules.proofs.Logic.{both}
@@ -15,7 +14,9 @@ use Rattle.reach.proofs.Laws.{adds_none}
 use Rattle.csv_rows.specs.declared.RowItems.{RowItems}
 use Rattle.csv_rows.specs.Rows.{lines_from, items_of, Firsts, RowIs}
 use Rattle.csv_rows.proofs.Tied.{tied-keys, tied-converts}
-use Rattle.csv_lines.specs.Lines.{AddsLines, header_lines, first_lines, next_lines}
+use Rattle.csv_lines.specs.declared.Lines.{Lines}
+use Rattle.csv_lines.specs.Lines.{header_lines, first_lines, next_lines}
+use Rattle.csv_lines.specs.Written.{Writes}
 use Rattle.csv_lines.proofs.Groups.{lines_then}
 use Rattle.csv_lines.proofs.Rows.{rows_are, next-are, first-same, next-same}
 use Rattle.csv_runs.specs.Next.{goes_on, Joins}
@@ -26,18 +27,18 @@ use Rattle.csv_runs.proofs.Laws.{Read, one-read, run_is, run-found, one_more}
 pub ready-converts : (row : RowItems) (asked : Bool) → RowReady row asked → asked ≡ true → all convertible (items_of row) ≡ true
 ready-converts row asked p h = p.converts h
 
-module _ (asked : Bool) (at r : ℕ) (x y : List ℕ) (ls : List (List ℕ)) where
-  pub put-asked : asked ≡ true → AddsLines at x ls r y → AddsLines at x (cond asked ls []) r y
+module _ (asked : Bool) (l m : Lines) (ls : List (List ℕ)) where
+  pub put-asked : asked ≡ true → Writes l m ls → Writes l m (cond asked ls [])
   put-asked h p = rw h p
 
-  pub put-none : asked ≡ false → at ≤ length x → AddsLines at x (cond asked ls []) at x
+  pub put-none : asked ≡ false → Writes l l (cond asked ls [])
   unfolding ended
-  put-none h k = rw h (record { adds = adds_none at x k })
+  put-none h = rw h (record { same = refl; adds = adds_none l.at l.out.now l.inside })
 
-  pub then-asked : (k : ℕ) (z : List ℕ) (ms : List (List ℕ)) → asked ≡ true → AddsLines at x ms r y → AddsLines r y ls k z → AddsLines at x (ms ++ cond asked ls []) k z
-  then-asked k z ms h p q = rw h (lines_then p q)
+  pub then-asked : (n : Lines) (ms : List (List ℕ)) → asked ≡ true → Writes l m ms → Writes m n ls → Writes l n (ms ++ cond asked ls [])
+  then-asked n ms h p q = rw h (lines_then p q)
 
-  pub then-none : (ms : List (List ℕ)) → asked ≡ false → AddsLines at x ms r y → AddsLines at x (ms ++ cond asked ls []) r y
+  pub then-none : (ms : List (List ℕ)) → asked ≡ false → Writes l m ms → Writes l m (ms ++ cond asked ls [])
   then-none ms h p = rw (h, append-nil ms) p
 
 -- ---- the last of some rows, and the lines of one more
@@ -65,14 +66,14 @@ one_below q r (p ∷ rs) =
     ∙ sym (append_assoc (next_lines q.items p.items) (row_lines (below p.items rs)) (next_lines (last_of p rs).items r.items))
     ∙ ap (λ (ls : List (List ℕ)). ls ++ next_lines (last_of p rs).items r.items) (sym (next-are q.items p rs))
 
--- ---- the rows so far, and the lines of those behind the first, over x₀ from k₀ on, as far as all convert; before: the last row
-pub record Putting (f : List ℕ) (at : ℕ) (row : RowItems) (good₀ : Bool) (x₀ : List ℕ) (k₀ : ℕ) (x : List ℕ) (size : ℕ) (good differs : Bool) (before : RowItems) (k : ℕ) : Type 0 where
+-- ---- the rows so far, and the lines of those behind the first, behind l₀, as far as all convert; before: the last row
+pub record Putting (f : List ℕ) (at : ℕ) (row : RowItems) (good₀ : Bool) (l₀ l : Lines) (size : ℕ) (good differs : Bool) (before : RowItems) : Type 0 where
   pub first : FileLine
   pub others : List FileLine
   pub read : Read f at row size good differs first others
   pub last : Firsts before (last_of first others).items
   pub done : List (List ℕ)
-  pub adds : AddsLines k₀ x₀ done k x
+  pub adds : Writes l₀ l done
   pub text : good ≡ true → done ≡ row_lines (below first.items others)
   pub kept : good ≡ true → good₀ ≡ true
 
@@ -80,15 +81,15 @@ module _ (f : List ℕ) (at : ℕ) (row : RowItems) (size count : ℕ) (good : B
   pub first-ready : RowReady row good
   first-ready = record { converts = λ h. tied-converts row t.items t.lies (sym t.converts ∙ h) }
 
-  pub put-begins : (x : List ℕ) (k : ℕ) → k ≤ length x → Putting f at row good x k x size good false row k
+  pub put-begins : (l : Lines) → Putting f at row good l l size good false row
   unfolding ended row_lines below last_of
-  put-begins x k l = record {
+  put-begins l = record {
     first = record { items = t.items; size = size };
     others = [];
     read = one-read f at row size count good t;
     last = t.lies;
     done = [];
-    adds = record { adds = adds_none k x l };
+    adds = record { same = refl; adds = adds_none l.at l.out.now l.inside };
     text = λ o. refl;
     kept = λ o. o;
   }
@@ -96,8 +97,8 @@ module _ (f : List ℕ) (at : ℕ) (row : RowItems) (size count : ℕ) (good : B
 pub next-ready : (f : List ℕ) (q : Items) (at : ℕ) (next : RowItems) (m : ℕ) (good g d : Bool) → Joins f q at next m g d → RowReady next (good && g)
 next-ready f q at next m good g d J = record { converts = λ o. tied-converts next J.items J.lies (sym J.converts ∙ (both good g o).1) }
 
-module _ (f : List ℕ) (at : ℕ) (row : RowItems) (good₀ : Bool) (x₀ : List ℕ) (k₀ : ℕ) (x : List ℕ) (size : ℕ) (good differs : Bool) (before : RowItems) (k : ℕ)
-    (P : Putting f at row good₀ x₀ k₀ x size good differs before k) where
+module _ (f : List ℕ) (at : ℕ) (row : RowItems) (good₀ : Bool) (l₀ l : Lines) (size : ℕ) (good differs : Bool) (before : RowItems)
+    (P : Putting f at row good₀ l₀ l size good differs before) where
   abbrev run : Run
   run = record { row = P.first; others = P.others }
 
@@ -110,11 +111,11 @@ module _ (f : List ℕ) (at : ℕ) (row : RowItems) (good₀ : Bool) (x₀ : Lis
 
   -- one turn
   module _ (next : RowItems) (m : ℕ) (g d : Bool) (J : Joins f (items_of row) (at + size) next m g d)
-      (y : List ℕ) (r : ℕ) (a : AddsLines k x (cond (good && g) (next_lines (items_of before) (items_of next)) []) r y) where
+      (m₁ : Lines) (a : Writes l m₁ (cond (good && g) (next_lines (items_of before) (items_of next)) [])) where
     abbrev more : List (List ℕ)
     more = next_lines (items_of before) (items_of next)
 
-    pub put_on : Putting f at row good₀ x₀ k₀ y (size + m) (good && g) (differs || d) next r
+    pub put_on : Putting f at row good₀ l₀ m₁ (size + m) (good && g) (differs || d) next
     put_on =
         let joined : FileLine = record { items = J.items; size = m } in
         let q = (last_of P.first P.others).items in
@@ -135,7 +136,7 @@ module _ (f : List ℕ) (at : ℕ) (row : RowItems) (good₀ : Bool) (x₀ : Lis
         }
 
   -- the whole sheet
-  module _ (mode sent control w : List ℕ) (a : AddsLines 0 w (header_lines mode sent control ++ cond good₀ (first_lines (items_of row)) []) k₀ x₀) where
+  module _ (mode sent control : List ℕ) (w : Lines) (a : Writes w l₀ (header_lines mode sent control ++ cond good₀ (first_lines (items_of row)) [])) where
     abbrev given : Given
     given = record { mode = mode; sent = sent; control = control }
 
@@ -149,13 +150,15 @@ module _ (f : List ℕ) (at : ℕ) (row : RowItems) (good₀ : Bool) (x₀ : Lis
         ∙ sym (append_assoc H (first_lines (items_of row)) P.done)
         ∙ ap (λ (c : Bool). (H ++ cond c (first_lines (items_of row)) []) ++ P.done) (sym (P.kept o))
 
-    pub put-over : goes_on (items_of row) (lines_from f (at + size)) ≡ false → PutIs f at given w size k good differs x
+    pub put-over : goes_on (items_of row) (lines_from f (at + size)) ≡ false → (x y : List ℕ) → w.at ≡ 0 → w.out.now ≡ x → y ≡ l.out.now → PutIs f at given x size l.at good differs y
     unfolding sheet_at sheet_of
-    put-over z =
+    put-over z x y e o b =
         let whole = lines_then a P.adds in
-        record {
+        let A = rw (e, o) at whole.adds in
+        rw b
+        (record {
           run = run-found f at row size good differs P.first P.others P.read z;
-          sheet = λ o. rw (run_is f at row size good differs P.first P.others P.read z, sheet_at, sheet-lines o) whole.adds;
-          same = whole.adds.same;
-          inside = whole.adds.inside;
-        }
+          sheet = λ g. rw (run_is f at row size good differs P.first P.others P.read z, sheet_at, sheet-lines g) A;
+          same = A.same;
+          inside = A.inside;
+        })

@@ -3,11 +3,13 @@
 
 ghost use Rattle.std.specs.Prelude.{◌≡◌, false, cond, [], ◌++◌, ◌≤◌, ◌<◌, length, MatchOption};
 ghost use Rattle.csv_rows.specs.Rows.{lines_from, items_of};
-ghost use Rattle.csv_lines.specs.Lines.{AddsLines, header_lines, first_lines, next_lines};
+ghost use Rattle.csv_lines.specs.Lines.{header_lines, first_lines, next_lines};
+ghost use Rattle.csv_lines.specs.Written.{Writes};
 ghost use Rattle.csv_runs.specs.Next.{goes_on, Joins};
 ghost use Rattle.csv_runs.specs.Runs.{Broken, RunIs};
 ghost use Rattle.csv_runs.specs.Sheet.{RowReady, PutIs};
 
+use csv_lines::{GoodRow, Lines};
 use csv_rows::RowItems;
 
 // A run of rows with one number: its bytes; whether each row converts; whether two rows differ in a header key.
@@ -80,32 +82,30 @@ fn next_row<'a>(file: &'a [u8], first: &RowItems, at: usize) -> Option<After<'a>
 
 // The lines of a sheet's header, and those of its first row where they are asked for.
 fn put_first(
-    out: &mut [u8],
+    lines: &mut Lines,
     mode: &[u8],
     sent: &[u8],
     control: &[u8],
     row: &RowItems,
     asked: bool,
-) -> usize
+)
     requires { RowReady row.now asked }
-    ensures { AddsLines 0 out.old (header_lines mode.now sent.now control.now ++ cond asked (first_lines (items_of row.now)) []) result out.new }
+    ensures { Writes lines.old lines.new (header_lines mode.now sent.now control.now ++ cond asked (first_lines (items_of row.now)) []) }
 {
-    let at = csv_lines::header(out, 0, mode, sent, control);
+    lines.header(mode, sent, control);
     if asked {
-        return csv_lines::first_row(out, at, row);
+        lines.first_row(&GoodRow { items: row });
     }
-    at
 }
 
 // The lines of a row behind another, where they are asked for.
-fn put_next(out: &mut [u8], at: usize, before: &RowItems, row: &RowItems, asked: bool) -> usize
-    requires { (at ≤ length out.old) × RowReady before.now asked × RowReady row.now asked }
-    ensures { AddsLines at out.old (cond asked (next_lines (items_of before.now) (items_of row.now)) []) result out.new }
+fn put_next(lines: &mut Lines, before: &RowItems, row: &RowItems, asked: bool)
+    requires { RowReady before.now asked × RowReady row.now asked }
+    ensures { Writes lines.old lines.new (cond asked (next_lines (items_of before.now) (items_of row.now)) []) }
 {
     if asked {
-        return csv_lines::next_row(out, at, before, row);
+        lines.next_row(&GoodRow { items: before }, &GoodRow { items: row });
     }
-    at
 }
 
 // "All rows with one result number (column 7) make one sheet": writes that of the run that begins at a place while its rows are walked, as far as
@@ -126,12 +126,13 @@ pub fn put_sheet(
     let mut good = first.good;
     let mut differs = false;
     let mut before = first.items;
-    let mut end = put_first(out, mode, sent, control, &first.items, good);
+    let mut lines = Lines::new(out);
+    put_first(&mut lines, mode, sent, control, &first.items, good);
     while let Some(next) = next_row(file, &first.items, at + size) {
         size += next.size;
         good = good & next.good;
         differs = differs | next.differs;
-        end = put_next(out, end, &before, &next.items, good);
+        put_next(&mut lines, &before, &next.items, good);
         before = next.items;
     }
     let run = RunAt {
@@ -139,5 +140,5 @@ pub fn put_sheet(
         good,
         differs,
     };
-    Some(PutAt { run, end })
+    Some(PutAt { run, end: lines.at })
 }
