@@ -2,28 +2,15 @@
 #![tactic(auto)]
 
 ghost use Rattle.std.specs.Prelude.{◌≡◌, List, ℕ, ◌+◌, ◌-◌, ◌<◌, length};
-ghost use Rattle.rules.specs.Told.{◌then◌};
 ghost use Rattle.rules.specs.Lists.{filled, is_one_of};
 ghost use Rattle.rules.specs.Value as Val;
 ghost use Rattle.rules.specs.Places.{Four, value_rules};
 ghost use Rattle.rules.specs.Judge as Judge;
-ghost use Rattle.value.specs.Rules.{fault_no, fine_of, text_of, rule_of, rules_of};
+ghost use Rattle.value.specs.Rules.{fault_no, text_of, rule_of, rules_of};
 
 pub mod table;
 
-// What a read place breaks: nothing, or one of the refusals 20 to 27.
-#[derive(Clone, Copy)]
-pub enum Fault {
-    Nothing,
-    Missing,
-    Null,
-    Repeated,
-    Escape,
-    Long,
-    Value,
-    Status,
-    Differs,
-}
+use rules::Kind;
 
 // The words that a place may hold.
 #[derive(Clone, Copy)]
@@ -73,33 +60,6 @@ pub struct Parts {
     pub value: Rule,
     pub join: Rule,
     pub second: Rule,
-}
-
-// Whether there is no fault.
-pub fn fine(f: Fault) -> bool
-    ensures { result ≡ fine_of f }
-{
-    match f {
-        Fault::Nothing => true,
-        Fault::Missing => false,
-        Fault::Null => false,
-        Fault::Repeated => false,
-        Fault::Escape => false,
-        Fault::Long => false,
-        Fault::Value => false,
-        Fault::Status => false,
-        Fault::Differs => false,
-    }
-}
-
-// The earlier of two faults.
-pub fn earlier(a: Fault, b: Fault) -> Fault
-    ensures { fault_no result ≡ (fault_no a then fault_no b) }
-{
-    if fine(a) {
-        return b;
-    }
-    a
 }
 
 // At most n capitals or digits.
@@ -237,33 +197,30 @@ pub fn too_long(rule: Rule, n: usize) -> bool
     ensures { (v : List ℕ) → length v ≡ n → result ≡ Val.too_long (rule_of rule) v }
 {
     match rule {
-        Rule::Time => false,
-        Rule::Date => false,
         Rule::Number => 16 < n,
         Rule::Text(most) => most < n,
-        Rule::Digits(_) => false,
-        Rule::Capitals(_) => false,
-        Rule::OneOf(_) => false,
+        _ => false,
     }
 }
 
-// 20, 24, 25 in this order: the fault of a value that must be filled or may be empty.
-pub fn fault_of(required: bool, rule: Rule, v: &[u8]) -> Fault
+// 20, 24, 25 in this order: what a value breaks that must be filled or may be empty.
+#[tactic(auto, using(crate::proofs::Laws::fault_of_laws), unfolding(crate::specs::Rules::fault_no))]
+pub fn fault_of(required: bool, rule: Rule, v: &[u8]) -> Result<(), Kind>
     ensures { fault_no result ≡ Val.fault required (rule_of rule) v.now }
 {
-    if v.len() == 0 {
+    if v.is_empty() {
         if required {
-            return Fault::Missing;
+            return Err(Kind::Missing);
         }
-        return Fault::Nothing;
+        return Ok(());
     }
     if too_long(rule, v.len()) {
-        return Fault::Long;
+        return Err(Kind::Long);
     }
-    if holds(rule, v) {
-        return Fault::Nothing;
+    if !holds(rule, v) {
+        return Err(Kind::Value);
     }
-    Fault::Value
+    Ok(())
 }
 
 // ---- OBX-5: comparator, number or text, joiner, second number
