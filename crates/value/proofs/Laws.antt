@@ -79,7 +79,7 @@ pub capitals-all : (v : List ℕ) (n : ℕ) (r : Bool) → length v ≤ n → r 
 unfolding Val.holds
 capitals-all v n r h e = cc (le-leb (length v) n h)
 
-pub ruleset capitals-laws = (capitals-more, capitals-all)
+pub ruleset capitals_laws = (capitals-more, capitals-all)
 
 -- ---- one of some words
 or-chain : {A : Type 0} (p : A → Bool) (q : Bool) (ws : List A) → (q || any p ws) ≡ foldl (λ (r : Bool) (w : A). r || p w) q ws
@@ -116,12 +116,14 @@ module _ (words : String) (v : List ℕ) where
             pub six-words : (g : List ℕ) (u : Bool) → u ≡ same v g → split 0x20 (bytes words) ≡ a ∷ b ∷ c ∷ d ∷ f ∷ g ∷ [] → (((((p || q) || r) || s) || t) || u) ≡ is_one_of words v
             six-words g u eu e = rw (ep, eq, er, es, et, eu) (words_are a (b ∷ c ∷ d ∷ f ∷ g ∷ []) e)
 
--- ---- words and rules by their names
-pub word-is : (w x : Words) (v : List ℕ) (r : Bool) → w ≡ x → r ≡ is_one_of (text_of x) v → r ≡ is_one_of (text_of w) v
-word-is w x v r e h = cc
+pub ruleset words_laws = (two-words, three-words)
 
-pub holds-is : (rule x : Rule) (v : List ℕ) (r : Bool) → rule ≡ x → r ≡ Val.holds (rule_of x) v → r ≡ Val.holds (rule_of rule) v
-holds-is rule x v r e h = cc
+-- ---- words and rules by their names
+pub word_is : (w x : Words) (v : List ℕ) (r : Bool) → w ≡ x → r ≡ is_one_of (text_of x) v → r ≡ is_one_of (text_of w) v
+word_is w x v r e h = cc
+
+pub holds_is : (rule x : Rule) (v : List ℕ) (r : Bool) → rule ≡ x → r ≡ Val.holds (rule_of x) v → r ≡ Val.holds (rule_of rule) v
+holds_is rule x v r e h = cc
 
 pub long-above : (rule x : Rule) (most n : ℕ) → rule ≡ x → ((v : List ℕ) → Val.too_long (rule_of x) v ≡ ltb most (length v))
     → (v : List ℕ) → length v ≡ n → ltb most n ≡ Val.too_long (rule_of rule) v
@@ -136,6 +138,8 @@ long-other (Text most) n f g v l = absurd (g most refl)
 long-other (Digits m) n f g v l = refl
 long-other (Capitals m) n f g v l = refl
 long-other (OneOf w) n f g v l = refl
+
+pub ruleset too_long_laws = (long-above, long-other)
 
 -- ---- 20, 24, 25
 module _ (required : Bool) (rule : Rule) (v : List ℕ) where
@@ -180,16 +184,16 @@ module _ (kind : List ℕ) (t : Bool) (e : t ≡ same kind (83 ∷ 78 ∷ [])) w
     unfolding rules_of rule_of text_of value_rules bytes
     rules-st g = rw (← e, h, ← f, g)
 
-pub ruleset part_rules-laws = (rules-sn, rules-nm, rules-st)
+pub ruleset part_rules_laws = (rules-sn, rules-nm, rules-st)
 
 -- its parts, by which are filled
-pub beside-is : (x y z : Bool) (c : Four (List ℕ)) → x ≡ filled c.compare → y ≡ filled c.join → z ≡ filled c.second → (x || y || z) ≡ beside c
+pub beside_is : (x y z : Bool) (c : Four (List ℕ)) → x ≡ filled c.compare → y ≡ filled c.join → z ≡ filled c.second → (x || y || z) ≡ beside c
 unfolding beside
-beside-is x y z c ex ey ez = cc
+beside_is x y z c ex ey ez = cc
 
-pub unjoined-is : (y z : Bool) (c : Four (List ℕ)) → y ≡ filled c.join → z ≡ filled c.second → (z && not y) ≡ unjoined c
+pub unjoined_is : (y z : Bool) (c : Four (List ℕ)) → y ≡ filled c.join → z ≡ filled c.second → (z && not y) ≡ unjoined c
 unfolding unjoined
-unjoined-is y z c ey ez = rw (ey, ez) (cases (empty c.join) (λ q. cc) (λ q. cc))
+unjoined_is y z c ey ez = rw (ey, ez) (cases (empty c.join) (λ q. cc) (λ q. cc))
 
 -- ---- OBX-11 against OBX-5
 module _ (status : List ℕ) (number parts y : Bool) (e : y ≡ is_one_of "F P C" status) where
@@ -200,3 +204,5 @@ module _ (status : List ℕ) (number parts y : Bool) (e : y ≡ is_one_of "F P C
   pub agrees-empty : y ≡ false → (c : Four (List ℕ)) → number ≡ filled c.value → parts ≡ beside c → (not number && not parts) ≡ agrees status c
   unfolding agrees
   agrees-empty h c en ep = rw (sym e ∙ h) (cases (empty c.value) (λ q. cc) (λ q. cc))
+
+pub ruleset agrees_laws = (three-words, agrees-filled, agrees-empty)

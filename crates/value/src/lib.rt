@@ -63,6 +63,7 @@ pub struct Parts {
 }
 
 // At most n capitals or digits.
+#[tactic(auto, using(crate::proofs::Laws::capitals_laws))]
 fn capitals(v: &[u8], n: usize) -> bool
     ensures { result ≡ Val.holds (Val.capitals n) v.now }
 {
@@ -73,8 +74,11 @@ fn capitals(v: &[u8], n: usize) -> bool
 }
 
 // ---- words
+// A function for each place that has several: comparisons with constants compile without a loop; a table of all words, searched by one function,
+// took the check 3 to 5 % longer.
 
 // MSH-11.
+#[tactic(auto, using(crate::proofs::Laws::words_laws), unfolding(crate::specs::Rules::text_of, rules::specs::Lists::bytes, rules::specs::Lists::split, rules::specs::Lists::onto))]
 fn is_mode(v: &[u8]) -> bool
     ensures { result ≡ is_one_of (text_of Words.Modes) v.now }
 {
@@ -92,6 +96,7 @@ fn is_sex(v: &[u8]) -> bool
 }
 
 // PV1-2.
+#[tactic(auto, using(crate::proofs::Laws::words_laws), unfolding(crate::specs::Rules::text_of, rules::specs::Lists::bytes, rules::specs::Lists::split, rules::specs::Lists::onto))]
 fn is_class(v: &[u8]) -> bool
     ensures { result ≡ is_one_of (text_of Words.Classes) v.now }
 {
@@ -99,6 +104,7 @@ fn is_class(v: &[u8]) -> bool
 }
 
 // OBX-2.
+#[tactic(auto, using(crate::proofs::Laws::words_laws), unfolding(crate::specs::Rules::text_of, rules::specs::Lists::bytes, rules::specs::Lists::split, rules::specs::Lists::onto))]
 fn is_type(v: &[u8]) -> bool
     ensures { result ≡ is_one_of (text_of Words.Types) v.now }
 {
@@ -152,6 +158,7 @@ fn is_joiner(v: &[u8]) -> bool
 }
 
 // Whether v is one of the words of a place.
+#[tactic(auto, using(crate::proofs::Laws::word_is))]
 fn is_word(words: Words, v: &[u8]) -> bool
     ensures { result ≡ is_one_of (text_of words) v.now }
 {
@@ -178,6 +185,7 @@ fn is_word(words: Words, v: &[u8]) -> bool
 // ---- a place's rule
 
 // Whether a filled value meets its rule.
+#[tactic(auto, using(crate::proofs::Laws::holds_is), unfolding(crate::specs::Rules::rule_of, rules::specs::Value::holds))]
 fn holds(rule: Rule, v: &[u8]) -> bool
     ensures { result ≡ Val.holds (rule_of rule) v.now }
 {
@@ -193,6 +201,7 @@ fn holds(rule: Rule, v: &[u8]) -> bool
 }
 
 // 24, "text or NM too long": whether a value of n bytes is.
+#[tactic(auto, using(crate::proofs::Laws::too_long_laws), unfolding(crate::specs::Rules::rule_of, rules::specs::Value::too_long))]
 pub fn too_long(rule: Rule, n: usize) -> bool
     ensures { (v : List ℕ) → length v ≡ n → result ≡ Val.too_long (rule_of rule) v }
 {
@@ -226,6 +235,7 @@ pub fn fault_of(required: bool, rule: Rule, v: &[u8]) -> Result<(), Kind>
 // ---- OBX-5: comparator, number or text, joiner, second number
 
 // The rules of its parts, by the word of OBX-2.
+#[tactic(auto, using(crate::proofs::Laws::part_rules_laws))]
 pub fn part_rules(obx2: &[u8]) -> Parts
     ensures { rules_of result ≡ value_rules obx2.now }
 {
@@ -239,6 +249,7 @@ pub fn part_rules(obx2: &[u8]) -> Parts
 }
 
 // Whether a part beside the value is filled, given which are.
+#[tactic(auto, using(crate::proofs::Laws::beside_is))]
 pub fn beside(compare: bool, join: bool, second: bool) -> bool
     ensures { (c : Four (List ℕ)) → compare ≡ filled c.compare → join ≡ filled c.join → second ≡ filled c.second → result ≡ Judge.beside c }
 {
@@ -246,6 +257,7 @@ pub fn beside(compare: bool, join: bool, second: bool) -> bool
 }
 
 // "a second number needs a joiner": whether it has none, given which are filled.
+#[tactic(auto, using(crate::proofs::Laws::unjoined_is))]
 pub fn unjoined(join: bool, second: bool) -> bool
     ensures { (c : Four (List ℕ)) → join ≡ filled c.join → second ≡ filled c.second → result ≡ Judge.unjoined c }
 {
@@ -253,6 +265,7 @@ pub fn unjoined(join: bool, second: bool) -> bool
 }
 
 // 26: whether the status of OBX-11 agrees with what OBX-5 fills: a value, a part beside it.
+#[tactic(auto, using(crate::proofs::Laws::agrees_laws), unfolding(rules::specs::Lists::bytes, rules::specs::Lists::split, rules::specs::Lists::onto))]
 pub fn agrees(status: &[u8], number: bool, parts: bool) -> bool
     ensures { (c : Four (List ℕ)) → number ≡ filled c.value → parts ≡ Judge.beside c → result ≡ Judge.agrees status.now c }
 {
