@@ -25,7 +25,7 @@ use Rattle.value.specs.declared.Place.{Place}
 use Rattle.value.specs.declared.Place.TheVariants.{Unread, Must, May}
 use Rattle.value.proofs.Laws.{fine-zero, fault-some}
 use Rattle.components.specs.Components.{forward, place_fault, Smalls, components_fault, ComponentsOf}
-use Rattle.components.proofs.Pieces.{piece-at, repetition-is, component-at}
+use Rattle.components.proofs.Pieces.{piece-at, repetition-is, component-at, forward-next}
 use Rattle.closed.specs.Closed.{charset_fault, ClosedOf}
 use Rattle.fields.specs.declared.Form.{Form}
 use Rattle.fields.specs.declared.Form.TheVariants.{One, Three, Charset, Names}
@@ -48,11 +48,6 @@ unfolding component_of first_repetition onward
 component-is d p n m =
     let z : suc n - 1 ≡ n = omega arith in
     rw (z, piece-at d.repetition 0 (until (is_byte d.field) m), repetition-is d m) (component-at d p n m)
-
-forward-next : (d : Delims) (k : ℕ) (m : List ℕ) → forward d (suc k) m ≡ next d (forward d k m)
-unfolding forward
-forward-next d zero m = refl
-forward-next d (suc k) m = forward-next d k (next d m)
 
 entries-are : (d : Delims) → Proper d → (m : List ℕ) (k : ℕ) (ps : List Place)
     → components_fault d ps (forward d k m) ≡ judge_all d (map (seen_in d (first_repetition d (until (is_byte d.field) m))) (entries_from (suc k) ps))

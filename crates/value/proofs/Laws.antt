@@ -65,10 +65,13 @@ module _ {A : Type 0} where
   fault-some (Err k) h = number-some k
 
 -- the earlier of two
-pub and-then : {A B : Type 0} (a : Result A Kind) (b : Result B Kind) → fault_no (result_and a b) ≡ (fault_no a then fault_no b)
+earlier : {A B : Type 0} (a : Result A Kind) (b : Result B Kind) → fault_no (result_and a b) ≡ (fault_no a then fault_no b)
 unfolding fault_no
-and-then (Ok a) b = refl
-and-then (Err k) b = rw (number-some k)
+earlier (Ok a) b = refl
+earlier (Err k) b = rw (number-some k)
+
+pub and-then : {A B : Type 0} (a : Result A Kind) (b r : Result B Kind) → r ≡ result_and a b → fault_no r ≡ (fault_no a then fault_no b)
+and-then a b r e = ap fault_no e ∙ earlier a b
 
 -- ---- at most n capitals or digits
 pub capitals-more : (v : List ℕ) (n : ℕ) → n < length v → false ≡ Val.holds (Val.capitals n) v
