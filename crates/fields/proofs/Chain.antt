@@ -8,7 +8,10 @@ use mathlib.Core.Bool.{true, false}
 use lib.ListN.{take, drop}
 use Rattle.rules.specs.declared.Delims.{Delims}
 use Rattle.rules.specs.declared.Name.{Name}
+use Rattle.std.specs.declared.result.Result.{Result}
 use Rattle.std.specs.declared.result.Result.TheVariants.{Ok, Err}
+use Rattle.std.specs.Result.{IsErrAnd}
+use Rattle.std.proofs.lemmas.Result.{err_from_is_err_and}
 use Rattle.rules.specs.declared.Kind.{Kind}
 use Rattle.rules.specs.Told.{Told, ◌>>◌, ◌then◌, ◌when◌, number}
 use Rattle.rules.specs.Lists.{has}
@@ -119,8 +122,9 @@ number_is_lem n d s f Charset = refl
 number_is_lem n d s f Names = refl
 
 module _ {n : Name} {d : Delims} {ctx : Context} {s : List ℕ} {left : List Field} {w : Walk} {f : ℕ} (form : Form) (x : Walked n d ctx s (entry_for f form ∷ left) w) (l : w.field < f) where
-  pub stop : {A : Type 0} {q : FieldFault} → To d s f form w (Err q) → FoundIn {A = A} n d ctx (met s) (Err q)
-  stop b = stop-by x l (form_fault d form) (number_is_lem n d s f form) (own_is n d s f form) b
+  -- as `?` hands it on
+  pub stop : {A : Type 0} {q : FieldFault} {r : Result A FieldFault} → To d s f form w (Err q) → IsErrAnd r (λ y. y ≡ q) → FoundIn n d ctx (met s) r
+  stop {r = r} b h = let e = err_from_is_err_and r h in rw (e.1, e.2) (stop-by x l (form_fault d form) (number_is_lem n d s f form) (own_is n d s f form) b)
 
   pub go : {r : Walk} → To d s f form w (Ok r) → later_fault d ctx (segment n d s) f ≡ 0 → Walked n d ctx s left r
   go g z = step x l (form_fault d form) (number_is_lem n d s f form) (own_is n d s f form) g z
