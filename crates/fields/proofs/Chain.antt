@@ -57,6 +57,11 @@ pub found : {A : Type 0} {a : A} {n : Name} {d : Delims} {ctx : Context} {s : Li
 unfolding parts_told fault_told
 found x = record { told = λ i. sym (x.told i) }
 
+-- as `?` hands it on
+pub handed-found : {A B : Type 0} {n : Name} {d : Delims} {body : List ℕ} {e : FieldFault} {r : Result B FieldFault} → ((x : Context) → FoundIn {A = A} n d x body (Err e))
+    → IsErrAnd r (λ y. y ≡ e) → (x : Context) → FoundIn n d x body r
+handed-found {r = r} f h x = let p = err_from_is_err_and r h in rw (p.1, p.2) (record { told = (f x).told })
+
 -- what is broken is the answer, whatever follows
 stops : (k : Kind) (i f l : ℕ) (t : Told (Unit {0})) → (fault_told i f (number k then l) >> t) ≡ fault_told i f (number k)
 unfolding fault_told

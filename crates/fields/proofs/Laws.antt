@@ -47,6 +47,10 @@ pub handed-on : {A B : Type 0} (a : Result A Kind) (k : Kind) (r : Result B Kind
 unfolding fault_no
 handed-on a k r e h = let p = err_from_is_err_and r h in rw (p.1, p.2, e)
 
+pub broken-is : {A : Type 0} (a : Result A Kind) (k : Kind) → a ≡ Err k → number k ≡ fault_no a
+unfolding fault_no
+broken-is a k e = rw e
+
 pub nothing-broken : {A : Type 0} (a : Result A Kind) (x : A) → a ≡ Ok x → 0 ≡ fault_no a
 unfolding fault_no
 nothing-broken a x e = rw e
