@@ -2,7 +2,7 @@
 // whose numbers the table of that walk could not keep.
 #![tactic(auto)]
 
-ghost use Rattle.std.specs.Prelude.{◌≡◌, true, false, cond, ltb};
+ghost use Rattle.std.specs.Prelude.{◌≡◌, true, false, cond, ltb, Err};
 ghost use Rattle.rules.specs.Frame.{digit};
 ghost use Rattle.csv_rules.specs.Quote.{cut, lines_in};
 ghost use Rattle.csv_rules.specs.Sheets.{csv_count};
@@ -235,21 +235,14 @@ pub struct Blame {
     pub line: usize,
 }
 
-// What is told of a file: its sheets, or its fault.
-#[derive(Clone, Copy)]
-pub enum FileVerdict {
-    Right(CsvSheets),
-    Wrong(Blame),
-}
-
-fn wrong(fault: FileFault, line: usize) -> FileVerdict
-    ensures { result ≡ FileVerdict.Wrong (record { fault = fault; line = line }) }
+fn wrong(fault: FileFault, line: usize) -> Result<CsvSheets, Blame>
+    ensures { result ≡ Err (record { fault = fault; line = line }) }
 {
-    FileVerdict::Wrong(Blame { fault, line })
+    Err(Blame { fault, line })
 }
 
 // 50 to 54, "in that order, each over the whole file".
-pub fn verdict_on(file: &[u8]) -> FileVerdict
+pub fn verdict_on(file: &[u8]) -> Result<CsvSheets, Blame>
     ensures result_value { told_verdict result ≡ csv_count file.now }
     ensures line { line_of result ≡ csv_spot file.now }
 {
@@ -271,7 +264,7 @@ pub fn verdict_on(file: &[u8]) -> FileVerdict
     if repeats.returns != 0 {
         return wrong(FileFault::Returns, repeats.returns);
     }
-    FileVerdict::Right(CsvSheets {
+    Ok(CsvSheets {
         count: walked.count,
         first: found.first,
     })

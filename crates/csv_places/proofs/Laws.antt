@@ -212,12 +212,18 @@ module _ (f T : List ℕ) (slot p : ℕ) (is : p ≡ place_in T slot) (P : Place
   pub place-mark : (m : ℕ) → m ≡ mark_in T slot → m ≡ hash_of (number_of (items_at f p))
   place-mark m e = e ∙ P.marks slot (λ z. some (is ∙ z)) ∙ ap (λ (n : ℕ). hash_of (number_of (items_at f n))) (sym is)
 
-module _ (f T : List ℕ) (r : Items) (slot left : ℕ) (L : Looking f T r slot left) where
-  pub look-ends : left ≤ 0 → SlotIs f T r Crowded
+module _ (f T : List ℕ) (r : Items) (slot seen : ℕ) (L : Looking f T r slot (256 - seen)) where
+  abbrev left : ℕ
+  left = 256 - seen
+
+  pub look-ends : 256 ≤ seen → SlotIs f T r Crowded
   unfolding SlotIs kept any
   look-ends h = let e : left ≡ 0 = omega arith in record { unknown = L.same ∙ rw e; taken = L.taken (omega arith) }
 
-  module _ (h : 0 < left) (p : ℕ) (is : p ≡ place_in T slot) where
+  module _ (b : seen < 256) (p : ℕ) (is : p ≡ place_in T slot) where
+    h : 0 < left
+    h = omega arith
+
     pub look-free : Places f T → slot < 32768 → p ≡ 0 → SlotIs f T r (Free slot)
     unfolding SlotIs
     look-free P l o =
@@ -254,8 +260,8 @@ module _ (f T : List ℕ) (r : Items) (slot left : ℕ) (L : Looking f T r slot 
           knows = look_one ∙ any_here (number_at f r) p (kept T (slot_after slot) (left - 1)) (sym e ∙ w);
         }
 
-        pub look-on : t ≡ false → (k : ℕ) → k ≡ slot_after slot → Looking f T r k (left - 1)
-        look-on w k q = record {
+        one_less : t ≡ false → (k : ℕ) → k ≡ slot_after slot → Looking f T r k (left - 1)
+        one_less w k q = record {
           same = look_one ∙ any-past (number_at f r) p (kept T (slot_after slot) (left - 1)) (sym e ∙ w) ∙ rw q;
           then = λ i x m z a.
               L.then i x m z
@@ -266,6 +272,9 @@ module _ (f T : List ℕ) (r : Items) (slot left : ℕ) (L : Looking f T r slot 
           first = λ z. absurd (omega (arith, L.few));
           taken = λ z. cases (eqb left 256) (λ y. rw (← L.first (eqb-true left 256 y)) taken_here) (λ y. L.taken (omega (arith, L.few, eqb-false left 256 y)));
         }
+
+        pub look-on : t ≡ false → (k : ℕ) → k ≡ slot_after slot → Looking f T r k (256 - (seen + 1))
+        look-on w k q = let z : 256 - (seen + 1) ≡ left - 1 = omega arith in rw z (one_less w k q)
 
 -- ---- a place kept
 pub slot-inside : (f places : List ℕ) (r : Items) (s : Slot) → SlotIs f places r s → free_slot s < 32768

@@ -35,14 +35,7 @@ fn with_byte(h: usize, b: u8, second: bool) -> usize
     if second {
         return h;
     }
-    ((h + wide(b)) * 2654435769) % 4294967296
-}
-
-fn wide(b: u8) -> usize
-    ensures value { result ≡ b }
-    ensures byte { result < 256 }
-{
-    b as usize
+    ((h + usize::from(b)) * 2654435769) % 4294967296
 }
 
 // The hash of an item, from how it lies in the file.
@@ -52,12 +45,9 @@ fn hash(raw: &[u8]) -> usize
 {
     let mut h = 0;
     let mut second = false;
-    let mut i = 0;
-    while i < raw.len() {
-        let b = raw[i];
+    for &b in raw {
         h = with_byte(h, b, second);
         second = !second & (b == 0x22);
-        i += 1;
     }
     h
 }
@@ -81,13 +71,6 @@ fn slot_after(slot: usize) -> usize
         return 0;
     }
     slot + 1
-}
-
-// An entry of the table.
-fn widened(entry: u32) -> usize
-    ensures { result ≡ entry }
-{
-    entry as usize
 }
 
 // Whether the row that begins at a place has the number of a row.
@@ -117,18 +100,16 @@ pub fn look_up(file: &[u8], places: &[u32; 65536], spans: &[usize; 90], hash: us
     ensures { SlotIs file.now places.now (row_at file.now spans.now) result }
 {
     let mut slot = hash % 32768;
-    let mut left = 256usize;
-    while 0 < left {
-        let p = widened(places[2 * slot]);
+    for _ in 0..256usize {
+        let p = places[2 * slot] as usize;
         if p == 0 {
             return Slot::Free(slot);
         }
-        let mark = widened(places[2 * slot + 1]);
+        let mark = places[2 * slot + 1] as usize;
         if number_marked(file, p, mark, spans, hash) {
             return Slot::Held(p);
         }
         slot = slot_after(slot);
-        left -= 1;
     }
     Slot::Crowded
 }

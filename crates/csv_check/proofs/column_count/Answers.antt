@@ -1,5 +1,4 @@
 use borrow.Author.Rules.{rules}
-use Prim.Native.Nat.{◌-◌}
 use Rattle.csv_check.proofs.Count.{count-starts, count-not, count-digit, count-on, count-over}
 use Rattle.csv_check.proofs.column_count.Goals as goal
 

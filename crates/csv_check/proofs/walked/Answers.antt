@@ -1,5 +1,4 @@
 use borrow.Author.Rules.{rules}
-use Prim.Native.Nat.{◌-◌}
 use Rattle.csv_check.proofs.Lines.{walk-starts, walk-over, walk-line, walk-broken, walk-place, walk_first, walk-less, walk-on}
 use Rattle.csv_check.proofs.Repeating.{rep-starts, rep-over, rep-broken, rep-ask, rep-on}
 use Rattle.csv_check.proofs.walked.Goals as goal
