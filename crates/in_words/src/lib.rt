@@ -1,123 +1,132 @@
 // A refusal in words: one line, with the place as people say it.
 #![tactic(auto)]
 
-ghost use Rattle.std.specs.Prelude.{◌≡◌, ◌+◌, ◌≤◌, length};
+ghost use Rattle.std.specs.Prelude.{◌≡◌, ◌++◌, ◌+◌, ◌≤◌, length};
 ghost use Rattle.rules.specs.Frame.{spelling};
-ghost use Rattle.plain_bytes.specs.Bytes.{until, is_byte};
-ghost use Rattle.writer.specs.Over.{Wrote, Put};
-ghost use Rattle.printed.specs.Printed.{Front};
-ghost use Rattle.in_words.specs.Line.{once, field_text, spot_text, place_text, refusal_in_words, fault_in_words};
+ghost use Rattle.rules.specs.Lists.{bytes, decimal};
+ghost use Rattle.in_words.specs.Line.{once, of_segment, field_text, spot_text, place_text, refusal_in_words, fault_in_words};
 
 use csv_rules::FileFault;
+use printed::text::Text;
 use rules::{Name, Refusal};
 use spot::Spot;
 use words::Where;
 
 // A refusal in words, one line: `name` is that of the segment that it names (Other where it names none), `spot` the place in the text.
-pub fn of_refusal(out: &mut [u8; 192], refusal: Refusal, name: Name, spot: Spot) -> usize
-    ensures wrote { Wrote result out.new (refusal_in_words refusal name spot) out.old }
-    ensures within { Front result out.new }
+#[tactic(auto, unfolding(crate::specs::Line::refusal_in_words))]
+pub fn of_refusal(refusal: Refusal, name: Name, spot: Spot) -> Text<192>
+    ensures { result ≡ refusal_in_words refusal name spot }
 {
-    let kind = refusal.kind;
-    let field = refusal.field;
-    let place = words::place_of(kind);
-    let k = place_said(out, place, refusal, name, spot);
-    let words = words::of_kind(kind, words::breach_of(name, field));
-    let m = put_to_bar(out, k, &words);
-    writer::put_at(out, m, b"\n")
+    let mut line = place_said(words::place_of(refusal.kind), refusal, name, spot);
+    let breach = words::breach_of(name, refusal.field);
+    line.push(words::of_kind(refusal.kind, breach).as_bytes());
+    line.push(b"\n");
+    line
 }
 
 // A file's fault in words, with the line where it is met.
-pub fn of_fault(out: &mut [u8; 192], fault: FileFault, line: usize) -> usize
-    ensures wrote { Wrote result out.new (fault_in_words fault line) out.old }
-    ensures within { Front result out.new }
+#[tactic(auto, unfolding(crate::specs::Line::fault_in_words, rules::specs::Lists::bytes))]
+pub fn of_fault(fault: FileFault, line: usize) -> Text<192>
+    ensures { result ≡ fault_in_words fault line }
 {
-    let k = printed::numbered(out, b"line ", line, b": ");
-    let words = words::of_fault(fault);
-    let m = put_to_bar(out, k, &words);
-    writer::put_at(out, m, b"\n")
+    let mut said = numbered(b"line ", line);
+    said.push(words::of_fault(fault).as_bytes());
+    said.push(b"\n");
+    said
 }
 
-// A text that ends at a bar, written up to there.
-fn put_to_bar(out: &mut [u8], at: usize, text: &[u8]) -> usize
-    requires { at + length text.now ≤ length out.old }
-    ensures put { Put at out.old (until (is_byte 0x7C) text.now) result out.new }
-    ensures within { result ≤ at + length text.now }
+#[tactic(auto, unfolding(crate::specs::Line::place_text, rules::specs::Lists::bytes))]
+fn place_said(place: Where, refusal: Refusal, name: Name, spot: Spot) -> Text<192>
+    ensures is { result ≡ place_text place refusal name spot }
+    ensures within { length result ≤ 58 }
 {
-    let n = plain_bytes::before(text, b'|');
-    writer::put_at(out, at, &text[..n])
-}
-
-fn place_said(out: &mut [u8], place: Where, refusal: Refusal, name: Name, spot: Spot) -> usize
-    requires { 58 ≤ length out.old }
-    ensures wrote { Wrote result out.new (place_text place refusal name spot) out.old }
-    ensures within { result ≤ 58 }
-{
-    let segment = refusal.segment;
-    let field = refusal.field;
     match place {
-        Where::Nowhere => 0,
-        Where::AtSpot => spot_said(out, spot),
-        Where::AtSegment => printed::numbered(out, b"segment ", segment, b": "),
-        Where::AtLine => printed::numbered(out, b"line ", segment, b": "),
-        Where::AtField => field_said(out, name, field, segment),
+        Where::Nowhere => Text::new(),
+        Where::AtSpot => spot_said(spot),
+        Where::AtSegment => numbered(b"segment ", refusal.segment),
+        Where::AtLine => numbered(b"line ", refusal.segment),
+        Where::AtField => field_said(name, refusal.field, refusal.segment),
     }
 }
 
-fn spot_said(out: &mut [u8], spot: Spot) -> usize
-    requires { 58 ≤ length out.old }
-    ensures wrote { Wrote result out.new (spot_text spot) out.old }
-    ensures within { result ≤ 58 }
+// A place that is a number of its kind.
+#[tactic(auto, unfolding(rules::specs::Lists::bytes))]
+fn numbered(kind: &[u8], n: usize) -> Text<192>
+    requires { length kind.now ≤ 8 }
+    ensures is { result ≡ kind.now ++ decimal n ++ bytes ": " }
+    ensures within { length result ≤ 30 }
 {
-    let line = spot.line;
-    let byte = spot.byte;
-    let k = printed::numbered(out, b"line ", line, b", byte ");
-    printed::numbered_at(out, k, b"", byte, b": ")
+    let mut place = Text::new();
+    place.push(kind);
+    place.push_number(n);
+    place.push(b": ");
+    place
+}
+
+#[tactic(auto, unfolding(crate::specs::Line::spot_text, rules::specs::Lists::bytes))]
+fn spot_said(spot: Spot) -> Text<192>
+    ensures is { result ≡ spot_text spot }
+    ensures within { length result ≤ 58 }
+{
+    let mut place = Text::new();
+    place.push(b"line ");
+    place.push_number(spot.line);
+    place.push(b", byte ");
+    place.push_number(spot.byte);
+    place.push(b": ");
+    place
 }
 
 // A field by its segment's name, and by its segment too where a message may have several of the name.
-fn field_said(out: &mut [u8], name: Name, field: usize, segment: usize) -> usize
-    requires { 58 ≤ length out.old }
-    ensures wrote { Wrote result out.new (field_text name field segment) out.old }
-    ensures within { result ≤ 58 }
+#[tactic(auto, unfolding(crate::specs::Line::field_text, rules::specs::Lists::bytes))]
+fn field_said(name: Name, field: usize, segment: usize) -> Text<192>
+    ensures is { result ≡ field_text name field segment }
+    ensures within { length result ≤ 58 }
 {
-    let own = spelled(name);
-    let j = put_to_bar(out, 0, &own);
-    let k = printed::numbered_at(out, j, b"-", field, b"");
-    if comes_once(name) {
-        return writer::put_at(out, k, b": ");
+    let mut place = Text::new();
+    place.push(spelled(name));
+    place.push(b"-");
+    place.push_number(field);
+    push_segment(&mut place, name, segment);
+    place.push(b": ");
+    place
+}
+
+// The segment, where a message may have several of the name.
+#[tactic(auto, unfolding(crate::specs::Line::of_segment, rules::specs::Lists::bytes))]
+fn push_segment(place: &mut Text<192>, name: Name, segment: usize)
+    requires { length place.old ≤ 160 }
+    ensures is { place.new ≡ place.old ++ of_segment name segment }
+    ensures within { length place.new ≤ length place.old + 32 }
+{
+    if !comes_once(name) {
+        place.push(b" of segment ");
+        place.push_number(segment);
     }
-    printed::numbered_at(out, k, b" of segment ", segment, b": ")
 }
 
 // A segment's name; nothing for another.
-fn spelled(name: Name) -> [u8; 3]
-    ensures { until (is_byte 0x7C) result ≡ spelling name }
+#[tactic(auto, unfolding(rules::specs::Frame::spelling, rules::specs::Lists::bytes))]
+fn spelled(name: Name) -> &'static [u8]
+    ensures is { result.now ≡ spelling name }
+    ensures short { length result.now ≤ 3 }
 {
     match name {
-        Name::Msh => rules::MSH,
-        Name::Pid => rules::PID,
-        Name::Pv1 => rules::PV1,
-        Name::Spm => rules::SPM,
-        Name::Obr => rules::OBR,
-        Name::Orc => rules::ORC,
-        Name::Obx => rules::OBX,
-        Name::Other => *b"|||",
+        Name::Msh => &rules::MSH,
+        Name::Pid => &rules::PID,
+        Name::Pv1 => &rules::PV1,
+        Name::Spm => &rules::SPM,
+        Name::Obr => &rules::OBR,
+        Name::Orc => &rules::ORC,
+        Name::Obx => &rules::OBX,
+        Name::Other => b"",
     }
 }
 
 // Whether a message has one segment of this name.
+#[tactic(auto, unfolding(crate::specs::Line::once, rules::specs::Lists::any))]
 fn comes_once(name: Name) -> bool
     ensures { result ≡ once name }
 {
-    match name {
-        Name::Msh => true,
-        Name::Pid => true,
-        Name::Pv1 => true,
-        Name::Spm => false,
-        Name::Obr => false,
-        Name::Orc => false,
-        Name::Obx => false,
-        Name::Other => false,
-    }
+    matches!(name, Name::Msh | Name::Pid | Name::Pv1)
 }

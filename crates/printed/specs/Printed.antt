@@ -1,5 +1,5 @@
 -- "On a refusal a program prints three lines: `refused=` with the number, `segment=` (or `line=`), `field=`." And the three lines of the counts.
-use Rattle.std.specs.Prelude.{◌≡◌, List, [], ◌∷◌, ◌++◌, ℕ, ◌≤◌, length, take}
+use Rattle.std.specs.Prelude.{List, [], ◌∷◌, ◌++◌, ℕ}
 use Rattle.rules.specs.declared.Counts.{Counts}
 use Rattle.rules.specs.declared.Refusal.{Refusal}
 use Rattle.rules.specs.Told.{number}
@@ -24,7 +24,3 @@ fault_text f = three_text (bytes "line=") (fault_number f) 0 0
 -- "The check gives the counts of SPM, OBR and OBX."
 unfoldable pub counts_text : Counts → List ℕ
 counts_text c = line_text (bytes "spm=") c.spm ++ line_text (bytes "obr=") c.obr ++ line_text (bytes "obx=") c.obx
-
--- n bytes stand at the front of a buffer: what a caller that takes them out is asked
-abbrev pub Front : ℕ → List ℕ → Type 0
-Front n out = (n ≤ length out) × (n ≡ length (take n out))

@@ -1,112 +1,79 @@
 // What the programs print on standard output, as texts: the counts, a number, and a refusal in three lines.
 #![tactic(auto)]
 
-ghost use Rattle.std.specs.Prelude.{◌++◌, ◌+◌, ◌≤◌, length};
-ghost use Rattle.rules.specs.Lists.{bytes, decimal};
-ghost use Rattle.writer.specs.Over.{Wrote, Put};
-ghost use Rattle.printed.specs.Printed.{line_text, three_text, refusal_text, fault_text, counts_text, Front};
+pub mod text;
+
+ghost use Rattle.std.specs.Prelude.{◌≡◌, ◌≤◌, length};
+ghost use Rattle.rules.specs.Lists.{bytes};
+ghost use Rattle.printed.specs.Printed.{line_text, three_text, refusal_text, fault_text, counts_text};
 
 use csv_rules::FileFault;
 use rules::{Counts, Refusal};
+use text::Text;
 
 // A message's refusal names its segment.
-pub fn of_message(out: &mut [u8; 96], refusal: Refusal) -> usize
-    ensures wrote { Wrote result out.new (refusal_text (bytes "segment=") refusal) out.old }
-    ensures within { Front result out.new }
+#[tactic(auto, unfolding(rules::specs::Lists::bytes))]
+pub fn of_message(refusal: Refusal) -> Text<96>
+    ensures { result ≡ refusal_text (bytes "segment=") refusal }
 {
-    refused(out, b"segment=", refusal)
+    refused(b"segment=", refusal)
 }
 
 // A sheet's refusal names its line.
-pub fn of_sheet(out: &mut [u8; 96], refusal: Refusal) -> usize
-    ensures wrote { Wrote result out.new (refusal_text (bytes "line=") refusal) out.old }
-    ensures within { Front result out.new }
+#[tactic(auto, unfolding(rules::specs::Lists::bytes))]
+pub fn of_sheet(refusal: Refusal) -> Text<96>
+    ensures { result ≡ refusal_text (bytes "line=") refusal }
 {
-    refused(out, b"line=", refusal)
+    refused(b"line=", refusal)
 }
 
 // A file's fault names no line.
-pub fn of_fault(out: &mut [u8; 96], fault: FileFault) -> usize
-    ensures wrote { Wrote result out.new (fault_text fault) out.old }
-    ensures within { Front result out.new }
+#[tactic(auto, unfolding(rules::specs::Lists::bytes, crate::specs::Printed::fault_text))]
+pub fn of_fault(fault: FileFault) -> Text<96>
+    ensures { result ≡ fault_text fault }
 {
-    three(out, b"line=", csv_rules::fault_number(fault), 0, 0)
+    three(b"line=", csv_rules::fault_number(fault), 0, 0)
 }
 
 // A number, as how many sheets there are or which one.
-pub fn of_number(out: &mut [u8; 96], key: &[u8], n: usize) -> usize
+pub fn of_number(key: &[u8], n: usize) -> Text<96>
     requires { length key.now ≤ 8 }
-    ensures wrote { Wrote result out.new (line_text key.now n) out.old }
-    ensures within { Front result out.new }
+    ensures { result ≡ line_text key.now n }
 {
-    line(out, key, n)
+    let mut text = Text::new();
+    text.push_line(key, n);
+    text
 }
 
 // The counts of an accepted message.
-pub fn of_counts(out: &mut [u8; 96], counts: Counts) -> usize
-    ensures wrote { Wrote result out.new (counts_text counts) out.old }
-    ensures within { Front result out.new }
+#[tactic(auto, unfolding(rules::specs::Lists::bytes, crate::specs::Printed::counts_text))]
+pub fn of_counts(counts: Counts) -> Text<96>
+    ensures { result ≡ counts_text counts }
 {
-    let spm = counts.spm;
-    let obr = counts.obr;
-    let obx = counts.obx;
-    let first = line(out, b"spm=", spm);
-    let second = line_at(out, first, b"obr=", obr);
-    line_at(out, second, b"obx=", obx)
+    let mut text = Text::new();
+    text.push_line(b"spm=", counts.spm);
+    text.push_line(b"obr=", counts.obr);
+    text.push_line(b"obx=", counts.obx);
+    text
 }
 
-fn refused(out: &mut [u8], place: &[u8], refusal: Refusal) -> usize
-    requires { (96 ≤ length out.old) × (length place.now ≤ 8) }
-    ensures { Wrote result out.new (refusal_text place.now refusal) out.old }
+#[tactic(auto, unfolding(crate::specs::Printed::refusal_text))]
+fn refused(place: &[u8], refusal: Refusal) -> Text<96>
+    requires { length place.now ≤ 8 }
+    ensures { result ≡ refusal_text place.now refusal }
 {
-    let kind = refusal.kind;
-    let segment = refusal.segment;
-    let field = refusal.field;
-    three(out, place, rules::paper_number(kind), segment, field)
+    let number = rules::paper_number(refusal.kind);
+    three(place, number, refusal.segment, refusal.field)
 }
 
-fn three(out: &mut [u8], place: &[u8], number: usize, segment: usize, field: usize) -> usize
-    requires { (96 ≤ length out.old) × (length place.now ≤ 8) }
-    ensures { Wrote result out.new (three_text place.now number segment field) out.old }
+#[tactic(auto, unfolding(rules::specs::Lists::bytes, crate::specs::Printed::three_text))]
+fn three(place: &[u8], number: usize, segment: usize, field: usize) -> Text<96>
+    requires { length place.now ≤ 8 }
+    ensures { result ≡ three_text place.now number segment field }
 {
-    let first = line(out, b"refused=", number);
-    let second = line_at(out, first, place, segment);
-    line_at(out, second, b"field=", field)
-}
-
-// A key, a number in decimal, and 0A.
-fn line(out: &mut [u8], key: &[u8], n: usize) -> usize
-    requires { (29 ≤ length out.old) × (length key.now ≤ 8) }
-    ensures wrote { Wrote result out.new (line_text key.now n) out.old }
-    ensures within { result ≤ 29 }
-{
-    numbered(out, key, n, b"\n")
-}
-
-// The same at a place: lends the tail.
-fn line_at(out: &mut [u8], at: usize, key: &[u8], n: usize) -> usize
-    requires { (at + 29 ≤ length out.old) × (length key.now ≤ 8) }
-    ensures put { Put at out.old (line_text key.now n) result out.new }
-    ensures within { result ≤ at + 29 }
-{
-    at + line(&mut out[at..], key, n)
-}
-
-// A number in decimal between two texts.
-pub fn numbered(out: &mut [u8], left: &[u8], n: usize, right: &[u8]) -> usize
-    requires { length left.now + 20 + length right.now ≤ length out.old }
-    ensures wrote { Wrote result out.new (left.now ++ decimal n ++ right.now) out.old }
-    ensures within { result ≤ length left.now + 20 + length right.now }
-{
-    let k = writer::put(out, left);
-    let m = writer::put_number_at(out, k, n);
-    writer::put_at(out, m, right)
-}
-
-pub fn numbered_at(out: &mut [u8], at: usize, left: &[u8], n: usize, right: &[u8]) -> usize
-    requires { at + (length left.now + 20 + length right.now) ≤ length out.old }
-    ensures put { Put at out.old (left.now ++ decimal n ++ right.now) result out.new }
-    ensures within { result ≤ at + (length left.now + 20 + length right.now) }
-{
-    at + numbered(&mut out[at..], left, n, right)
+    let mut text = Text::new();
+    text.push_line(b"refused=", number);
+    text.push_line(place, segment);
+    text.push_line(b"field=", field);
+    text
 }

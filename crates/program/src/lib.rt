@@ -4,8 +4,8 @@
 
 pub mod file;
 
-ghost use Rattle.std.specs.Prelude.{◌≡◌, length, take};
-ghost use Rattle.program.specs.Reading.{ending_of, InBuffer, NineDigits};
+ghost use Rattle.std.specs.Prelude.{◌≡◌, ◌≤◌, length, take, IfOk};
+ghost use Rattle.program.specs.Reading.{brought, InBuffer, NineDigits};
 
 use std::env::FillError;
 use std::fs::{File, OpenOptions};
@@ -13,62 +13,80 @@ use std::io::{IsTerminal, Read, Write};
 use std::rt::Env;
 use std::{fs, io};
 
-// ---- input
-// A whole input of so many bytes, at the start of the lent buffer; or none, and why is told already.
+// A program: the system that it runs on, its name, and how it is called.
 #[derive(Clone, Copy)]
-pub enum Input {
-    Whole(usize),
-    Failed,
+pub struct Program<'a> {
+    pub rt: &'a HostRuntime,
+    pub name: &'a str,
+    pub usage: &'a str,
 }
 
-// Reads the file that the last argument names, or standard input where there is none. Before it stand `others` arguments, the program's own name among them.
-pub fn read_input(
-    rt: &HostRuntime,
-    program: &[u8],
-    usage: &[u8],
-    others: usize,
-    buf: &mut [u8],
-) -> Input
-    ensures { InBuffer (length buf.new) result }
-{
-    let given = arg_count(rt);
-    if given == others {
-        return read_standard(rt, program, buf);
-    }
-    if given < others {
-        return explain(rt, usage);
-    }
-    if given - others != 1 {
-        return explain(rt, usage);
-    }
-    let mut path = [0u8; 4096];
-    match rt.arg(others, &mut path) {
-        Ok(n) => read_file(rt, program, usage, &path[..n], buf),
-        Err(_) => fail(rt, program, b"FILE", &name_too_long()),
-    }
-}
+// What stopped a program, and is told already.
+#[derive(Clone, Copy)]
+pub struct Told;
 
-fn read_standard(rt: &HostRuntime, program: &[u8], buf: &mut [u8]) -> Input
-    ensures { InBuffer (length buf.new) result }
-{
-    let mut input = rt.stdin();
-    if input.is_terminal() {
-        say(rt, program);
-        say(rt, b": waiting for standard input\n");
+// ---- input
+impl Program<'_> {
+    // Reads the file that the last argument names, or standard input where there is none: so many bytes, at the start of the lent buffer. Before it stand `others` arguments,
+    // the program's own name among them.
+    pub fn read_input(&self, others: usize, buf: &mut [u8]) -> Result<usize, Told>
+        ensures { InBuffer (length buf.new) result }
+    {
+        match self.arg_count().checked_sub(others) {
+            Some(0) => self.read_standard(buf),
+            Some(1) => self.read_named(others, buf),
+            _ => Err(self.explain()),
+        }
     }
-    read_all(rt, program, b"standard input", &mut input, buf)
-}
 
-// A word that begins with - names no file: ./-x does.
-fn read_file(rt: &HostRuntime, program: &[u8], usage: &[u8], path: &[u8], buf: &mut [u8]) -> Input
-    ensures { InBuffer (length buf.new) result }
-{
-    if path.starts_with(b"-") {
-        return explain(rt, usage);
+    fn read_standard(&self, buf: &mut [u8]) -> Result<usize, Told>
+        ensures { InBuffer (length buf.new) result }
+    {
+        let mut input = self.rt.stdin();
+        if input.is_terminal() {
+            self.say(self.name.as_bytes());
+            self.say(b": waiting for standard input\n");
+        }
+        self.read_all(b"standard input", &mut input, buf)
     }
-    match open(rt, path) {
-        Ok(mut file) => read_all(rt, program, path, &mut file, buf),
-        Err(error) => fail(rt, program, path, &error),
+
+    // A word that begins with - names no file: ./-x does.
+    fn read_named(&self, at: usize, buf: &mut [u8]) -> Result<usize, Told>
+        ensures { InBuffer (length buf.new) result }
+    {
+        let mut room = [0u8; 4096];
+        let Ok(n) = self.rt.arg(at, &mut room) else {
+            return Err(self.fail(b"FILE", &name_too_long()));
+        };
+        let path = &room[..n];
+        if path.starts_with(b"-") {
+            return Err(self.explain());
+        }
+        let mut file = open(self.rt, path).map_err(|error| self.fail(path, &error))?;
+        self.read_all(path, &mut file, buf)
+    }
+
+    // Reads until the input ends or the buffer is full.
+    fn read_all<R: Read>(&self, file: &[u8], reader: &mut R, buf: &mut [u8]) -> Result<usize, Told>
+        ensures { InBuffer (length buf.new) result }
+    {
+        let mut done = 0;
+        while done < buf.len() {
+            let more = self.brought(file, reader.read(&mut buf[done..]))?;
+            if more == 0 {
+                break;
+            }
+            done += more;
+        }
+        Ok(done)
+    }
+
+    // What a read brings, which is nothing at the end of the input. A failure is told, and never taken for the end.
+    #[tactic(auto, unfolding(crate::specs::Reading::brought))]
+    fn brought(&self, file: &[u8], answer: io::Result<usize>) -> Result<usize, Told>
+        ensures { result ≡ brought answer }
+    {
+        answer.map_err(|error| self.fail(file, &error))
     }
 }
 
@@ -80,43 +98,9 @@ fn open(rt: &HostRuntime, path: &[u8]) -> io::Result<File> {
     }
 }
 
-// Reads until the input ends or the buffer is full.
-#[tactic(auto, using(crate::proofs::Laws::ending_within))]
-fn read_all<R: Read>(
-    rt: &HostRuntime,
-    program: &[u8],
-    file: &[u8],
-    reader: &mut R,
-    buf: &mut [u8],
-) -> Input
-    ensures { InBuffer (length buf.new) result }
-{
-    let mut done = 0;
-    while done < buf.len() {
-        match reader.read(&mut buf[done..]) {
-            Ok(more) if more > 0 => done += more,
-            answer => return ending(rt, program, file, answer, done),
-        }
-    }
-    Input::Whole(done)
-}
-
-// What a read that brought nothing says: it succeeds at the end of the input. A failure is told, and never taken for the end.
-#[tactic(auto, unfolding(crate::specs::Reading::ending_of))]
-fn ending(
-    rt: &HostRuntime,
-    program: &[u8],
-    file: &[u8],
-    answer: io::Result<usize>,
-    done: usize,
-) -> Input
-    ensures { result ≡ ending_of answer done }
-{
-    if let Err(error) = answer {
-        fail(rt, program, file, &error);
-        return Input::Failed;
-    }
-    Input::Whole(done)
+// The system's reason for a name with more bytes than it takes, ENAMETOOLONG.
+fn name_too_long() -> io::Error {
+    io::Error::from_raw_os_error(36)
 }
 
 // The first n bytes of a buffer; all of it where it has fewer.
@@ -130,29 +114,39 @@ pub fn front(buf: &[u8], n: usize) -> &[u8]
 }
 
 // ---- what fails, and how the program is called
-// The program, the file, and the reason.
-pub fn fail(rt: &HostRuntime, program: &[u8], file: &[u8], error: &io::Error) -> Input
-    ensures { result ≡ Input.Failed }
-{
-    say(rt, program);
-    say(rt, b": ");
-    say(rt, file);
-    say(rt, b": ");
-    say_reason(rt, error);
-    say(rt, b"\n");
-    Input::Failed
-}
+impl Program<'_> {
+    // The program, the file, and the reason.
+    pub fn fail(&self, file: &[u8], error: &io::Error) -> Told {
+        self.say(self.name.as_bytes());
+        self.say(b": ");
+        self.say(file);
+        self.say(b": ");
+        self.say_reason(error);
+        self.say(b"\n");
+        Told
+    }
 
-// The system's words, without the number that std puts behind them.
-fn say_reason(rt: &HostRuntime, error: &io::Error) {
-    let mut text = [0u8; 320];
-    let n = put_error(&mut text, error);
-    let words = front(&text, n);
-    let end = words
-        .windows(NUMBER.len())
-        .position(|w| w == NUMBER.as_slice())
-        .unwrap_or(n);
-    say(rt, front(words, end));
+    // The system's words, without the number that std puts behind them.
+    fn say_reason(&self, error: &io::Error) {
+        let mut text = [0u8; 320];
+        let n = put_error(&mut text, error);
+        let words = front(&text, n);
+        let end = words
+            .windows(NUMBER.len())
+            .position(|w| w == NUMBER.as_slice())
+            .unwrap_or(n);
+        self.say(front(words, end));
+    }
+
+    pub fn explain(&self) -> Told {
+        self.say(self.usage.as_bytes());
+        Told
+    }
+
+    // Words on standard error. Where that fails, nothing is left to tell it on.
+    pub fn say(&self, words: &[u8]) {
+        let _ = self.rt.stderr().write_all(words);
+    }
 }
 
 const NUMBER: [u8; 11] = *b" (os error ";
@@ -165,96 +159,84 @@ fn put_error(text: &mut [u8], error: &io::Error) -> usize {
     room.saturating_sub(rest.len())
 }
 
-// The system's reason for a name with more bytes than it takes, ENAMETOOLONG.
-fn name_too_long() -> io::Error {
-    io::Error::from_raw_os_error(36)
-}
-
-pub fn explain(rt: &HostRuntime, usage: &[u8]) -> Input
-    ensures { result ≡ Input.Failed }
-{
-    say(rt, usage);
-    Input::Failed
-}
-
-// Words on standard error. Where that fails, nothing is left to tell it on.
-pub fn say(rt: &HostRuntime, words: &[u8]) {
-    let _ = rt.stderr().write_all(words);
-}
-
 // ---- the arguments
-// How many there are, the program's own name among them.
-pub fn arg_count(rt: &HostRuntime) -> usize {
-    (0..usize::MAX)
-        .find(|i| !is_given(rt, *i))
-        .unwrap_or(usize::MAX)
+impl Program<'_> {
+    // How many there are, the program's own name among them.
+    pub fn arg_count(&self) -> usize {
+        (0..usize::MAX)
+            .find(|i| !self.is_given(*i))
+            .unwrap_or(usize::MAX)
+    }
+
+    fn is_given(&self, i: usize) -> bool {
+        !matches!(self.rt.arg(i, &mut []), Err(FillError::NotPresent))
+    }
+
+    // An argument that is a whole number of at most nine digits; where it isn't, the program is explained.
+    pub fn number_at(&self, i: usize) -> Result<usize, Told>
+        ensures { IfOk result (λ n. n ≤ 999999999) }
+    {
+        self.given_number(i).ok_or_else(|| self.explain())
+    }
+
+    fn given_number(&self, i: usize) -> Option<usize>
+        ensures { NineDigits result }
+    {
+        let mut digits = [0u8; 9];
+        let n = self.rt.arg(i, &mut digits).ok()?;
+        read_number(&digits[..n])
+    }
+
+    // An argument in the lent room; where it has more bytes, or is none, the program is explained.
+    pub fn text_at<'b>(&self, i: usize, room: &'b mut [u8]) -> Result<&'b [u8], Told>
+        ensures { IfOk result (λ text. length text.now ≤ length room.old) }
+    {
+        match self.rt.arg(i, room) {
+            Ok(n) => Ok(&room[..n]),
+            Err(_) => Err(self.explain()),
+        }
+    }
 }
 
-fn is_given(rt: &HostRuntime, i: usize) -> bool {
-    !matches!(rt.arg(i, &mut []), Err(FillError::NotPresent))
-}
-
-// A whole number of at most nine digits.
-#[derive(Clone, Copy)]
-pub enum Number {
-    Is(usize),
-    Wrong,
-}
-
-pub fn number_at(rt: &HostRuntime, i: usize) -> Number
+// At least one digit, and nothing else: `parse` alone takes a sign, too.
+fn read_number(digits: &[u8]) -> Option<usize>
     ensures { NineDigits result }
 {
-    let mut digits = [0u8; 9];
-    match rt.arg(i, &mut digits) {
-        Ok(n) => read_number(&digits[..n]),
-        Err(_) => Number::Wrong,
+    if !digits.iter().all(u8::is_ascii_digit) {
+        return None;
     }
-}
-
-// At least one digit, and nothing else.
-fn read_number(s: &[u8]) -> Number
-    ensures { NineDigits result }
-{
-    if s.len() == 0 {
-        return Number::Wrong;
-    }
-    let mut value = 0;
-    let mut i = 0;
-    while i < s.len() {
-        let b = s[i];
-        if b < 48 {
-            return Number::Wrong;
-        }
-        if 57 < b {
-            return Number::Wrong;
-        }
-        if 99999999 < value {
-            return Number::Wrong;
-        }
-        value = 10 * value + ((b - 48) as usize);
-        i += 1;
-    }
-    Number::Is(value)
+    let text = str::from_utf8(digits).ok()?;
+    text.parse::<usize>().ok().filter(|n| *n <= 999_999_999)
 }
 
 // ---- output
-// Hands bytes, and what ends them, to standard output.
-pub fn output(rt: &HostRuntime, program: &[u8], bytes: &[u8], end: &[u8]) {
-    if let Err(error) = hand_over(rt, bytes, end) {
-        fail(rt, program, b"standard output", &error);
+impl Program<'_> {
+    // Hands bytes, and what ends them, to standard output.
+    pub fn output(&self, bytes: &[u8], end: &[u8]) {
+        if let Err(error) = self.hand_over(bytes, end) {
+            self.fail(b"standard output", &error);
+        }
     }
-}
 
-fn hand_over(rt: &HostRuntime, bytes: &[u8], end: &[u8]) -> io::Result<()> {
-    let mut out = rt.stdout();
-    out.write_all(bytes)?;
-    out.write_all(end)?;
-    // fails where standard output is closed, even if there was nothing to write; a full device, too, refuses that
-    passing(out.write(b"").map(|_| ()), io::ErrorKind::StorageFull)?;
-    match output_file(rt) {
-        // what can't be synced is written
-        Some(file) => passing(file.sync_data(), io::ErrorKind::InvalidInput),
-        None => Ok(()),
+    fn hand_over(&self, bytes: &[u8], end: &[u8]) -> io::Result<()> {
+        let mut out = self.rt.stdout();
+        out.write_all(bytes)?;
+        out.write_all(end)?;
+        // fails where standard output is closed, even if there was nothing to write; a full device, too, refuses that
+        passing(out.write(b"").map(|_| ()), io::ErrorKind::StorageFull)?;
+        match output_file(self.rt) {
+            // what can't be synced is written
+            Some(file) => passing(file.sync_data(), io::ErrorKind::InvalidInput),
+            None => Ok(()),
+        }
+    }
+
+    // Hands bytes to standard output where more are to come.
+    pub fn write(&self, bytes: &[u8]) -> Result<(), Told> {
+        self.rt
+            .stdout()
+            .write_all(bytes)
+            .map_err(|error| self.fail(b"standard output", &error))
     }
 }
 

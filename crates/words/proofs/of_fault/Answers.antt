@@ -1,26 +1,23 @@
 use Rattle.rules.specs.Lists.{bytes}
-use Rattle.plain_bytes.specs.Bytes.{until}
 use Rattle.words.specs.Words.{fault_words}
-use Rattle.words.proofs.Laws.{fault-words}
-use borrow.Author.Rules.{rules}
 use Rattle.words.proofs.of_fault.Goals as goal
 
-pub returns-in-Quoting : goal.returns-in-Quoting
-unfolding until bytes fault_words
-returns-in-Quoting c = search (fault-words, rules)
+pub returns-in-Quoting-clause-said : goal.returns-in-Quoting-clause-said
+unfolding bytes fault_words
+returns-in-Quoting-clause-said c = rw c.in-Quoting.is
 
-pub returns-in-Columns : goal.returns-in-Columns
-unfolding until bytes fault_words
-returns-in-Columns c = search (fault-words, rules)
+pub returns-in-Columns-clause-said : goal.returns-in-Columns-clause-said
+unfolding bytes fault_words
+returns-in-Columns-clause-said c = rw c.in-Columns.is
 
-pub returns-in-Unconverted : goal.returns-in-Unconverted
-unfolding until bytes fault_words
-returns-in-Unconverted c = search (fault-words, rules)
+pub returns-in-Unconverted-clause-said : goal.returns-in-Unconverted-clause-said
+unfolding bytes fault_words
+returns-in-Unconverted-clause-said c = rw c.in-Unconverted.is
 
-pub returns-in-HeaderDiffers : goal.returns-in-HeaderDiffers
-unfolding until bytes fault_words
-returns-in-HeaderDiffers c = search (fault-words, rules)
+pub returns-in-HeaderDiffers-clause-said : goal.returns-in-HeaderDiffers-clause-said
+unfolding bytes fault_words
+returns-in-HeaderDiffers-clause-said c = rw c.in-HeaderDiffers.is
 
-pub returns-in-Returns : goal.returns-in-Returns
-unfolding until bytes fault_words
-returns-in-Returns c = search (fault-words, rules)
+pub returns-in-Returns-clause-said : goal.returns-in-Returns-clause-said
+unfolding bytes fault_words
+returns-in-Returns-clause-said c = rw c.in-Returns.is

@@ -1,98 +1,91 @@
 use Rattle.rules.specs.Lists.{bytes}
-use Rattle.plain_bytes.specs.Bytes.{until}
 use Rattle.words.specs.Words.{saying, words_of}
-use Rattle.words.proofs.Laws.{kind-words}
-use borrow.Author.Rules.{rules}
 use Rattle.words.proofs.of_kind.Goals as goal
 
-pub breach_words-requires : goal.breach_words-requires
-unfolding until bytes words_of saying
-breach_words-requires c = search rules
+pub returns-in-TooLong-clause-said : goal.returns-in-TooLong-clause-said
+unfolding bytes words_of saying
+returns-in-TooLong-clause-said c = rw c.in-TooLong.is
 
-pub returns-in-TooLong : goal.returns-in-TooLong
-unfolding until bytes words_of saying
-returns-in-TooLong c = search (kind-words, rules)
+pub returns-in-Header-clause-said : goal.returns-in-Header-clause-said
+unfolding bytes words_of saying
+returns-in-Header-clause-said c = rw c.in-Header.is
 
-pub returns-in-Header : goal.returns-in-Header
-unfolding until bytes words_of saying
-returns-in-Header c = search (kind-words, rules)
+pub returns-in-Bytes-clause-said : goal.returns-in-Bytes-clause-said
+unfolding bytes words_of saying
+returns-in-Bytes-clause-said c = rw c.in-Bytes.is
 
-pub returns-in-Bytes : goal.returns-in-Bytes
-unfolding until bytes words_of saying
-returns-in-Bytes c = search (kind-words, rules)
+pub returns-in-Segment-clause-said : goal.returns-in-Segment-clause-said
+unfolding bytes words_of saying
+returns-in-Segment-clause-said c = rw c.in-Segment.is
 
-pub returns-in-Segment : goal.returns-in-Segment
-unfolding until bytes words_of saying
-returns-in-Segment c = search (kind-words, rules)
+pub returns-in-TooMany-clause-said : goal.returns-in-TooMany-clause-said
+unfolding bytes words_of saying
+returns-in-TooMany-clause-said c = rw c.in-TooMany.is
 
-pub returns-in-TooMany : goal.returns-in-TooMany
-unfolding until bytes words_of saying
-returns-in-TooMany c = search (kind-words, rules)
+pub returns-in-Order-clause-said : goal.returns-in-Order-clause-said
+unfolding bytes words_of saying
+returns-in-Order-clause-said c = rw c.in-Order.is
 
-pub returns-in-Order : goal.returns-in-Order
-unfolding until bytes words_of saying
-returns-in-Order c = search (kind-words, rules)
+pub returns-in-Missing-clause-said : goal.returns-in-Missing-clause-said
+unfolding bytes words_of saying
+returns-in-Missing-clause-said c = rw c.in-Missing.is
 
-pub returns-in-Missing : goal.returns-in-Missing
-unfolding until bytes words_of saying
-returns-in-Missing c = search (kind-words, rules)
+pub returns-in-Null-clause-said : goal.returns-in-Null-clause-said
+unfolding bytes words_of saying
+returns-in-Null-clause-said c = rw c.in-Null.is
 
-pub returns-in-Null : goal.returns-in-Null
-unfolding until bytes words_of saying
-returns-in-Null c = search (kind-words, rules)
+pub returns-in-Repeated-clause-said : goal.returns-in-Repeated-clause-said
+unfolding bytes words_of saying
+returns-in-Repeated-clause-said c = rw c.in-Repeated.is
 
-pub returns-in-Repeated : goal.returns-in-Repeated
-unfolding until bytes words_of saying
-returns-in-Repeated c = search (kind-words, rules)
+pub returns-in-Escape-clause-said : goal.returns-in-Escape-clause-said
+unfolding bytes words_of saying
+returns-in-Escape-clause-said c = rw c.in-Escape.is
 
-pub returns-in-Escape : goal.returns-in-Escape
-unfolding until bytes words_of saying
-returns-in-Escape c = search (kind-words, rules)
+pub returns-in-Long-clause-said : goal.returns-in-Long-clause-said
+unfolding bytes words_of saying
+returns-in-Long-clause-said c = rw c.in-Long.is
 
-pub returns-in-Long : goal.returns-in-Long
-unfolding until bytes words_of saying
-returns-in-Long c = search (kind-words, rules)
+pub returns-in-Status-clause-said : goal.returns-in-Status-clause-said
+unfolding bytes words_of saying
+returns-in-Status-clause-said c = rw c.in-Status.is
 
-pub returns-in-Value : goal.returns-in-Value
-unfolding until bytes words_of saying
-returns-in-Value c = search (kind-words, rules)
+pub returns-in-Differs-clause-said : goal.returns-in-Differs-clause-said
+unfolding bytes words_of saying
+returns-in-Differs-clause-said c = rw c.in-Differs.is
 
-pub returns-in-Status : goal.returns-in-Status
-unfolding until bytes words_of saying
-returns-in-Status c = search (kind-words, rules)
+pub returns-in-NoOrdinal-clause-said : goal.returns-in-NoOrdinal-clause-said
+unfolding bytes words_of saying
+returns-in-NoOrdinal-clause-said c = rw c.in-NoOrdinal.is
 
-pub returns-in-Differs : goal.returns-in-Differs
-unfolding until bytes words_of saying
-returns-in-Differs c = search (kind-words, rules)
+pub returns-in-Zero-clause-said : goal.returns-in-Zero-clause-said
+unfolding bytes words_of saying
+returns-in-Zero-clause-said c = rw c.in-Zero.is
 
-pub returns-in-NoOrdinal : goal.returns-in-NoOrdinal
-unfolding until bytes words_of saying
-returns-in-NoOrdinal c = search (kind-words, rules)
+pub returns-in-SheetTooLong-clause-said : goal.returns-in-SheetTooLong-clause-said
+unfolding bytes words_of saying
+returns-in-SheetTooLong-clause-said c = rw c.in-SheetTooLong.is
 
-pub returns-in-Zero : goal.returns-in-Zero
-unfolding until bytes words_of saying
-returns-in-Zero c = search (kind-words, rules)
+pub returns-in-SheetBytes-clause-said : goal.returns-in-SheetBytes-clause-said
+unfolding bytes words_of saying
+returns-in-SheetBytes-clause-said c = rw c.in-SheetBytes.is
 
-pub returns-in-SheetTooLong : goal.returns-in-SheetTooLong
-unfolding until bytes words_of saying
-returns-in-SheetTooLong c = search (kind-words, rules)
+pub returns-in-Key-clause-said : goal.returns-in-Key-clause-said
+unfolding bytes words_of saying
+returns-in-Key-clause-said c = rw c.in-Key.is
 
-pub returns-in-SheetBytes : goal.returns-in-SheetBytes
-unfolding until bytes words_of saying
-returns-in-SheetBytes c = search (kind-words, rules)
+pub returns-in-LineValue-clause-said : goal.returns-in-LineValue-clause-said
+unfolding bytes words_of saying
+returns-in-LineValue-clause-said c = rw c.in-LineValue.is
 
-pub returns-in-Key : goal.returns-in-Key
-unfolding until bytes words_of saying
-returns-in-Key c = search (kind-words, rules)
+pub returns-in-Overflow-clause-said : goal.returns-in-Overflow-clause-said
+unfolding bytes words_of saying
+returns-in-Overflow-clause-said c = rw c.in-Overflow.is
 
-pub returns-in-LineValue : goal.returns-in-LineValue
-unfolding until bytes words_of saying
-returns-in-LineValue c = search (kind-words, rules)
+pub returns-in-Room-clause-said : goal.returns-in-Room-clause-said
+unfolding bytes words_of saying
+returns-in-Room-clause-said c = rw c.in-Room.is
 
-pub returns-in-Overflow : goal.returns-in-Overflow
-unfolding until bytes words_of saying
-returns-in-Overflow c = search (kind-words, rules)
-
-pub returns-in-Room : goal.returns-in-Room
-unfolding until bytes words_of saying
-returns-in-Room c = search (kind-words, rules)
+pub returns-in-Value-clause-said : goal.returns-in-Value-clause-said
+unfolding words_of
+returns-in-Value-clause-said c = rw c.in-Value.is c.breach_words.ensures.said

@@ -1,9 +1,0 @@
-use Rattle.rules.specs.Lists.{bytes}
-use Rattle.writer.proofs.Laws.{front-within, front-is}
-use Rattle.printed.proofs.Laws.{fault-is}
-use borrow.Author.Rules.{rules}
-use Rattle.printed.proofs.of_fault.Goals as goal
-
-pub returns : goal.returns
-unfolding bytes
-returns c = record { wrote = search (fault-is, rules); within = (search (front-within, rules), search (front-is, rules)) }
