@@ -10,7 +10,7 @@ ghost use Rattle.value.specs.Rules.{rule_of, fault_no};
 ghost use Rattle.judge.specs.Judge.{Small, Clean};
 
 use rules::Delims;
-use unescape::Unescaped;
+use unescape::NotHeld;
 use value::{Fault, Rule};
 
 // A component with escapes: 23, 20, 24, 25.
@@ -20,9 +20,9 @@ fn judge_escaped(raw: &[u8], d: Delims, required: bool, rule: Rule) -> Fault
 {
     let mut buf = [0u8; 256];
     match unescape::unescape_into(raw, d, &mut buf) {
-        Unescaped::Got(n) => value::fault_of(required, rule, &buf[..n]),
-        Unescaped::Faulty => Fault::Escape,
-        Unescaped::Over(n) => {
+        Ok(n) => value::fault_of(required, rule, &buf[..n]),
+        Err(NotHeld::Faulty) => Fault::Escape,
+        Err(NotHeld::Over(n)) => {
             if value::too_long(rule, n) {
                 return Fault::Long;
             }

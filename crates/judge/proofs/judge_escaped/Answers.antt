@@ -12,11 +12,11 @@ slice_bounds-fault_of-end c = search (got-count, rules)
 pub returns-then-too_long : goal.returns-then-too_long
 returns-then-too_long c = search (escaped-got, escaped-long, rules)
 
-pub returns-in-Got : goal.returns-in-Got
-returns-in-Got c = search (escaped-got, rules)
+pub returns-in-Ok : goal.returns-in-Ok
+returns-in-Ok c = search (escaped-got, rules)
 
-pub returns-in-Faulty : goal.returns-in-Faulty
-returns-in-Faulty c = search (escaped-got, escaped-bad, rules)
+pub returns-in-Err-Faulty : goal.returns-in-Err-Faulty
+returns-in-Err-Faulty c = search (escaped-got, escaped-bad, rules)
 
 pub returns-else-too_long : goal.returns-else-too_long
 returns-else-too_long c = search (escaped-got, escaped-value, rules)
