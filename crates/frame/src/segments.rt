@@ -3,7 +3,7 @@ ghost use Rattle.std.specs.Iterator.{item_count};
 ghost use Rattle.frame.specs.Taken.{Takes, left};
 
 // What is left of a message.
-#[derive(Clone, Copy)]
+#[derive(Drop)]
 pub struct Segments<'a> {
     pub rest: &'a [u8],
 }
