@@ -11,7 +11,8 @@ use mathlib.Core.Bool.{Bool, ◌&&◌}
 use Rattle.rules.specs.Frame.{segments, segments_ok}
 use Rattle.rules.specs.Lists.{split, all_but_last, last, all, empty}
 use Rattle.rules.proofs.Logic.{cases}
-use Rattle.rules.proofs.Lists.{rest-is, all_cons}
+use lib.Seq.{drop-drop}
+use Rattle.rules.proofs.Lists.{rest-is, all_cons, take_own, drop_own}
 use Rattle.rules.proofs.Split.{but_last-split, last-split}
 use Rattle.plain_bytes.specs.Bytes as Bytes
 use Rattle.plain_bytes.specs.Bytes.{until}
@@ -62,6 +63,12 @@ module _ (r : List ℕ) (n : ℕ) (en : n ≡ length (until (Bytes.is_byte 0x0D)
 module _ (r x t : List ℕ) (h : Taken r x t) where
   pub taken-length : length r ≡ length x + 1 + length t
   taken-length = rw h.lies (length-append x (0x0D ∷ t) ∙ omega arith)
+
+  pub taken-front : take (length x) r ≡ x
+  taken-front = rw h.lies (take_own x (0x0D ∷ t))
+
+  pub taken-behind : drop (length x + 1) r ≡ t
+  taken-behind = rw h.lies (sym (drop-drop 1 (length x) (x ++ 0x0D ∷ t)) ∙ ap (drop 1) (drop_own x (0x0D ∷ t)))
 
   pub taken-segments : segments r ≡ x ∷ segments t
   unfolding segments
