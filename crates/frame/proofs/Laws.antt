@@ -34,7 +34,7 @@ use Rattle.frame.specs.declared.Opened.{Opened}
 use Rattle.frame.specs.declared.all_segments.Seen.{Seen}
 
 -- ---- 13, the segments in turn: r is the rest of the message, n how many bytes stand before its first 0D
-and-exchange : (a b c : Bool) → (a && (b && c)) ≡ (b && (a && c))
+pub and-exchange : (a b c : Bool) → (a && (b && c)) ≡ (b && (a && c))
 and-exchange true b c = refl
 and-exchange false true c = refl
 and-exchange false false c = refl

@@ -2,6 +2,7 @@
 ghost use Rattle.std.specs.Prelude.{◌≡◌, ◌≤◌, length};
 ghost use Rattle.frame.specs.Frame.{most_bytes, good_of, tallied, counted_of, nothing_seen, pass_from, Within};
 
+use crate::segments::Segments;
 use order::Reached;
 use rules::{Counts, Name};
 
@@ -22,19 +23,15 @@ pub fn pass(m: &[u8], field: u8) -> Option<Seen>
     ensures within { (v : Seen) → result ≡ Some v → Within most_bytes v }
 {
     let mut seen = nothing_seen();
-    let mut at = 0;
-    while at < m.len() {
-        let rest = &m[at..];
-        let n = plain_bytes::before(rest, 0x0D);
-        if n == rest.len() {
-            return None;
-        }
-        let s = &rest[..n];
+    let mut walk = Segments { rest: m };
+    while let Some(s) = walk.next() {
         if !good(s, field) {
             return None;
         }
         seen = counted(seen, names::name_of(s));
-        at += n + 1;
+    }
+    if !walk.rest.is_empty() {
+        return None;
     }
     Some(seen)
 }

@@ -10,6 +10,8 @@ use rules::{Counts, Delims, Kind, Refusal};
 
 pub mod all_segments;
 
+pub mod segments;
+
 // What a message that passes 10 to 15 is read with, and what the check gives in the end.
 #[derive(Clone, Copy)]
 pub struct Opened {

@@ -3,6 +3,7 @@
 
 ghost use Rattle.rules.specs.Promises.{SegmentFound};
 
+use frame::segments::Segments;
 use rules::{KnownSegment, Name};
 
 // "Ordinals count known segments only, from 1." It takes any bytes.
@@ -14,24 +15,19 @@ pub fn known_segment(m: &[u8], ordinal: usize) -> Option<KnownSegment>
     }
     let mut left = ordinal - 1;
     let mut at = 0;
-    while at < m.len() {
-        let rest = &m[at..];
-        let n = plain_bytes::before(rest, 0x0D);
-        if n == rest.len() {
-            return None;
-        }
-        let name = names::name_of(&rest[..n]);
+    for s in (Segments { rest: m }) {
+        let name = names::name_of(s);
         if !names::is(name, Name::Other) {
             if left == 0 {
                 return Some(KnownSegment {
                     name,
                     start: at,
-                    len: n,
+                    len: s.len(),
                 });
             }
             left -= 1;
         }
-        at += n + 1;
+        at += s.len() + 1;
     }
     None
 }

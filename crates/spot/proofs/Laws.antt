@@ -17,9 +17,9 @@ use Rattle.rules.specs.Frame.{delims_of, segments}
 use Rattle.rules.proofs.Logic.{not-true, not-false}
 use Rattle.rules.proofs.Lists.{here, over, rest-is, rest-inside, part_length}
 use Rattle.plain_bytes.specs.Bytes.{is_byte, until}
-use Rattle.plain_bytes.proofs.Laws.{split-last}
 use Rattle.frame.specs.Frame.{good_of}
-use Rattle.frame.proofs.Laws.{there, segment-there}
+use Rattle.frame.specs.Taken.{Taken, Ended}
+use Rattle.frame.proofs.Taken.{taken-length, taken-segments, ended-segments}
 use Rattle.spot.specs.declared.Spot.{Spot}
 use Rattle.spot.specs.Spot.{is_bad, kept_bytes, good_bytes, place_at, no_place, longest_text, spot_of}
 
@@ -75,44 +75,36 @@ pub good-next : (bar : ℕ) (s : List ℕ) (ss : List (List ℕ)) → good_of ba
 unfolding good_bytes
 good-next bar s ss e = rw (e, good_bytes)
 
--- without a 0D there is no segment
-pub no-segment : (r : List ℕ) → length (until (is_byte 0x0D) r) ≡ length r → segments r ≡ []
-unfolding segments all_but_last
-no-segment r h = ap all_but_last (split-last 0x0D r h)
+-- the segments before the rest r are good, and take `at` bytes
+pub record Good (m : List ℕ) (bar at : ℕ) (r : List ℕ) : Type 0 where
+  pub same : good_bytes bar (segments m) ≡ at + good_bytes bar (segments r)
+  pub inside : at + length r ≡ length m
 
-pub good_none : (bar : ℕ) (r : List ℕ) → segments r ≡ [] → good_bytes bar (segments r) ≡ 0
-unfolding good_bytes
-good_none bar r e = rw e
+pub good-starts : (m : List ℕ) (bar : ℕ) → Good m bar 0 m
+good-starts m bar = record { same = omega arith; inside = omega arith }
 
-module _ (m : List ℕ) (bar at : ℕ) (inv : good_bytes bar (segments m) ≡ at + good_bytes bar (segments (drop at m))) where
-  pub good-ends : length m ≤ at → at ≡ good_bytes bar (segments m)
-  unfolding segments split all_but_last
-  good-ends h = omega (arith, good_none bar (drop at m) (ap segments (over m at h)))
+module _ (m : List ℕ) (bar at : ℕ) (r : List ℕ) (inv : Good m bar at r) where
+  pub good-inside : at ≤ length m
+  good-inside = omega (arith, inv.inside)
 
-  module _ (n : ℕ) (en : n ≡ length (until (is_byte 0x0D) (take (length m - at) (drop at m)))) where
-    pub good-open : n ≡ length (take (length m - at) (drop at m)) → at ≡ good_bytes bar (segments m)
-    good-open e = omega (arith, good_none bar (drop at m) (no-segment (drop at m) (sym (there m at n en) ∙ e ∙ ap length (rest-is m at))))
+  pub good-ends : (t : List ℕ) → Ended r t → at ≡ good_bytes bar (segments m)
+  unfolding good_bytes
+  good-ends t h = let q : good_bytes bar (segments r) ≡ 0 = rw (ended-segments r h.whole) in omega (arith, inv.same)
 
-    module _ (k : n ≤ length (take (length m - at) (drop at m))) (ne : n ≡ length (take (length m - at) (drop at m)) → ⊥)
-        (t : Bool) (et : t ≡ good_of bar (take n (take (length m - at) (drop at m)))) where
-      next : segments (drop at m) ≡ take n (drop at m) ∷ segments (drop (at + (n + 1)) m)
-      next = segment-there m at n en (rest-inside m at n k ne)
+  module _ (x t : List ℕ) (h : Taken r x t) where
+    pub good-fits : (n : ℕ) → length m ≤ n → at + (length x + 1) ≤ n
+    good-fits n k = omega (arith, inv.inside, taken-length r x t h)
 
-      is-so : good_of bar (take n (drop at m)) ≡ t
-      is-so = ap (λ l. good_of bar (take n l)) (sym (rest-is m at)) ∙ sym et
+    module _ (b : Bool) (eb : b ≡ good_of bar x) where
+      pub good-stops : b ≡ false → at ≡ good_bytes bar (segments m)
+      good-stops e =
+          let q : good_bytes bar (segments r) ≡ 0 = rw (taken-segments r x t h) (good-bad bar x (segments t) (sym eb ∙ e)) in
+          omega (arith, inv.same)
 
-      pub good-stops : not t ≡ true → at ≡ good_bytes bar (segments m)
-      good-stops h =
-          let q : good_bytes bar (segments (drop at m)) ≡ 0
-          = ap (good_bytes bar) next ∙ good-bad bar (take n (drop at m)) (segments (drop (at + (n + 1)) m)) (is-so ∙ not-true t h) in
-          omega arith
-
-      pub good-goes : not t ≡ false → good_bytes bar (segments m) ≡ at + (n + 1) + good_bytes bar (segments (drop (at + (n + 1)) m))
-      good-goes h =
-          let q : good_bytes bar (segments (drop at m)) ≡ suc (length (take n (drop at m))) + good_bytes bar (segments (drop (at + (n + 1)) m))
-          = ap (good_bytes bar) next ∙ good-next bar (take n (drop at m)) (segments (drop (at + (n + 1)) m)) (is-so ∙ not-false t h) in
-          let l : n < length (drop at m) = rest-inside m at n k ne in
-          omega (arith, part_length n (drop at m) (omega arith))
+      pub good-goes : b ≡ true → Good m bar (at + (length x + 1)) t
+      good-goes e =
+          let q : good_bytes bar (segments r) ≡ suc (length x) + good_bytes bar (segments t) = rw (taken-segments r x t h) (good-next bar x (segments t) (sym eb ∙ e)) in
+          record { same = omega (arith, inv.same); inside = omega (arith, inv.inside, taken-length r x t h) }
 
 -- ---- the place
 pub place_is : (end at n : ℕ) (s : List ℕ) → n ≡ count (is_byte end) (take at s) → ◌≡◌ {A = Spot} (record { line = n + 1; byte = at + 1 }) (place_at end at s)

@@ -9,6 +9,7 @@ ghost use Rattle.plain_bytes.specs.Bytes.{is_byte};
 ghost use Rattle.spot.specs.Spot.{is_bad, kept_bytes, good_bytes, place_at, longest_text, SpotTold};
 
 use frame::all_segments;
+use frame::segments::Segments;
 use rules::Mode;
 
 // A place in a text: its line and its byte, each counted from 1; 0 where none is named.
@@ -119,16 +120,11 @@ fn good_bytes(m: &[u8], field: u8) -> usize
     ensures within { result ≤ length m.now }
 {
     let mut at = 0;
-    while at < m.len() {
-        let rest = &m[at..];
-        let n = plain_bytes::before(rest, 0x0D);
-        if n == rest.len() {
+    for s in (Segments { rest: m }) {
+        if !all_segments::good(s, field) {
             return at;
         }
-        if !all_segments::good(&rest[..n], field) {
-            return at;
-        }
-        at += n + 1;
+        at += s.len() + 1;
     }
     at
 }

@@ -1,26 +1,21 @@
 use borrow.Author.Rules.{rules}
-use Prim.Native.Nat.{◌-◌}
-use Rattle.spot.proofs.Laws.{good-ends, good-goes, good-open, good-stops}
-use Rattle.rules.proofs.Lists.{part_length, rest-further, rest-inside}
+use Rattle.spot.proofs.Laws.{good-starts, good-inside, good-ends, good-fits, good-stops, good-goes}
 use Rattle.spot.proofs.good_bytes.Goals as goal
 
-pub returns-then-n-rest : goal.returns-then-n-rest
-returns-then-n-rest c = search (good-open, rules)
+pub loop-s-init : goal.loop-s-init
+loop-s-init c = rw c.into_iter-s-iterator.ensures.into_iter_gives (good-starts _ _)
 
-pub slice_bounds-good-end : goal.slice_bounds-good-end
-slice_bounds-good-end c = search (part_length, rules)
+pub returns-then-not-good-clause-value : goal.returns-then-not-good-clause-value
+returns-then-not-good-clause-value c = good-stops _ _ _ _ c.loop-s.invariant _ _ c.in-Some.ensures.steps.1 _ c.good.ensures c.if-not-good.true
 
-pub returns-then-not-good : goal.returns-then-not-good
-returns-then-not-good c = search (good-stops, rules)
+pub returns-then-not-good-clause-within : goal.returns-then-not-good-clause-within
+returns-then-not-good-clause-within c = search (good-inside, rules)
 
 pub overflow_add-at : goal.overflow_add-at
-overflow_add-at c = search (rest-further, rest-inside, rules)
+overflow_add-at c = search (good-fits, rules)
 
-pub loop-at-smaller : goal.loop-at-smaller
-loop-at-smaller c = search (rest-further, rest-inside, rules)
-
-pub loop-at-preserved : goal.loop-at-preserved
-loop-at-preserved c = search (rest-further, rest-inside, good-goes, rules)
+pub loop-s-preserved : goal.loop-s-preserved
+loop-s-preserved c = good-goes _ _ _ _ c.loop-s.invariant _ _ c.in-Some.ensures.steps.1 _ c.good.ensures c.if-not-good.false
 
 pub returns : goal.returns
-returns c = search (good-ends, rules)
+returns c = record { value = good-ends _ _ _ _ c.loop-s.invariant _ c.in-None.ensures.steps.1; within = search (good-inside, rules) }
