@@ -108,9 +108,6 @@ module _ (d : Delims) (p : List ℕ) (ts : List (Bor (List ℕ))) (whole out₀ 
   unfolding woven
   woven-ends h = run_end run (rw (over p i h))
 
-pub sum-begins : (d : Delims) (p : List ℕ) (ts : List (Bor (List ℕ))) → 0 + length (woven d (drop 0 p) (drop 0 ts)) ≡ length (woven d p ts)
-sum-begins d p ts = omega arith
-
 module _ (d : Delims) (p : List ℕ) (ts : List (Bor (List ℕ))) (whole : List ℕ) (i q n : ℕ) (sum : n + length (woven d (drop i p) (drop q ts)) ≡ length whole) where
   pub sum_goes : (u k : ℕ) → i < length p → u ≡ length (slot_text d (get_or p i 0) (first_text (drop q ts))) → k ≡ taken (get_or p i 0)
       → (n + u) + length (woven d (drop (i + 1) p) (drop (q + k) ts)) ≡ length whole
