@@ -126,29 +126,32 @@ module _ (d : Delims) (m order : List ℕ) (i at n : ℕ) (g : Going d m order i
           told = g.told ∙ turn-skip d (said order) i at (drop at m) n (there m at n en) short (rw named (sym et ∙ h)) ∙ rw (rest_end m at n short, rest-on m at n);
         }
 
-    module _ {A : Type 0} (f : Result A FieldFault) (ht : t ≡ false) (found : FoundIn x d (said order) (met (take n (take (length m - at) (drop at m)))) f) where
-      unfoldable tail : Context → Told (Unit {0})
-      tail y = told_from d y (suc i) (at + (n + 1)) (drop (at + (n + 1)) m)
+    unfoldable tail : Context → Told (Unit {0})
+    tail y = told_from d y (suc i) (at + (n + 1)) (drop (at + (n + 1)) m)
 
-      after : Context
-      after = context_after d (said order) (segment_of d (as_known x (met (take n (take (length m - at) (drop at m))))))
+    after : Context
+    after = context_after d (said order) (segment_of d (as_known x (met (take n (take (length m - at) (drop at m))))))
 
-      turned : told_from d unsaid 1 0 m ≡ (fault_told i (field_in f) (fault_in f) >> tail after)
+    module _ {A : Type 0} (ht : t ≡ false) where
+      turned : (f : Result A FieldFault) → FoundIn x d (said order) (met (take n (take (length m - at) (drop at m)))) f
+          → told_from d unsaid 1 0 m ≡ (fault_told i (field_in f) (fault_in f) >> tail after)
       unfolding tail after
-      turned =
+      turned f found =
           g.told ∙ turn-found d (said order) i at (drop at m) n (there m at n en) short f (rw named (sym et ∙ ht)) (rw named (rw (rest-is m at) at found))
           ∙ rw (named, rest_end m at n short, rest-on m at n, rest-is m at)
 
-      pub refuses : (e : FieldFault) → Sound m d → f ≡ Err e → told {A = Unit {0}} (Err (record { kind = e.kind; segment = i; field = e.field })) ≡ read_told d m
-      refuses e s h = sym (turned ∙ rw h (stopped e.kind i e.field (tail after))) ∙ read_is d m s
+      pub refuses : (e : FieldFault) → Sound m d → FoundIn {A = A} x d (said order) (met (take n (take (length m - at) (drop at m)))) (Err e)
+          → told {A = Unit {0}} (Err (record { kind = e.kind; segment = i; field = e.field })) ≡ read_told d m
+      refuses e s found = sym (turned (Err e) found ∙ stopped e.kind i e.field (tail after)) ∙ read_is d m s
 
-      pub passes : (a : A) (o : List ℕ) → f ≡ Ok a → said o ≡ context_after d (said order) (segment_of d (as_known x (met (take n (take (length m - at) (drop at m))))))
+      pub passes : (a : A) (o : List ℕ) → FoundIn {A = A} x d (said order) (met (take n (take (length m - at) (drop at m)))) (Ok a)
+          → said o ≡ context_after d (said order) (segment_of d (as_known x (met (take n (take (length m - at) (drop at m))))))
           → Going d m o (i + 1) (at + (n + 1))
       unfolding tail after fault_told
-      passes a o h e = record { inside = further; ordinal = omega (arith, g.ordinal); whole = rest-whole; told = turned ∙ rw (h, ← e, add-one i) }
+      passes a o found e = record { inside = further; ordinal = omega (arith, g.ordinal); whole = rest-whole; told = turned (Ok a) found ∙ rw (← e, add-one i) }
 
 -- ---- the check
-module _ (m : List ℕ) {r : Result Counts Refusal} where
+module _ (m : List ℕ) (r : Result Counts Refusal) where
   pub check-not : (e : Refusal) → refusal {A = Opened} e ≡ frame_of m → IsErrAnd r (λ y. y ≡ e) → Checked m r
   check-not e h q = let p = err_from_is_err_and r q in rw (p.1, p.2) (sym (check-refused m (number e.kind) e.segment e.field (sym h)))
 

@@ -24,13 +24,17 @@ pub loop-at-preserved-then-is : goal.loop-at-preserved-then-is
 loop-at-preserved-then-is c = search (skipped, rules)
 
 pub returns-in-Err : goal.returns-in-Err
-returns-in-Err c = search (refuses, rules)
+returns-in-Err c =
+    refuses _ _ _ _ _ _ c.loop-at.invariant (search rules) c.before-n.ensures.value c.before-n.ensures.within _ c.name_of-name.ensures _ c.is.ensures (search rules) _ c.requires
+    c.in-Err.ensures.found_in
 
 pub loop-at-smaller : goal.loop-at-smaller
 loop-at-smaller c = search (further, rules)
 
 pub loop-at-preserved : goal.loop-at-preserved
-loop-at-preserved c = search (passes, rules)
+loop-at-preserved c =
+    passes _ _ _ _ _ _ c.loop-at.invariant (search rules) c.before-n.ensures.value c.before-n.ensures.within _ c.name_of-name.ensures _ c.is.ensures (search rules) _ _
+    c.in-Ok.ensures.found_in c.in-Ok.ensures.order
 
 pub returns : goal.returns
 returns c = search (ends, rules)
