@@ -16,6 +16,7 @@ use Rattle.rules.specs.Shift.{keeps}
 use Rattle.rules.specs.Sheet.{read_sheet}
 use Rattle.rules.proofs.Logic.{cases, not-true, not-false, guard}
 use Rattle.rules.proofs.Split.{split-here, split-there, split-cons, last-split}
+pub use Rattle.lines.proofs.Laws.{exit-is}
 use Rattle.sheets.specs.Sheet.{refusal_at, readable_told, rows_in, groups_told, judged_told}
 
 -- ---- 40 and 41

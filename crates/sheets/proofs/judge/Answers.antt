@@ -1,6 +1,5 @@
 use mathlib.Core.Path.{refl}
-use Rattle.lines.proofs.Laws.{exit-is}
-use Rattle.sheets.proofs.Telling.{readable-short, judged-wrong, judged-right}
+use Rattle.sheets.proofs.Telling.{exit-is, readable-short, judged-wrong, judged-right}
 use Rattle.sheets.proofs.judge.Goals as goal
 
 pub read_groups-requires : goal.read_groups-requires
