@@ -2,16 +2,15 @@
 use mathlib.Core.Path.{◌≡◌, refl, sym, ap, ◌∙◌}
 use mathlib.Core.Bool.{Bool, true, false, not}
 use mathlib.Core.List.{List, [], ◌∷◌, ◌++◌}
-use Prim.Native.Nat.{ℕ, ◌+◌, ◌-◌, ◌≤◌}
+use Prim.Native.Nat.{ℕ, ◌≤◌}
 use native.Mathlib.Omega.{arith}
 use borrow.Author.Tests.{lt-leb, not-true, not-false}
-use lib.ListN.{length, take, drop}
 use Rattle.rules.specs.declared.Name.TheVariants.{Pid, Pv1, Spm, Obr, Obx}
 use Rattle.rules.specs.Lists.{bytes, all, ended}
 use Rattle.rules.specs.Shift.{within}
 use Rattle.rules.specs.Row.{line, lines}
 use Rattle.rules.specs.Sheet.{key_of, lines_text}
-use Rattle.rules.proofs.Lists.{part_length, all_first}
+use Rattle.rules.proofs.Lists.{all_first}
 use Rattle.rules.proofs.Split.{ended-append}
 use Rattle.csv_rules.specs.Quote.{Items}
 use Rattle.csv_rules.specs.Written.{halved}
@@ -25,7 +24,7 @@ use Rattle.reach.specs.Reach.{Adds}
 use Rattle.reach.proofs.Laws.{adds_then}
 use Rattle.csv_keys.specs.declared.How.{How}
 use Rattle.csv_keys.specs.declared.How.TheVariants.{Text, UpToBlank, PastBlank, Fifteen, Sex, Class, Form, ValueType}
-use Rattle.csv_keys.specs.Keys.{how_of, raw_of, KeyIs}
+use Rattle.csv_keys.specs.Keys.{how_of, raw_value, KeyIs}
 use Rattle.csv_lines.specs.Lines.{AddsLines, line_by, family_and_given, group_lines, some_lines, header_lines, first_lines, next_lines}
 
 -- ---- a value
@@ -51,20 +50,14 @@ plain-how Class = refl
 plain-how Form = refl
 plain-how ValueType = refl
 
-pub lead-long : (f v lead : List ℕ) (n start len : ℕ) → KeyIs f v lead n start len → n ≡ length (take n lead)
-lead-long f v lead n start len key = part_length n lead (omega (arith, key.size, key.few))
-
-pub value-is : (h : How) (row : Items) (n at r k filled start len e : ℕ) (f lead x y z : List ℕ) → all convertible row ≡ true
-    → KeyIs f (raw_by (how_of h) row n) lead filled start len → e ≡ start + len
-    → Adds at x (take filled lead) r y → Adds r y (converted (halved false (take (e - start) (drop start f)))) k z
-    → Adds at x (value_by (how_of h) row n) k z
-unfolding raw_of
-value-is h row n at r k filled start len e f lead x y z c key ends p q =
-    let m : e - start ≡ len = omega (arith, ends) in
+pub value-is : (h : How) (row : Items) (n at r k : ℕ) (lead raw x y z : List ℕ) → all convertible row ≡ true
+    → KeyIs (raw_by (how_of h) row n) lead raw → Adds at x lead r y → Adds r y (converted (halved false raw)) k z → Adds at x (value_by (how_of h) row n) k z
+unfolding raw_value
+value-is h row n at r k lead raw x y z c key p q =
     let b = value-becomes (how_of h) row n (plain-how h) c in
-    let t = sym (plain-first (take filled lead) (halved false (take len (drop start f))) key.plain) in
-    let v : take filled lead ++ converted (halved false (take len (drop start f))) ≡ value_by (how_of h) row n = t ∙ ap converted key.is ∙ sym b.is in
-    rw (m, v) at (adds_then p q)
+    let t = sym (plain-first lead (halved false raw) key.plain) in
+    let v : lead ++ converted (halved false raw) ≡ value_by (how_of h) row n = t ∙ ap converted key.is ∙ sym b.is in
+    rw v at (adds_then p q)
 
 -- ---- lines
 pub line-is : (at a b r : ℕ) (x y z w k v : List ℕ) → Adds at x k a y → Adds a y v b z → Adds b z (0x0A ∷ []) r w → AddsLines at x ((k ++ v) ∷ []) r w
