@@ -2,68 +2,39 @@
 // its refusal.
 #![tactic(auto)]
 
-use csv_rules::Made;
-use program::{Input, Number, file};
-use std::rt::Env;
-
-const NAME: [u8; 12] = *b"csv_to_sheet";
-
-const USAGE: [u8; 98] =
-    *b"usage: csv_to_sheet WHICH MODE SENT CONTROL [FILE] (WHICH: a whole number of at most nine digits)\n";
+use csv_rules::NotMade;
+use program::{Program, Told, file, front};
 
 fn main(rt: HostRuntime) {
-    if program::arg_count(&rt) < 5 {
-        explain(&rt);
-    } else {
-        with_which(&rt, program::number_at(&rt, 1));
-    }
-}
-
-fn explain(rt: &HostRuntime) {
-    program::explain(rt, &USAGE);
-}
-
-fn with_which(rt: &HostRuntime, which: Number) {
-    match which {
-        Number::Is(n) => with_texts(rt, n),
-        Number::Wrong => explain(rt),
-    }
-}
-
-fn with_texts(rt: &HostRuntime, which: usize) {
-    let mut mode = [0u8; 4096];
-    let mut sent = [0u8; 4096];
-    let mut control = [0u8; 4096];
-    let Ok(m) = rt.arg(2, &mut mode) else {
-        return explain(rt);
-    };
-    let Ok(s) = rt.arg(3, &mut sent) else {
-        return explain(rt);
-    };
-    let Ok(c) = rt.arg(4, &mut control) else {
-        return explain(rt);
+    let program = Program {
+        rt: &rt,
+        name: "csv_to_sheet",
+        usage: "usage: csv_to_sheet WHICH MODE SENT CONTROL [FILE] (WHICH: a whole number of at most nine digits)\n",
     };
     let mut text = file::room();
-    run(rt, &mut text, which, &mode[..m], &sent[..s], &control[..c])
+    let _ = convert(&program, &mut text);
 }
 
-fn run(rt: &HostRuntime, text: &mut [u8], which: usize, mode: &[u8], sent: &[u8], control: &[u8]) {
-    match file::read(rt, &NAME, &USAGE, 5, text) {
-        Input::Whole(n) => convert(rt, program::front(text, n), which, mode, sent, control),
-        Input::Failed => {}
-    }
-}
-
-fn convert(rt: &HostRuntime, text: &[u8], which: usize, mode: &[u8], sent: &[u8], control: &[u8]) {
+fn convert(program: &Program, text: &mut [u8]) -> Result<(), Told> {
+    let which = program.number_at(1)?;
+    let mut mode = [0u8; 4096];
+    let mode = program.text_at(2, &mut mode)?;
+    let mut sent = [0u8; 4096];
+    let sent = program.text_at(3, &mut sent)?;
+    let mut control = [0u8; 4096];
+    let control = program.text_at(4, &mut control)?;
+    let n = program.read_file(5, text)?;
+    let file = front(text, n);
     // as long as a sheet may be, so that none gives 45
     let mut sheet = [0u8; 65536];
-    match oul::csv_sheet(text, which, mode, sent, control, &mut sheet) {
-        Made::Sheet(n) => program::output(rt, &NAME, program::front(&sheet, n), b""),
-        Made::Unfit(refusal) => {
-            refusals::tell_csv_sheet(rt, &NAME, refusal);
+    match oul::csv_sheet(file, which, mode, sent, control, &mut sheet) {
+        Ok(n) => program.output(front(&sheet, n), b""),
+        Err(NotMade::Unfit(refusal)) => {
+            refusals::tell_csv_sheet(program, refusal);
         }
-        Made::Faulty(fault) => {
-            refusals::tell_file(rt, &NAME, b"", text, fault);
+        Err(NotMade::Faulty(fault)) => {
+            refusals::tell_file(program, b"", file, fault);
         }
     }
+    Ok(())
 }

@@ -2,68 +2,31 @@
 // its refusal.
 #![tactic(auto)]
 
-use program::{Input, Number};
-use rules::Fetched;
-
-const NAME: [u8; 10] = *b"fetch_part";
-
-const USAGE: [u8; 88] =
-    *b"usage: fetch_part ORDINAL FIELD COMPONENT [FILE] (whole numbers of at most nine digits)\n";
+use program::{Program, Told, front};
 
 fn main(rt: HostRuntime) {
-    if program::arg_count(&rt) < 4 {
-        explain(&rt);
-    } else {
-        with_ordinal(&rt, program::number_at(&rt, 1));
-    }
-}
-
-fn explain(rt: &HostRuntime) {
-    program::explain(rt, &USAGE);
-}
-
-// ---- the arguments
-fn with_ordinal(rt: &HostRuntime, ordinal: Number) {
-    match ordinal {
-        Number::Is(o) => with_field(rt, o, program::number_at(rt, 2)),
-        Number::Wrong => explain(rt),
-    }
-}
-
-fn with_field(rt: &HostRuntime, ordinal: usize, field: Number) {
-    match field {
-        Number::Is(f) => with_component(rt, ordinal, f, program::number_at(rt, 3)),
-        Number::Wrong => explain(rt),
-    }
-}
-
-fn with_component(rt: &HostRuntime, ordinal: usize, field: usize, component: Number) {
-    match component {
-        Number::Is(c) => part(rt, ordinal, field, c),
-        Number::Wrong => explain(rt),
-    }
-}
-
-// ---- the part
-fn part(rt: &HostRuntime, ordinal: usize, field: usize, component: usize) {
+    let program = Program {
+        rt: &rt,
+        name: "fetch_part",
+        usage: "usage: fetch_part ORDINAL FIELD COMPONENT [FILE] (whole numbers of at most nine digits)\n",
+    };
     // one byte past the limit, so that a longer message gives 10
     let mut message = [0u8; 32769];
-    run(rt, &mut message, ordinal, field, component);
+    let _ = fetch(&program, &mut message);
 }
 
-fn run(rt: &HostRuntime, message: &mut [u8], ordinal: usize, field: usize, component: usize) {
-    match program::read_input(rt, &NAME, &USAGE, 4, message) {
-        Input::Whole(n) => fetch(rt, program::front(message, n), ordinal, field, component),
-        Input::Failed => {}
-    }
-}
-
-fn fetch(rt: &HostRuntime, m: &[u8], ordinal: usize, field: usize, component: usize) {
+fn fetch(program: &Program, message: &mut [u8]) -> Result<(), Told> {
+    let ordinal = program.number_at(1)?;
+    let field = program.number_at(2)?;
+    let component = program.number_at(3)?;
+    let n = program.read_input(4, message)?;
+    let m = front(message, n);
     let answer = oul::locate(m, ordinal, field, component);
     match answer {
-        Fetched::At(_) => program::output(rt, &NAME, oul::bytes_of(m, answer), b"\n"),
-        Fetched::NotFetched(refusal) => {
-            refusals::tell_message(rt, &NAME, m, refusal);
+        Ok(_) => program.output(oul::bytes_of(m, answer), b"\n"),
+        Err(refusal) => {
+            refusals::tell_message(program, m, refusal);
         }
     }
+    Ok(())
 }
