@@ -5,7 +5,7 @@ use mathlib.Core.List.{List, [], ◌∷◌, map}
 use Prim.Native.Nat.{ℕ, suc, ◌+◌, ◌-◌, ◌≤◌, ◌<◌}
 use native.Mathlib.Numerals.{add-one}
 use native.Mathlib.Omega.{arith}
-use lib.ListN.{length, take, drop, length-take}
+use lib.ListN.{length}
 use Rattle.rules.specs.declared.Delims.{Delims}
 use Rattle.rules.specs.declared.Counts.{Counts}
 use Rattle.rules.specs.declared.Kind.{Kind}
@@ -17,7 +17,6 @@ use Rattle.std.specs.declared.result.Result.TheVariants.{Ok, Err}
 use Rattle.std.specs.Result.{IsErrAnd}
 use Rattle.std.proofs.lemmas.Result.{err_from_is_err_and}
 use Rattle.rules.specs.Told.{Told, gives, refused, refusal, number, told, ◌>>◌}
-use Rattle.rules.specs.Lists.{split, all_but_last}
 use Rattle.rules.specs.Shift.{met}
 use Rattle.rules.specs.Frame.{known, segments, segments_ok, name_of, known_from, is}
 use Rattle.rules.specs.Places.{places}
@@ -25,9 +24,6 @@ use Rattle.rules.specs.View.{field_of, part_of, segment_of, Segment, view}
 use Rattle.rules.specs.Check.{Context, fault_told, parts_told, unsaid, context_after, places_told}
 use Rattle.rules.specs.Promises.{Checked}
 use Rattle.rules.proofs.Names.{in_names}
-use Rattle.rules.proofs.Lists.{over, rest-is, rest-further, rest-on, rest_end}
-use Rattle.plain_bytes.specs.Bytes.{until}
-use Rattle.plain_bytes.specs.Bytes as Bytes
 use Rattle.value.proofs.Laws.{number-some}
 use Rattle.fields.specs.declared.FieldFault.{FieldFault}
 use Rattle.fields.specs.Fields.{fault_in, field_in}
@@ -35,7 +31,8 @@ use Rattle.fields.specs.Segment.{as_known, said, FoundIn}
 use Rattle.frame.specs.Frame.{frame_of, Sound}
 use Rattle.frame.specs.declared.Opened.{Opened}
 use Rattle.frame.proofs.Rules.{check-refused, check-given}
-use Rattle.frame.proofs.Laws.{segments-next, there, ends-inside, good-there, named-there}
+use Rattle.frame.specs.Taken.{Taken, Ended}
+use Rattle.frame.proofs.Taken.{taken-length, taken-segments, ended-segments}
 use Rattle.checks.specs.Check.{read_told}
 
 -- ---- what is told of the segments of r, the rest of a message from `at` on
@@ -48,107 +45,92 @@ unfolding segment_of places part_of field_of
 known_is d n at body =
     in_names (λ n. segment_of d (record { name = n; start = at; body = body }) ≡ segment_of d (as_known n body)) refl refl refl refl refl refl refl refl n
 
--- ---- one turn, at a segment of n bytes
-module _ (d : Delims) (x : Context) (i at : ℕ) (r : List ℕ) (n : ℕ) (en : n ≡ length (until (Bytes.is_byte 0x0D) r)) (h : n < length r) where
-  abbrev seg : List ℕ
-  seg = take n r
-
+-- ---- one turn, at a segment s that is taken off r
+module _ (d : Delims) (x : Context) (i at : ℕ) (r s t : List ℕ) (h : Taken r s t) where
   abbrev segment : Segment
-  segment = segment_of d (as_known (name_of seg) (met seg))
+  segment = segment_of d (as_known (name_of s) (met s))
 
-  next : segments r ≡ seg ∷ segments (drop (suc n) r)
-  next = segments-next d.field r n en h
-
-  turn-skip : is (name_of seg) Other ≡ true → told_from d x i at r ≡ told_from d x i (at + suc (length seg)) (drop (suc n) r)
+  turn-skip : is (name_of s) Other ≡ true → told_from d x i at r ≡ told_from d x i (at + suc (length s)) t
   unfolding told_from known_from
-  turn-skip e = ap (λ l. places_told d x i (map (segment_of d) (known_from at l))) next ∙ rw e
+  turn-skip e = ap (λ l. places_told d x i (map (segment_of d) (known_from at l))) (taken-segments r s t h) ∙ rw e
 
-  turn-known : is (name_of seg) Other ≡ false
-      → told_from d x i at r ≡ (parts_told d x i segment segment.parts >> told_from d (context_after d x segment) (suc i) (at + suc (length seg)) (drop (suc n) r))
+  turn-known : is (name_of s) Other ≡ false
+      → told_from d x i at r ≡ (parts_told d x i segment segment.parts >> told_from d (context_after d x segment) (suc i) (at + suc (length s)) t)
   unfolding told_from known_from places_told
   turn-known e =
-      ap (λ l. places_told d x i (map (segment_of d) (known_from at l))) next
-      ∙ rw e (ap (λ k. parts_told d x i k k.parts >> places_told d (context_after d x k) (suc i) (map (segment_of d) (known_from (at + suc (length seg)) (segments (drop (suc n) r))))) (known_is d (name_of seg) at (met seg)))
+      ap (λ l. places_told d x i (map (segment_of d) (known_from at l))) (taken-segments r s t h)
+      ∙ rw e (ap (λ k. parts_told d x i k k.parts >> places_told d (context_after d x k) (suc i) (map (segment_of d) (known_from (at + suc (length s)) (segments t)))) (known_is d (name_of s) at (met s)))
 
   -- what is broken is the answer; where nothing is, the rest is
-  turn-found : {A : Type 0} (f : Result A FieldFault) → is (name_of seg) Other ≡ false → FoundIn (name_of seg) d x (met seg) f
-      → told_from d x i at r ≡ (fault_told i (field_in f) (fault_in f) >> told_from d (context_after d x segment) (suc i) (at + suc (length seg)) (drop (suc n) r))
+  turn-found : {A : Type 0} (f : Result A FieldFault) → is (name_of s) Other ≡ false → FoundIn (name_of s) d x (met s) f
+      → told_from d x i at r ≡ (fault_told i (field_in f) (fault_in f) >> told_from d (context_after d x segment) (suc i) (at + suc (length s)) t)
   turn-found f e w =
-      turn-known e ∙ ap (λ t. t >> told_from d (context_after d x segment) (suc i) (at + suc (length seg)) (drop (suc n) r)) (sym (w.told i))
+      turn-known e ∙ ap (λ k. k >> told_from d (context_after d x segment) (suc i) (at + suc (length s)) t) (sym (w.told i))
 
--- ---- the loop over the segments: what is left to be told when those before `at` are read
-pub record Going (d : Delims) (m order : List ℕ) (i at : ℕ) : Type 0 where
-  pub inside : at ≤ length m
+-- ---- the loop over the segments: what is left to be told when the rest r is still to be read, from `at` on
+pub record Going (d : Delims) (m order : List ℕ) (i : ℕ) (r : List ℕ) : Type 0 where
+  pub at : ℕ
+  pub inside : at + length r ≡ length m
   pub ordinal : i ≤ at + 1
-  pub whole : segments_ok d.field (drop at m) ≡ true
-  pub told : told_from d unsaid 1 0 m ≡ told_from d (said order) i at (drop at m)
+  pub told : told_from d unsaid 1 0 m ≡ told_from d (said order) i at r
 
-pub starts : (d : Delims) (m : List ℕ) → Sound m d → Going d m [] 1 0
-starts d m s = record { inside = omega arith; ordinal = omega arith; whole = s.whole; told = refl }
+pub starts : (d : Delims) (m : List ℕ) → Going d m [] 1 m
+starts d m = record { at = 0; inside = omega arith; ordinal = omega arith; told = refl }
 
 -- what the loop tells is what is told in the end
 read_is : (d : Delims) (m : List ℕ) → Sound m d → told_from d unsaid 1 0 m ≡ read_told d m
 unfolding read_told told_from view known
 read_is d m s = rw s.delims
 
-pub ends : (d : Delims) (m order : List ℕ) (i at : ℕ) → Sound m d → Going d m order i at → length m ≤ at → told (Ok tt) ≡ read_told d m
-ends d m order i at s g h = sym (g.told ∙ none) ∙ read_is d m s
-  where
-    none : told_from d (said order) i at (drop at m) ≡ gives tt
-    none = rw (over m at h) (unfold told_from segments split all_but_last known_from places_told in refl)
-
 -- what is broken ends what is told
 stopped : (k : Kind) (i field : ℕ) (t : Told (Unit {0})) → (fault_told i field (number k) >> t) ≡ refused (number k) i field
 unfolding fault_told
 stopped k i field t = rw (number-some k)
 
-module _ (d : Delims) (m order : List ℕ) (i at n : ℕ) (g : Going d m order i at) (k : at < length m)
-    (en : n ≡ length (until (Bytes.is_byte 0x0D) (take (length m - at) (drop at m)))) (l : n ≤ length (take (length m - at) (drop at m))) where
-  short : n < length (drop at m)
-  short = ends-inside m at n en d.field g.whole k l
+module _ (d : Delims) (m order : List ℕ) (i : ℕ) (r : List ℕ) (g : Going d m order i r) where
+  pub ends : (t : List ℕ) → Sound m d → Ended r t → told (Ok tt) ≡ read_told d m
+  unfolding told_from known_from places_told
+  ends t s h = sym (g.told ∙ ap (λ l. places_told d (said order) i (map (segment_of d) (known_from g.at l))) (ended-segments r h.whole)) ∙ read_is d m s
 
-  pub further : at + (n + 1) ≤ length m
-  further = rest-further m at n short
+  module _ (s t : List ℕ) (h : Taken r s t) where
+    pub ordinal-fits : (n : ℕ) → length m ≤ n → i + 1 ≤ n + 1
+    ordinal-fits n k = omega (arith, g.inside, g.ordinal, taken-length r s t h)
 
-  rest-whole : segments_ok d.field (drop (at + (n + 1)) m) ≡ true
-  rest-whole = (good-there m at n en d.field g.whole k l).1
+    module _ (x : Name) (ex : x ≡ name_of s) (b : Bool) (eb : b ≡ is x Other) where
+      pub skipped : b ≡ true → Going d m order i t
+      skipped e =
+          record {
+            at = g.at + suc (length s);
+            inside = omega (arith, g.inside, taken-length r s t h);
+            ordinal = omega (arith, g.ordinal);
+            told = g.told ∙ turn-skip d (said order) i g.at r s t h (rw (← ex, ← eb) e);
+          }
 
-  module _ (x : Name) (ex : x ≡ name_of (take n (take (length m - at) (drop at m)))) (t : Bool) (et : t ≡ is x Other) where
-    named : name_of (take n (drop at m)) ≡ x
-    named = named-there m at n x ex
+      unfoldable tail : Context → Told (Unit {0})
+      tail y = told_from d y (suc i) (g.at + suc (length s)) t
 
-    pub skipped : t ≡ true → Going d m order i (at + (n + 1))
-    skipped h =
-        record {
-          inside = further;
-          ordinal = omega (arith, g.ordinal);
-          whole = rest-whole;
-          told = g.told ∙ turn-skip d (said order) i at (drop at m) n (there m at n en) short (rw named (sym et ∙ h)) ∙ rw (rest_end m at n short, rest-on m at n);
-        }
+      after : Context
+      after = context_after d (said order) (segment_of d (as_known x (met s)))
 
-    unfoldable tail : Context → Told (Unit {0})
-    tail y = told_from d y (suc i) (at + (n + 1)) (drop (at + (n + 1)) m)
+      module _ {A : Type 0} (hb : b ≡ false) where
+        turned : (f : Result A FieldFault) → FoundIn x d (said order) (met s) f → told_from d unsaid 1 0 m ≡ (fault_told i (field_in f) (fault_in f) >> tail after)
+        unfolding tail after
+        turned f found = g.told ∙ turn-found d (said order) i g.at r s t h f (rw (← ex, ← eb) hb) (rw (← ex) found) ∙ rw (← ex)
 
-    after : Context
-    after = context_after d (said order) (segment_of d (as_known x (met (take n (take (length m - at) (drop at m))))))
+        pub refuses : (e : FieldFault) → Sound m d → FoundIn {A = A} x d (said order) (met s) (Err e)
+            → told {A = Unit {0}} (Err (record { kind = e.kind; segment = i; field = e.field })) ≡ read_told d m
+        refuses e q found = sym (turned (Err e) found ∙ stopped e.kind i e.field (tail after)) ∙ read_is d m q
 
-    module _ {A : Type 0} (ht : t ≡ false) where
-      turned : (f : Result A FieldFault) → FoundIn x d (said order) (met (take n (take (length m - at) (drop at m)))) f
-          → told_from d unsaid 1 0 m ≡ (fault_told i (field_in f) (fault_in f) >> tail after)
-      unfolding tail after
-      turned f found =
-          g.told ∙ turn-found d (said order) i at (drop at m) n (there m at n en) short f (rw named (sym et ∙ ht)) (rw named (rw (rest-is m at) at found))
-          ∙ rw (named, rest_end m at n short, rest-on m at n, rest-is m at)
-
-      pub refuses : (e : FieldFault) → Sound m d → FoundIn {A = A} x d (said order) (met (take n (take (length m - at) (drop at m)))) (Err e)
-          → told {A = Unit {0}} (Err (record { kind = e.kind; segment = i; field = e.field })) ≡ read_told d m
-      refuses e s found = sym (turned (Err e) found ∙ stopped e.kind i e.field (tail after)) ∙ read_is d m s
-
-      pub passes : (a : A) (o : List ℕ) → FoundIn {A = A} x d (said order) (met (take n (take (length m - at) (drop at m)))) (Ok a)
-          → said o ≡ context_after d (said order) (segment_of d (as_known x (met (take n (take (length m - at) (drop at m))))))
-          → Going d m o (i + 1) (at + (n + 1))
-      unfolding tail after fault_told
-      passes a o found e = record { inside = further; ordinal = omega (arith, g.ordinal); whole = rest-whole; told = turned (Ok a) found ∙ rw (← e, add-one i) }
+        pub passes : (a : A) (o : List ℕ) → FoundIn {A = A} x d (said order) (met s) (Ok a)
+            → said o ≡ context_after d (said order) (segment_of d (as_known x (met s))) → Going d m o (i + 1) t
+        unfolding tail after fault_told
+        passes a o found e =
+            record {
+              at = g.at + suc (length s);
+              inside = omega (arith, g.inside, taken-length r s t h);
+              ordinal = omega (arith, g.ordinal);
+              told = turned (Ok a) found ∙ rw (← e, add-one i);
+            }
 
 -- ---- the check
 module _ (m : List ℕ) (r : Result Counts Refusal) where

@@ -7,6 +7,7 @@ ghost use Rattle.rules.specs.Promises.{Checked};
 ghost use Rattle.frame.specs.Frame.{Sound};
 ghost use Rattle.checks.specs.Check.{read_told};
 
+use frame::segments::Segments;
 use rules::{Counts, Delims, Name, Refusal};
 
 pub fn check(m: &[u8]) -> Result<Counts, Refusal>
@@ -24,12 +25,7 @@ fn check_places(m: &[u8], d: Delims) -> Result<(), Refusal>
 {
     let mut order = &m[..0];
     let mut ordinal = 1;
-    let mut at = 0;
-    while at < m.len() {
-        let rest = &m[at..];
-        let n = plain_bytes::before(rest, 0x0D);
-        let s = &rest[..n];
-        at += n + 1;
+    for s in (Segments { rest: m }) {
         let name = names::name_of(s);
         if names::is(name, Name::Other) {
             continue;
