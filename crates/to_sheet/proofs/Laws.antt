@@ -33,7 +33,7 @@ use Rattle.unescape.specs.Unescaped.{fill}
 use Rattle.frame.specs.Frame.{good_of, frame_of, Sound}
 use Rattle.frame.proofs.Rules.{check-refused, sound}
 use Rattle.frame.proofs.Laws.{segment-there, ends-inside, good-there}
-use Rattle.fill.specs.Fill.{lesser, Filled, fill_at, Lined, longest}
+use Rattle.fill.specs.Fill.{Filled, fill_at, Lined, longest}
 use Rattle.sources.specs.Sources.{lines_of_body}
 use Rattle.to_sheet.specs.Sections.{sections}
 use Rattle.fill.proofs.Laws.{fill-nil, lined_then}
@@ -51,7 +51,7 @@ pub record Passing (d : Delims) (m out₀ : List ℕ) (at written : ℕ) (out : 
   pub lined : Lined 0 out₀ done written out
 
 pub begins : (d : Delims) (m out : List ℕ) → Sound m d → Passing d m out 0 0 out
-unfolding ended fill_at lesser fill
+unfolding ended fill_at fill
 begins d m out s = record {
   done = [];
   inside = omega arith;
