@@ -1,5 +1,5 @@
 // A component without its escapes: "the escape byte, one of F S T R E, the escape byte".
-#![tactic(auto, unfolding(rules::specs::Shift::is_one, rules::specs::Shift::mark, crate::specs::Unescaped::named_of))]
+#![tactic(auto, unfolding(scan::specs::Scan::meets_of, crate::specs::Unescaped::turn_of, rules::specs::Shift::is_one, rules::specs::Shift::mark, crate::specs::Unescaped::named_of))]
 
 ghost use Rattle.std.specs.Prelude.{◌≡◌, ◌+◌, ◌<◌};
 ghost use Rattle.rules.specs.Shift.{mark, met};
