@@ -2,14 +2,14 @@
 use mathlib.Core.Path.{◌≡◌, refl, sym, ap, ◌∙◌}
 use mathlib.Core.Bool.{Bool, true, false, not, ◌||◌}
 use mathlib.Core.List.{List, [], ◌∷◌}
-use mathlib.Core.Option.{Option, none, some}
+use mathlib.Core.Option.{Option as Maybe, none, some}
 use Prim.Native.Nat.{ℕ, zero, suc, ◌+◌, ◌-◌, ◌≤◌, ◌<◌}
 use native.Mathlib.Omega.{arith}
 use borrow.Author.Tests.{lt-ltb, le-ltb, ltb-true, ltb-false, eqb-true, eqb-false}
 use lib.Dec.{eqb, ltb}
 use lib.ListN.{length, take, drop, get_elem?, drop_of_length-le}
 use lib.Seq.{length-take-le}
-use Rattle.std.specs.Prelude.{Result, Ok, Err}
+use Rattle.std.specs.Prelude.{Result, Ok, Err, Option, None, Some, MatchOption, IsSome}
 use Rattle.rules.specs.declared.Kind.TheVariants.{NoOrdinal, Room}
 use Rattle.rules.specs.declared.Refusal.{Refusal}
 use Rattle.rules.specs.Told.{Told, gives, refused, refusal}
@@ -35,7 +35,7 @@ use Rattle.csv_rules.specs.Claims.{place_of}
 use Rattle.csv_rules.proofs.Order.{sheet-by-place}
 use Rattle.reach.specs.Reach.{Adds}
 use Rattle.reach.proofs.Laws.{front_cut, front-is}
-use Rattle.csv_runs.specs.Runs.{RunIs}
+use Rattle.csv_runs.specs.Runs.{Broken, RunIs}
 use Rattle.csv_runs.specs.Sheet.{sheet_at, PutIs}
 use Rattle.csv_calls.specs.Calls.{Convertible, copied_told, made_told}
 
@@ -94,25 +94,26 @@ made_as w x y n room A e =
     (λ h. ap (λ (s : List ℕ). made_told s room) (sym (front-is A (omega (arith, ltb-false 65537 (length w) h, e)))))
 
 -- the part of the buffer that is written
-pub part-long : (f : List ℕ) (at : ℕ) (g : Given) (x : List ℕ) (size end : ℕ) (good differs bad : Bool) (y : List ℕ) → PutIs f at g x size end good differs bad y → end ≡ length (take end y)
-part-long f at g x size end good differs bad y P = sym (length-take-le end y P.inside)
+pub part-long : (f : List ℕ) (at : ℕ) (g : Given) (x : List ℕ) (size end : ℕ) (good differs : Bool) (y : List ℕ) → PutIs f at g x size end good differs y → end ≡ length (take end y)
+part-long f at g x size end good differs y P = sym (length-take-le end y P.inside)
 
 -- a run whose rows convert is found to be so
-module _ (f : List ℕ) (at : ℕ) (C : Convertible f at) {size : ℕ} {good differs bad : Bool} (R : RunIs f at size good differs bad) where
-  found-there : bad ≡ false
-  found-there = cases bad (λ e. absurd (omega (arith, ap length (sym (R.broken e).none ∙ C.begins)))) (λ e. e)
+module _ (f : List ℕ) (at : ℕ) (C : Convertible f at) where
+  pub found-some : {A : Type 0} (o : Option A) (P : Type 0) (Q : A → Type 0) → MatchOption o (Broken f at × P) Q → IsSome o
+  found-some None P Q z = absurd (omega (arith, ap length (sym z.0.none ∙ C.begins)))
+  found-some (Some x) P Q z = refl
 
-  found-good : good ≡ true
-  found-good =
-      let F = R.found found-there in
+  found-good : {size : ℕ} {good differs : Bool} → RunIs f at size good differs → good ≡ true
+  found-good R =
+      let F = R.found in
       let e : F.run ∷ F.others ≡ C.run ∷ C.others = sym F.begins ∙ C.begins in
       let u : F.run ≡ C.run = cc in
       F.converts ∙ ap (λ (v : Run). all row_converts (run_lines v)) u ∙ C.good
 
-pub made_told_lem : (f : List ℕ) (at : ℕ) → Convertible f at → (g : Given) (x : List ℕ) (size end : ℕ) (good differs bad : Bool) (y : List ℕ) → PutIs f at g x size end good differs bad y
+pub made_told_lem : (f : List ℕ) (at : ℕ) → Convertible f at → (g : Given) (x : List ℕ) (size end : ℕ) (good differs : Bool) (y : List ℕ) → PutIs f at g x size end good differs y
     → length x ≡ 65537 → (old after : List ℕ) (r : Result ℕ NotMade) → SheetCall (made_told (take end y) (length old)) old r after → SheetCall (made_told (sheet_at f at g) (length old)) old r after
-made_told_lem f at C g x size end good differs bad y P e old after r c =
-    told-as (made_as (sheet_at f at g) x y end (length old) (P.sheet (found-there f at C P.run) (found-good f at C P.run)) e) c
+made_told_lem f at C g x size end good differs y P e old after r c =
+    told-as (made_as (sheet_at f at g) x y end (length old) (P.sheet (found-good f at C P.run)) e) c
 
 -- a sheet that ends before the buffer does is whole
 small-told : (w x y old after : List ℕ) (n : ℕ) (r : Result ℕ NotMade) → Adds 0 x w n y → n < length y → SheetCall (made_told (take n y) (length old)) old r after → SheetCall (made_told w (length old)) old r after
@@ -130,14 +131,18 @@ module _ (f : List ℕ) (at : ℕ) where
   unfolding place_after behind_run
   behind-none h = rw (none-there h).0
 
-  module _ {size : ℕ} {good differs bad : Bool} (R : RunIs f at size good differs bad) where
-    pub behind-broken : bad ≡ true → length f ≡ place_after f at
-    unfolding place_after behind_run
-    behind-broken h = rw (R.broken h).none
+  pub behind-broken : Broken f at → length f ≡ place_after f at
+  unfolding place_after behind_run
+  behind-broken B = rw B.none
 
-    pub behind-run : bad ≡ false → at + size ≡ place_after f at
-    unfolding place_after behind_run
-    behind-run b = let F = R.found b in sym (ap (behind_run (length f) at) F.begins ∙ ap (λ (n : ℕ). at + n) (sym F.bytes))
+  pub behind-run : {size : ℕ} {good differs : Bool} → RunIs f at size good differs → at + size ≡ place_after f at
+  unfolding place_after behind_run
+  behind-run R = let F = R.found in sym (ap (behind_run (length f) at) F.begins ∙ ap (λ (n : ℕ). at + n) (sym F.bytes))
+
+  pub convertible : {size : ℕ} {good differs : Bool} → RunIs f at size good differs → not good ≡ false → Convertible f at
+  convertible {good = good} R h =
+      let F = R.found in
+      record { run = F.run; others = F.others; begins = F.begins; good = sym F.converts ∙ not-false good h }
 
 -- ---- what begins at a place
 module _ (f : List ℕ) (at : ℕ) (g : Given) (x : List ℕ) where
@@ -168,43 +173,35 @@ module _ (f : List ℕ) (at : ℕ) (g : Given) (x : List ℕ) where
         place = behind-none f at h;
       }
 
-  module _ {size : ℕ} {good differs bad : Bool} (R : RunIs f at size good differs bad) where
-    pub next-broken : bad ≡ true → NextCall (csv_next f at g (length x)) (place_after f at) x (record { made = Err (Faulty Quoting); place = length f }) x
-    unfolding csv_next first_told
-    next-broken h =
-        let B = R.broken h in
-        record { call = rw (B.none, B.broken) (faulty x Quoting); place = behind-broken f at R h }
+  pub next-broken : Broken f at → NextCall (csv_next f at g (length x)) (place_after f at) x (record { made = Err (Faulty Quoting); place = length f }) x
+  unfolding csv_next first_told
+  next-broken B = record { call = rw (B.none, B.broken) (faulty x Quoting); place = behind-broken f at B }
 
-    module _ (b : bad ≡ false) where
-      pub next-52 : not good ≡ true → NextCall (csv_next f at g (length x)) (place_after f at) x (record { made = Err (Faulty Unconverted); place = at + size }) x
-      next-52 h =
-          let F = R.found b in
-          record { call = told-as (found-52 F.run F.others F.begins (sym F.converts ∙ not-true good h)) (faulty x Unconverted); place = behind-run f at R b }
+  module _ {size : ℕ} {good differs : Bool} (R : RunIs f at size good differs) where
+    pub next-52 : not good ≡ true → NextCall (csv_next f at g (length x)) (place_after f at) x (record { made = Err (Faulty Unconverted); place = at + size }) x
+    next-52 h =
+        let F = R.found in
+        record { call = told-as (found-52 F.run F.others F.begins (sym F.converts ∙ not-true good h)) (faulty x Unconverted); place = behind-run f at R }
 
-      module _ (h : not good ≡ false) where
-        pub next-53 : differs ≡ true → NextCall (csv_next f at g (length x)) (place_after f at) x (record { made = Err (Faulty HeaderDiffers); place = at + size }) x
-        next-53 d =
-            let F = R.found b in
-            let k = not-false good h in
-            record { call = told-as (found-53 F.run F.others F.begins (sym F.converts ∙ k) (sym (F.header k) ∙ d)) (faulty x HeaderDiffers); place = behind-run f at R b }
+    module _ (h : not good ≡ false) where
+      pub next-53 : differs ≡ true → NextCall (csv_next f at g (length x)) (place_after f at) x (record { made = Err (Faulty HeaderDiffers); place = at + size }) x
+      next-53 d =
+          let F = R.found in
+          let k = not-false good h in
+          record { call = told-as (found-53 F.run F.others F.begins (sym F.converts ∙ k) (sym (F.header k) ∙ d)) (faulty x HeaderDiffers); place = behind-run f at R }
 
-        pub convertible : Convertible f at
-        convertible =
-            let F = R.found b in
-            record { run = F.run; others = F.others; begins = F.begins; good = sym F.converts ∙ not-false good h }
+      pub next-made : differs ≡ false → (r : Result ℕ NotMade) (y : List ℕ) → SheetCall (made_told (sheet_at f at g) (length x)) x r y
+          → NextCall (csv_next f at g (length x)) (place_after f at) x (record { made = r; place = at + size }) y
+      next-made d r y c =
+          let F = R.found in
+          let k = not-false good h in
+          record { call = told-as (found-made F.run F.others F.begins (sym F.converts ∙ k) (sym (F.header k) ∙ d)) c; place = behind-run f at R }
 
-        pub next-made : differs ≡ false → (r : Result ℕ NotMade) (y : List ℕ) → SheetCall (made_told (sheet_at f at g) (length x)) x r y
-            → NextCall (csv_next f at g (length x)) (place_after f at) x (record { made = r; place = at + size }) y
-        next-made d r y c =
-            let F = R.found b in
-            let k = not-false good h in
-            record { call = told-as (found-made F.run F.others F.begins (sym F.converts ∙ k) (sym (F.header k) ∙ d)) c; place = behind-run f at R b }
-
-  pub next_small : (w y : List ℕ) (size end : ℕ) (good differs bad : Bool) → PutIs f at g w size end good differs bad y → bad ≡ false → not good ≡ false → differs ≡ false
+  pub next_small : (w y : List ℕ) (size end : ℕ) (good differs : Bool) → PutIs f at g w size end good differs y → not good ≡ false → differs ≡ false
       → end < length y → (r : Result ℕ NotMade) (z : List ℕ) → SheetCall (made_told (take end y) (length x)) x r z
       → NextCall (csv_next f at g (length x)) (place_after f at) x (record { made = r; place = at + size }) z
-  next_small w y size end good differs bad P b h d l r z c =
-      next-made P.run b h d r z (small-told (sheet_at f at g) w y x z end r (P.sheet b (not-false good h)) l c)
+  next_small w y size end good differs P h d l r z c =
+      next-made P.run h d r z (small-told (sheet_at f at g) w y x z end r (P.sheet (not-false good h)) l c)
 
 -- ---- the place behind some sheets
 placed : (f : List ℕ) (at m : ℕ) → 0 < m → place_of f at m ≡ place_of f (place_after f at) (m - 1)
@@ -254,9 +251,9 @@ counts-runs f c us h k = let e : gives (record { count = length us; first = firs
 
 ordinal-none : (us : List Run) (n : ℕ) → length us ≤ n → ordinal us (suc n) ≡ refused 30 0 0
 unfolding ordinal
-ordinal-none us n h = ap (λ (o : Option Run). found o) (no_such us n h)
+ordinal-none us n h = ap (λ (o : Maybe Run). found o) (no_such us n h)
   where
-    found : Option Run → Told Run
+    found : Maybe Run → Told Run
     found none = refused 30 0 0
     found (some u) = gives u
 

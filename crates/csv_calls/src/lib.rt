@@ -72,7 +72,14 @@ fn handed(sheet: &[u8], out: &mut [u8]) -> Result<usize, NotMade>
 }
 
 // A sheet that the small buffer can't hold, made once more in one that can: its rows convert.
-fn large(file: &[u8], at: usize, mode: &[u8], sent: &[u8], control: &[u8], out: &mut [u8]) -> Result<usize, NotMade>
+fn large(
+    file: &[u8],
+    at: usize,
+    mode: &[u8],
+    sent: &[u8],
+    control: &[u8],
+    out: &mut [u8],
+) -> Result<usize, NotMade>
     requires { (at < length file.now) × Convertible file.now at }
     ensures { SheetCall (made_told (sheet_at file.now at (record { mode = mode.now; sent = sent.now; control = control.now })) (length out.old)) out.old result out.new }
 {
@@ -92,9 +99,8 @@ fn made_in(
     requires { (length sheet.old ≡ 65537) × (at < length file.now) × Convertible file.now at }
     ensures { SheetCall (made_told (sheet_at file.now at (record { mode = mode.now; sent = sent.now; control = control.now })) (length out.old)) out.old result out.new }
 {
-    let put = csv_runs::put_sheet(sheet, file, at, mode, sent, control);
-    let end = put.end;
-    handed(&sheet[..end], out)
+    let put = csv_runs::put_sheet(sheet, file, at, mode, sent, control).unwrap();
+    handed(&sheet[..put.end], out)
 }
 
 // The sheet that begins at a place, and the place behind its rows: 50, 30; 52 and 53 of its rows; its own 40 to 43; 45. It is made in a buffer of
@@ -131,14 +137,13 @@ fn next_in(
     requires { at < length file.now }
     ensures { NextSheetWritten file.now at (record { mode = mode.now; sent = sent.now; control = control.now }) out.old result out.new }
 {
-    let put = csv_runs::put_sheet(sheet, file, at, mode, sent, control);
-    let run = put.run;
-    if run.bad {
+    let Some(put) = csv_runs::put_sheet(sheet, file, at, mode, sent, control) else {
         return Next {
             made: Err(NotMade::Faulty(FileFault::Quoting)),
             place: file.len(),
         };
-    }
+    };
+    let run = put.run;
     let place = at + run.size;
     if !run.good {
         return Next {
@@ -168,11 +173,10 @@ fn place_after(file: &[u8], at: usize) -> usize
     if file.len() <= at {
         return file.len();
     }
-    let run = csv_runs::run(file, at);
-    if run.bad {
-        return file.len();
+    match csv_runs::run(file, at) {
+        Some(run) => at + run.size,
+        None => file.len(),
     }
-    at + run.size
 }
 
 // The place behind n sheets.

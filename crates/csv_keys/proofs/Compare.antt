@@ -1,70 +1,43 @@
 -- The laws of a walk over two keys. Assumes nothing.
 use mathlib.Core.Path.{◌≡◌, refl, sym, ap, ◌∙◌}
-use mathlib.Core.Bool.{true, false, ◌&&◌}
+use mathlib.Core.Bool.{Bool, true, false, not}
 use mathlib.Core.List.{List, [], ◌∷◌}
-use Prim.Native.Nat.{ℕ, ◌+◌, ◌-◌, ◌≤◌, ◌<◌}
+use Prim.Native.Nat.{ℕ, ◌-◌, ◌≤◌, ◌<◌}
 use native.Mathlib.Omega.{arith}
-use borrow.Author.Tests.{eq-eqb, ne_eqb, ltb-true, ltb-false, le-leb, lt-leb}
-use lib.Dec.{leb, ltb}
-use lib.ListN.{length, get_or, take, drop}
-use lib.Seq.{length-take-le, get_or-take}
+use borrow.Author.Tests.{eq-eqb, ne_eqb, not-true, not-false}
+use lib.ListN.{length, get_or, take, drop, length-drop}
+use Rattle.std.specs.Prelude.{is_some, MatchOption}
+use Rattle.std.specs.declared.option.Option.{Option}
+use Rattle.std.specs.declared.option.Option.TheVariants.{None, Some}
 use Rattle.rules.specs.Lists.{empty, same}
-use Rattle.rules.proofs.Logic.{cases, never, both}
-use Rattle.rules.proofs.Lists.{here, over}
+use Rattle.rules.proofs.Logic.{never}
+use Rattle.rules.proofs.Lists.{rest-is}
 use Rattle.csv_rules.specs.Written.{halved}
-use Rattle.csv_keys.specs.Keys.{raw_of}
-use Rattle.csv_keys.specs.Ways.{NextOrBlank, KeyFits, left_of, StepIs}
-use Rattle.csv_keys.proofs.Items.{item-length, part-is}
+use Rattle.csv_keys.specs.declared.First.{First}
+use Rattle.csv_keys.specs.Keys.{raw_value}
+use Rattle.csv_keys.specs.Ways.{NextOrBlank, FirstIs}
 
-module _ (f lead : List ℕ) (n start len : ℕ) where
-  pub left-starts : left_of f lead n start len 0 ≡ raw_of f lead n start len
-  unfolding left_of raw_of
-  left-starts = let e : 0 - n ≡ 0 = omega arith in rw e
+-- ---- a key's first byte
+pub first-lead : (lead raw : List ℕ) → 0 < length lead → FirstIs lead raw (get_or lead 0 0) (take (length lead - 1) (drop 1 lead)) raw
+unfolding raw_value
+first-lead [] raw h = absurd (omega arith)
+first-lead (b ∷ s) raw h =
+    let e = rest-is (b ∷ s) 1 in
+    record { is = rw e; less = omega (arith, ap (length {A = ℕ}) e) }
 
-  module _ (fits : KeyFits f lead n start len) where
-    lead-length : length (take n lead) ≡ n
-    lead-length = length-take-le n lead (omega (arith, fits.length-is, fits.few))
+pub first-raw : (lead raw : List ℕ) (r : ℕ) → length lead ≤ 0 → 0 < length raw → NextOrBlank raw 0 r
+    → FirstIs lead raw (get_or raw 0 0) lead (take (length raw - r) (drop r raw))
+unfolding raw_value
+first-raw [] raw r n h p =
+    let e = rest-is raw r in
+    record { is = rw e p.is; less = omega (arith, ap (length {A = ℕ}) e, length-drop r raw, p.low) }
+first-raw (b ∷ s) raw r n h p = absurd (omega arith)
 
-    module _ (p : ℕ) where
-      left-lead : p < n → left_of f lead n start len p ≡ get_or lead p 0 ∷ left_of f lead n start len (p + 1)
-      unfolding left_of
-      left-lead h =
-          let a : p - n ≡ 0 = omega arith in
-          let b : p + 1 - n ≡ 0 = omega arith in
-          rw (a, b, here 0 (take n lead) p (omega (arith, lead-length)), get_or-take n lead p 0 h)
-
-      left-item : n ≤ p → left_of f lead n start len p ≡ halved false (drop (p - n) (take len (drop start f)))
-      unfolding left_of
-      left-item h = rw (over (take n lead) p (omega (arith, lead-length)))
-
-      pub left_over : n + len ≤ p → left_of f lead n start len p ≡ []
-      unfolding halved
-      left_over h =
-          left-item (omega arith)
-          ∙ ap (halved false) (over (take len (drop start f)) (p - n) (omega (arith, item-length f start len fits.inside)))
-
-      pub left-some : p < n + len → empty (left_of f lead n start len p) ≡ false
-      unfolding empty halved
-      left-some h =
-          cases (ltb p n) (λ t. ap empty (left-lead (ltb-true p n t)))
-          (λ t.
-          let l = ltb-false p n t in
-          ap empty (left-item l ∙ ap (halved false) (here 0 (take len (drop start f)) (p - n) (omega (arith, item-length f start len fits.inside)))))
-
-    module _ (p : ℕ) where
-      pub step-lead : p < n → StepIs f lead n start len p (get_or lead p 0) (p + 1)
-      step-lead h = record { low = omega arith; high = omega arith; is = left-lead p h }
-
-      pub step-item : (r : ℕ) → n ≤ p → NextOrBlank (take (start + len - start) (drop start f)) (p - n) r
-          → StepIs f lead n start len p (get_or (take (start + len - start) (drop start f)) (p - n) 0) (n + r)
-      step-item r h x =
-          let y : NextOrBlank (take len (drop start f)) (p - n) r = rw (part-is f start len) at x in
-          let a : n + r - n ≡ r = omega arith in
-          record {
-            low = omega (arith, y.low);
-            high = omega (arith, y.high, item-length f start len fits.inside);
-            is = rw (part-is f start len) (left-item p h ∙ y.is ∙ ap (λ (w : List ℕ). get_or (take len (drop start f)) (p - n) 0 ∷ w) (sym (left-item (n + r) (omega arith) ∙ ap (λ (m : ℕ). halved false (drop m (take len (drop start f)))) a)));
-          }
+pub first-none : (lead raw : List ℕ) → length lead ≤ 0 → length raw ≡ 0 → raw_value lead raw ≡ []
+unfolding raw_value halved
+first-none [] [] n h = refl
+first-none [] (b ∷ s) n h = absurd (omega arith)
+first-none (b ∷ s) raw n h = absurd (omega arith)
 
 -- two texts of which one is empty
 same_more : (s : List ℕ) → empty s ≡ false → same s [] ≡ false
@@ -89,36 +62,20 @@ same_none : same [] [] ≡ true
 unfolding same
 same_none = refl
 
--- the test of the walk
-pub first-in : (i m j n : ℕ) → (ltb i m && ltb j n) ≡ true → i < m
-first-in i m j n h = ltb-true i m (both (ltb i m) (ltb j n) h).0
+-- the walk: the first bytes of what is left of both
+module _ (a b x y : List ℕ) (inv : same a b ≡ same x y) where
+  pub keys-less : (p : ℕ) (s : List ℕ) → x ≡ p ∷ s → y ≡ [] → false ≡ same a b
+  unfolding empty
+  keys-less p s e g = sym (inv ∙ rw (e, g) (same_more (p ∷ s) refl))
 
-pub second-in : (i m j n : ℕ) → (ltb i m && ltb j n) ≡ true → j < n
-second-in i m j n h = ltb-true j n (both (ltb i m) (ltb j n) h).1
+  module _ (p q : ℕ) (s t : List ℕ) (e : x ≡ p ∷ s) (g : y ≡ q ∷ t) where
+    pub keys-differ : (p ≡ q → ⊥) → false ≡ same a b
+    keys-differ n = sym (inv ∙ rw (e, g) (same-other p q s t n))
 
-pub keys-start : (f la : List ℕ) (na sa ma : ℕ) (lb : List ℕ) (nb sb mb : ℕ)
-    → same (raw_of f la na sa ma) (raw_of f lb nb sb mb) ≡ same (left_of f la na sa ma 0) (left_of f lb nb sb mb 0)
-keys-start f la na sa ma lb nb sb mb = rw (left-starts f la na sa ma, left-starts f lb nb sb mb)
+    pub keys_on : p ≡ q → same a b ≡ same s t
+    keys_on n = inv ∙ rw (e, g) (same_byte p q s t n)
 
-module _ (f la : List ℕ) (na sa ma : ℕ) (lb : List ℕ) (nb sb mb : ℕ) (a : KeyFits f la na sa ma) (b : KeyFits f lb nb sb mb) (i j : ℕ)
-    (inv : same (raw_of f la na sa ma) (raw_of f lb nb sb mb) ≡ same (left_of f la na sa ma i) (left_of f lb nb sb mb j)) where
-  module _ (x k y l : ℕ) (p : StepIs f la na sa ma i x k) (q : StepIs f lb nb sb mb j y l) where
-    pub keys-differ : (x ≡ y → ⊥) → false ≡ same (raw_of f la na sa ma) (raw_of f lb nb sb mb)
-    keys-differ e = sym (inv ∙ rw (p.is, q.is) (same-other x y (left_of f la na sa ma k) (left_of f lb nb sb mb l) e))
-
-    pub keys_on : x ≡ y → same (raw_of f la na sa ma) (raw_of f lb nb sb mb) ≡ same (left_of f la na sa ma k) (left_of f lb nb sb mb l)
-    keys_on e = inv ∙ rw (p.is, q.is) (same_byte x y (left_of f la na sa ma k) (left_of f lb nb sb mb l) e)
-
-  pub keys-end : (ltb i (na + ma) && ltb j (nb + mb)) ≡ false → (leb (na + ma) i && leb (nb + mb) j) ≡ same (raw_of f la na sa ma) (raw_of f lb nb sb mb)
-  keys-end e =
-      cases (ltb i (na + ma))
-      (λ t.
-      let u : ltb j (nb + mb) ≡ false = rw t at e in
-      rw (inv, lt-leb (na + ma) i (ltb-true i (na + ma) t), left_over f lb nb sb mb b j (ltb-false j (nb + mb) u))
-      (sym (same_more (left_of f la na sa ma i) (left-some f la na sa ma a i (ltb-true i (na + ma) t)))))
-      (λ t.
-      let o = ltb-false i (na + ma) t in
-      rw (inv, le-leb (na + ma) i o, left_over f la na sa ma a i o)
-      (cases (ltb j (nb + mb))
-      (λ u. rw (lt-leb (nb + mb) j (ltb-true j (nb + mb) u)) (sym (same-less (left_of f lb nb sb mb j) (left-some f lb nb sb mb b j (ltb-true j (nb + mb) u)))))
-      (λ u. let v = ltb-false j (nb + mb) u in rw (le-leb (nb + mb) j v, left_over f lb nb sb mb b j v) (sym same_none))))
+  pub keys-end : (o : Option First) (ly ry : List ℕ) (t : Bool) → y ≡ raw_value ly ry → x ≡ [] → MatchOption o (y ≡ []) (λ r. FirstIs ly ry r.byte r.rest.lead.now r.rest.raw.now) → is_some o ≡ not t → t ≡ same a b
+  unfolding empty
+  keys-end None ly ry t n e m h = not-false t (sym h) ∙ sym (inv ∙ rw (e, m) same_none)
+  keys-end (Some r) ly ry t n e m h = not-true t (sym h) ∙ sym (inv ∙ rw (e, n ∙ m.is) (same-less (r.byte ∷ raw_value r.rest.lead.now r.rest.raw.now) refl))

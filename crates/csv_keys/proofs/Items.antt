@@ -1,24 +1,23 @@
 -- The laws of an item as it lies in the file: a walk over it, its first blank, order numbers. Assumes nothing.
 use mathlib.Core.Path.{◌≡◌, refl, sym, ap, ◌∙◌}
-use mathlib.Core.Bool.{Bool, true, false, cond, not, ◌&&◌, ◌||◌}
-use mathlib.Core.List.{List, [], ◌∷◌, ◌++◌}
+use mathlib.Core.Bool.{Bool, true, false, cond, not, ◌||◌}
+use mathlib.Core.List.{List, [], ◌∷◌, ◌++◌, append-nil}
 use Prim.Native.Nat.{ℕ, zero, suc, ◌+◌, ◌-◌, ◌≤◌, ◌<◌}
 use native.Mathlib.Omega.{arith}
 use borrow.Author.Tests.{eq-eqb, ne_eqb, eqb-true, lt-leb, le-leb, eqb-false, ltb-true, ltb-false, not-true, not-false}
 use lib.Dec.{eqb, leb, ltb}
-use lib.ListN.{length, get_or, take, drop, replicate, length-drop, length-take}
-use lib.Seq.{take-nil, drop-nil, take-take, drop-drop, length-take-le}
+use lib.ListN.{length, get_or, take, drop, replicate}
+use lib.Seq.{drop-nil}
 use Rattle.rules.specs.Lists.{filled, all, onto}
 use Rattle.rules.specs.Shift.{within}
 use Rattle.rules.specs.Frame.{digit}
-use Rattle.rules.specs.Value.{digits_ok}
 use Rattle.rules.proofs.Logic.{cases, never, either, neither, and-false}
-use Rattle.rules.proofs.Lists.{here, over, all_first, all_cons, empty-zero, filled-some}
+use Rattle.rules.proofs.Lists.{here, over, rest-is, all_first, all_cons, empty-zero, filled-some}
 use Rattle.rules.proofs.Split.{split-nil, split-here, split-there, split-cons}
 use Rattle.csv_rules.specs.Written.{halved}
 use Rattle.csv_rules.specs.Columns.{family_of, given_of, fifteen_of}
-use Rattle.csv_keys.specs.Keys.{raw_of, KeyIs}
-use Rattle.csv_keys.specs.Ways.{item_in, blank_at, AsIs, NextOrBlank}
+use Rattle.csv_keys.specs.Keys.{raw_value, KeyIs}
+use Rattle.csv_keys.specs.Ways.{blank_at, NextOrBlank}
 
 -- ---- a byte
 half-here : (b : ℕ) (s : List ℕ) → eqb b 0x22 ≡ false → halved false (b ∷ s) ≡ b ∷ halved false s
@@ -173,58 +172,36 @@ given_is false (b ∷ s) =
     (λ e. rw (e, blank_at, given-there b (halved (eqb b 0x22) s) e) (given_is (eqb b 0x22) s))
 given_is true (b ∷ s) = given_is false s
 
-drop-take : (a n : ℕ) (s : List ℕ) → drop a (take n s) ≡ take (n - a) (drop a s)
-drop-take zero n s = let e : n - 0 ≡ n = omega arith in rw e
-drop-take (suc a) zero s = sym (ap (λ (k : ℕ). take k (drop (suc a) s)) (let e : 0 - suc a ≡ 0 = omega arith in e))
-drop-take (suc a) (suc n) [] = sym (take-nil (suc n - suc a))
-drop-take (suc a) (suc n) (b ∷ s) = let e : suc n - suc a ≡ n - a = omega arith in rw e (drop-take a n s)
-
 -- ---- keys
--- an item as it lies in the file
-pub as-is-key : (f v lead : List ℕ) (from size n start len : ℕ) → from + size ≤ length f → item_in f from size ≡ v → AsIs from size lead n start len
-    → KeyIs f v lead n start len
-unfolding raw_of all
-as-is-key f v lead from size n start len h e a =
-    record {
-      is = rw (a.none, a.from_is, a.size_is) e;
-      plain = rw a.none;
-      size = a.length-is;
-      few = omega (arith, a.none);
-      inside = omega (arith, a.from_is, a.size_is);
-    }
+pub as-is-key : (raw : List ℕ) → KeyIs (halved false raw) [] raw
+unfolding raw_value all
+as-is-key raw = record { is = refl; plain = refl }
 
--- the part of the file that the code takes
-pub part-is : (f : List ℕ) (start len : ℕ) → take (start + len - start) (drop start f) ≡ take len (drop start f)
-part-is f start len = let e : start + len - start ≡ len = omega arith in rw e
+pub word-key : (w : List ℕ) → all (λ (b : ℕ). within 0x20 0x7E b) w ≡ true → KeyIs w w []
+unfolding raw_value halved
+word-key w h = record { is = append-nil w; plain = h }
 
-module _ (f lead : List ℕ) (start len at n s l : ℕ) (h : start + len ≤ length f) (e : at ≡ blank_at false (take (start + len - start) (drop start f))) where
-  at-is : at ≡ blank_at false (take len (drop start f))
-  at-is = e ∙ ap (blank_at false) (part-is f start len)
+module _ (raw lead r : List ℕ) (at : ℕ) (e : at ≡ blank_at false raw) where
+  pub family-key : KeyIs (halved false (take at raw)) lead r → KeyIs (family_of (halved false raw)) lead r
+  family-key k =
+      let z : halved false (take at raw) ≡ family_of (halved false raw) = ap (λ (m : ℕ). halved false (take m raw)) e ∙ family-is false raw in
+      rw z at k
 
-  pub family-key : at ≤ length (take (start + len - start) (drop start f)) → AsIs start at lead n s l → KeyIs f (family_of (item_in f start len)) lead n s l
-  family-key w a =
-      let k : at ≤ len = omega (arith, length-take (start + len - start) (drop start f)) in
-      as-is-key f (family_of (item_in f start len)) lead start at n s l (omega arith)
-      (ap (halved false) (sym (take-take at len (drop start f) k)) ∙ ap (λ (m : ℕ). halved false (take m (take len (drop start f)))) at-is
-      ∙ family-is false (take len (drop start f)))
-      a
+  given-at : (behind : ℕ) → behind ≡ at + 1 → halved false (drop behind raw) ≡ given_of (halved false raw)
+  given-at behind b =
+      let g : behind ≡ suc (blank_at false raw) = omega arith in
+      ap (λ (m : ℕ). halved false (drop m raw)) g ∙ given_is false raw
 
-  given-at : halved false (drop (suc at) (take len (drop start f))) ≡ given_of (item_in f start len)
-  given-at = ap (λ (m : ℕ). halved false (drop (suc m) (take len (drop start f)))) at-is ∙ given_is false (take len (drop start f))
+  pub given-none : length raw ≤ at → KeyIs (halved false []) lead r → KeyIs (given_of (halved false raw)) lead r
+  given-none w k =
+      let o : drop (at + 1) raw ≡ [] = over raw (at + 1) (omega arith) in
+      let z : halved false [] ≡ given_of (halved false raw) = ap (halved false) (sym o) ∙ given-at (at + 1) refl in
+      rw z at k
 
-  pub given-none : len ≤ at → AsIs (start + len) 0 lead n s l → KeyIs f (given_of (item_in f start len)) lead n s l
-  unfolding halved
-  given-none w a =
-      let o : drop (suc at) (take len (drop start f)) ≡ [] = over (take len (drop start f)) (suc at) (omega (arith, length-take len (drop start f))) in
-      as-is-key f (given_of (item_in f start len)) lead (start + len) 0 n s l (omega arith) (sym (ap (halved false) o) ∙ given-at) a
-
-  pub given-key : (behind : ℕ) → at < len → behind ≡ at + 1 → AsIs (start + behind) (len - behind) lead n s l → KeyIs f (given_of (item_in f start len)) lead n s l
-  given-key behind w b a =
-      let g : suc at ≡ behind = omega arith in
-      as-is-key f (given_of (item_in f start len)) lead (start + behind) (len - behind) n s l (omega arith)
-      (ap (halved false) (ap (take (len - behind)) (sym (drop-drop behind start f)) ∙ sym (drop-take behind len (drop start f)))
-      ∙ ap (λ (m : ℕ). halved false (drop m (take len (drop start f)))) (sym g) ∙ given-at)
-      a
+  pub given-key : (behind : ℕ) → behind ≡ at + 1 → KeyIs (halved false (take (length raw - behind) (drop behind raw))) lead r → KeyIs (given_of (halved false raw)) lead r
+  given-key behind b k =
+      let z : halved false (take (length raw - behind) (drop behind raw)) ≡ given_of (halved false raw) = ap (halved false) (rest-is raw behind) ∙ given-at behind b in
+      rw z at k
 
 -- ---- fifteen digits
 not-fifteen : (v : List ℕ) → all digit v ≡ false → fifteen_of v ≡ v
@@ -265,35 +242,20 @@ unfolding all
 zeros-plain zero = refl
 zeros-plain (suc n) = zeros-plain n
 
-module _ (f : List ℕ) (start len : ℕ) (h : start + len ≤ length f) where
-  pub item-length : length (take len (drop start f)) ≡ len
-  item-length = length-take-le len (drop start f) (omega (arith, length-drop start f))
+module _ (raw : List ℕ) where
+  pub fifteen-stays : (lead r : List ℕ) → (eqb (length raw) 0 || ltb 15 (length raw)) ≡ true → KeyIs (halved false raw) lead r → KeyIs (fifteen_of (halved false raw)) lead r
+  fifteen-stays lead r e k = rw (fifteen-outside raw e) k
 
-  pub fifteen-stays : (lead : List ℕ) (n s l : ℕ) → (eqb len 0 || ltb 15 len) ≡ true → AsIs start len lead n s l → KeyIs f (fifteen_of (item_in f start len)) lead n s l
-  fifteen-stays lead n s l e a =
-      as-is-key f (fifteen_of (item_in f start len)) lead start len n s l h (sym (fifteen-outside (take len (drop start f)) (rw item-length e))) a
+  module _ (t : Bool) (q : t ≡ all digit raw) where
+    pub fifteen-other : (lead r : List ℕ) → not t ≡ true → KeyIs (halved false raw) lead r → KeyIs (fifteen_of (halved false raw)) lead r
+    fifteen-other lead r e k = rw (fifteen-not raw (sym q ∙ not-true t e)) k
 
-  module _ (t : Bool) (q : t ≡ digits_ok len (take (start + len - start) (drop start f))) where
-    digits_are : t ≡ all digit (take len (drop start f))
-    digits_are =
-        let r = take len (drop start f) in
-        q ∙ ap (digits_ok len) (part-is f start len) ∙ ap (λ (x : Bool). x && all digit r) (eq-eqb (length r) len item-length)
-
-    pub fifteen-other : (lead : List ℕ) (n s l : ℕ) → not t ≡ true → AsIs start len lead n s l → KeyIs f (fifteen_of (item_in f start len)) lead n s l
-    fifteen-other lead n s l e a =
-        as-is-key f (fifteen_of (item_in f start len)) lead start len n s l h (sym (fifteen-not (take len (drop start f)) (sym digits_are ∙ not-true t e))) a
-
-    pub fifteen-key : (eqb len 0 || ltb 15 len) ≡ false → not t ≡ false → KeyIs f (fifteen_of (item_in f start len)) (replicate 15 48) (15 - len) start len
-    unfolding raw_of
+    pub fifteen-key : (eqb (length raw) 0 || ltb 15 (length raw)) ≡ false → not t ≡ false
+        → KeyIs (fifteen_of (halved false raw)) (take (15 - length raw) (replicate 15 48)) raw
+    unfolding raw_value
     fifteen-key e g =
-        let r = take len (drop start f) in
-        let z = take-replicate (15 - len) 15 48 (omega arith) in
+        let z = take-replicate (15 - length raw) 15 48 (omega arith) in
         record {
-          is =
-              ap (λ (x : List ℕ). x ++ halved false r) (z ∙ ap (λ (m : ℕ). replicate (15 - m) 48) (sym item-length))
-              ∙ sym (fifteen-pads r (sym digits_are ∙ not-false t g) (rw item-length e));
-          plain = rw z (zeros-plain (15 - len));
-          size = refl;
-          few = omega arith;
-          inside = h;
+          is = ap (λ (x : List ℕ). x ++ halved false raw) z ∙ sym (fifteen-pads raw (sym q ∙ not-false t g) e);
+          plain = rw z (zeros-plain (15 - length raw));
         }

@@ -2,9 +2,7 @@
 use mathlib.Core.Path.{◌≡◌, refl, sym, ap, ◌∙◌}
 use mathlib.Core.Bool.{Bool, true, false, ◌&&◌}
 use mathlib.Core.List.{List}
-use Prim.Native.Nat.{ℕ, zero, suc, ◌+◌, ◌-◌, ◌*◌, ◌≤◌, ◌<◌}
-use native.Mathlib.Omega.{arith}
-use lib.ListN.{length, get_or}
+use Prim.Native.Nat.{ℕ, ◌-◌}
 use Rattle.rules.specs.declared.Name.TheVariants.{Pid, Pv1, Spm, Obr}
 use Rattle.rules.specs.Lists.{nth, same}
 use Rattle.rules.proofs.Logic.{never, and-true}
@@ -15,76 +13,51 @@ use Rattle.csv_rules.specs.Columns as Columns
 use Rattle.csv_rules.specs.Columns.{family_of, given_of, fifteen_of, meaning_of, type_of, sexes, classes, forms, columns, number_of}
 use Rattle.csv_rules.specs.Sheets.{same_texts}
 use Rattle.csv_rules.specs.Raw.{raw_by, raw_keys, raw_agree}
-use Rattle.csv_rows.specs.Rows.{Inside, item_bytes, item_at, items_from, row_at}
+use Rattle.csv_rows.specs.declared.RowItems.{RowItems}
+use Rattle.csv_rows.specs.Rows.{raw_items, items_of}
+use Rattle.csv_rows.proofs.Laws.{item-half}
 use Rattle.csv_keys.specs.declared.How.{How}
 use Rattle.csv_keys.specs.declared.How.TheVariants.{Text, UpToBlank, PastBlank, Fifteen, Sex, Class, Form, ValueType}
-use Rattle.csv_keys.specs.Keys.{how_of, raw_of, KeyIs}
-use Rattle.csv_keys.specs.Ways.{item_in, AsIs, KeyFits, by_column}
-use Rattle.csv_keys.proofs.Items.{as-is-key}
-
--- ---- the items of a row
-items-nth : (f spans : List ℕ) (k n j : ℕ) → j < n → nth (items_from f spans k n) j ≡ item_at f spans (k + j)
-unfolding items_from
-items-nth f spans k zero j h = absurd (omega arith)
-items-nth f spans k (suc n) zero h = let e : k + 0 ≡ k = omega arith in rw e
-items-nth f spans k (suc n) (suc j) h = let e : suc k + j ≡ k + suc j = omega arith in items-nth f spans (suc k) n j (omega arith) ∙ ap (item_at f spans) e
-
-pub row-nth : (f spans : List ℕ) (j : ℕ) → j < 45 → nth (row_at f spans) j ≡ item_at f spans j
-unfolding row_at
-row-nth f spans j h = let e : 0 + j ≡ j = omega arith in items-nth f spans 0 45 j h ∙ ap (item_at f spans) e
-
-pub inside-at : (f spans : List ℕ) (column : ℕ) → Inside f spans → 1 ≤ column → column ≤ 45
-    → get_or spans (2 * (column - 1)) 0 + get_or spans (2 * (column - 1) + 1) 0 ≤ length f
-inside-at f spans column i low high = i.inside (column - 1) (omega arith)
+use Rattle.csv_keys.specs.Keys.{how_of, raw_value, KeyIs}
+use Rattle.csv_keys.specs.Ways.{by_column}
 
 -- ---- a column's key
-module _ (f spans lead : List ℕ) (column n s l : ℕ) (low : 1 ≤ column) (high : column ≤ 45) where
-  raw_at_lem : nth (row_at f spans) (column - 1) ≡ item_in f (get_or spans (2 * (column - 1)) 0) (get_or spans (2 * (column - 1) + 1) 0)
-  unfolding item_at item_bytes
-  raw_at_lem = row-nth f spans (column - 1) (omega arith)
+module _ (row : RowItems) (lead r raw : List ℕ) (column : ℕ) (e : raw ≡ nth (raw_items row) (column - 1)) where
+  read : nth (items_of row) (column - 1) ≡ halved false raw
+  read = item-half row (column - 1) ∙ ap (halved false) (sym e)
 
   module _ (how : How) where
-    pub text_at_lem : how ≡ Text → Inside f spans → AsIs (get_or spans (2 * (column - 1)) 0) (get_or spans (2 * (column - 1) + 1) 0) lead n s l
-        → KeyIs f (raw_by (how_of how) (row_at f spans) column) lead n s l
+    pub text_at_lem : how ≡ Text → KeyIs (halved false raw) lead r → KeyIs (raw_by (how_of how) (items_of row) column) lead r
     unfolding raw_by how_of
-    text_at_lem e i a = rw (e, raw_at_lem)
-        (as-is-key f (item_in f (get_or spans (2 * (column - 1)) 0) (get_or spans (2 * (column - 1) + 1) 0)) lead (get_or spans (2 * (column - 1)) 0) (get_or spans (2 * (column - 1) + 1) 0) n s l
-        (inside-at f spans column i low high) refl a)
+    text_at_lem h k = rw (h, read) k
 
-    pub family-at : how ≡ UpToBlank → KeyIs f (family_of (item_in f (get_or spans (2 * (column - 1)) 0) (get_or spans (2 * (column - 1) + 1) 0))) lead n s l
-        → KeyIs f (raw_by (how_of how) (row_at f spans) column) lead n s l
+    pub family-at : how ≡ UpToBlank → KeyIs (family_of (halved false raw)) lead r → KeyIs (raw_by (how_of how) (items_of row) column) lead r
     unfolding raw_by how_of
-    family-at e k = rw (e, raw_at_lem) k
+    family-at h k = rw (h, read) k
 
-    pub given-at : how ≡ PastBlank → KeyIs f (given_of (item_in f (get_or spans (2 * (column - 1)) 0) (get_or spans (2 * (column - 1) + 1) 0))) lead n s l
-        → KeyIs f (raw_by (how_of how) (row_at f spans) column) lead n s l
+    pub given-at : how ≡ PastBlank → KeyIs (given_of (halved false raw)) lead r → KeyIs (raw_by (how_of how) (items_of row) column) lead r
     unfolding raw_by how_of
-    given-at e k = rw (e, raw_at_lem) k
+    given-at h k = rw (h, read) k
 
-    pub fifteen-at : how ≡ Fifteen → KeyIs f (fifteen_of (item_in f (get_or spans (2 * (column - 1)) 0) (get_or spans (2 * (column - 1) + 1) 0))) lead n s l
-        → KeyIs f (raw_by (how_of how) (row_at f spans) column) lead n s l
+    pub fifteen-at : how ≡ Fifteen → KeyIs (fifteen_of (halved false raw)) lead r → KeyIs (raw_by (how_of how) (items_of row) column) lead r
     unfolding raw_by how_of
-    fifteen-at e k = rw (e, raw_at_lem) k
+    fifteen-at h k = rw (h, read) k
 
-    pub sex-at : how ≡ Sex → KeyIs f (meaning_of sexes (item_in f (get_or spans (2 * (column - 1)) 0) (get_or spans (2 * (column - 1) + 1) 0))) lead n s l
-        → KeyIs f (raw_by (how_of how) (row_at f spans) column) lead n s l
+    pub sex-at : how ≡ Sex → KeyIs (meaning_of sexes (halved false raw)) lead r → KeyIs (raw_by (how_of how) (items_of row) column) lead r
     unfolding raw_by how_of
-    sex-at e k = rw (e, raw_at_lem) k
+    sex-at h k = rw (h, read) k
 
-    pub class-at : how ≡ Class → KeyIs f (meaning_of classes (item_in f (get_or spans (2 * (column - 1)) 0) (get_or spans (2 * (column - 1) + 1) 0))) lead n s l
-        → KeyIs f (raw_by (how_of how) (row_at f spans) column) lead n s l
+    pub class-at : how ≡ Class → KeyIs (meaning_of classes (halved false raw)) lead r → KeyIs (raw_by (how_of how) (items_of row) column) lead r
     unfolding raw_by how_of
-    class-at e k = rw (e, raw_at_lem) k
+    class-at h k = rw (h, read) k
 
-    pub form-at : how ≡ Form → KeyIs f (meaning_of forms (item_in f (get_or spans (2 * (column - 1)) 0) (get_or spans (2 * (column - 1) + 1) 0))) lead n s l
-        → KeyIs f (raw_by (how_of how) (row_at f spans) column) lead n s l
+    pub form-at : how ≡ Form → KeyIs (meaning_of forms (halved false raw)) lead r → KeyIs (raw_by (how_of how) (items_of row) column) lead r
     unfolding raw_by how_of
-    form-at e k = rw (e, raw_at_lem) k
+    form-at h k = rw (h, read) k
 
-    pub kind_at : how ≡ ValueType → KeyIs f (type_of (item_at f spans 34) (item_in f (get_or spans (2 * (column - 1)) 0) (get_or spans (2 * (column - 1) + 1) 0))) lead n s l
-        → KeyIs f (raw_by (how_of how) (row_at f spans) column) lead n s l
+    pub kind_at : how ≡ ValueType → KeyIs (type_of (nth (items_of row) 34) (halved false raw)) lead r → KeyIs (raw_by (how_of how) (items_of row) column) lead r
     unfolding raw_by how_of
-    kind_at e k = rw (e, raw_at_lem, row-nth f spans 34 (omega arith)) k
+    kind_at h k = rw (h, read) k
 
 -- ---- two rows
 -- a key that its column alone feeds
@@ -99,24 +72,18 @@ one-column Class r q column h e = ap (meaning_of classes) e
 one-column Form r q column h e = ap (meaning_of forms) e
 one-column ValueType r q column h e = never (sym h)
 
-module _ (f a b : List ℕ) (how : How) (column : ℕ) where
-  pub same-items : (x y : List ℕ) (t : Bool) → 1 ≤ column → column ≤ 45 → by_column how ≡ true → x ≡ item_bytes f a (column - 1) → y ≡ item_bytes f b (column - 1)
+module _ (a b : RowItems) (how : How) (column : ℕ) where
+  pub same-items : (x y : List ℕ) (t : Bool) → by_column how ≡ true → x ≡ nth (raw_items a) (column - 1) → y ≡ nth (raw_items b) (column - 1)
       → t ≡ same x y → t ≡ true
-      → true ≡ same (raw_by (how_of how) (row_at f a) column) (raw_by (how_of how) (row_at f b) column)
-  unfolding item_at
-  same-items x y t low high h ex ey e g =
-      let j : column - 1 < 45 = omega arith in
-      let z : nth (row_at f a) (column - 1) ≡ nth (row_at f b) (column - 1) =
-      row-nth f a (column - 1) j ∙ ap (halved false) (sym ex ∙ same-eq x y (sym e ∙ g) ∙ ey) ∙ sym (row-nth f b (column - 1) j) in
-      sym (ap (λ (w : List ℕ). same w (raw_by (how_of how) (row_at f b) column)) (one-column how (row_at f a) (row_at f b) column h z)
-      ∙ same_self (raw_by (how_of how) (row_at f b) column))
+      → true ≡ same (raw_by (how_of how) (items_of a) column) (raw_by (how_of how) (items_of b) column)
+  same-items x y t h ex ey e g =
+      let z : nth (items_of a) (column - 1) ≡ nth (items_of b) (column - 1) =
+      item-half a (column - 1) ∙ ap (halved false) (sym ex ∙ same-eq x y (sym e ∙ g) ∙ ey) ∙ sym (item-half b (column - 1)) in
+      sym (ap (λ (w : List ℕ). same w (raw_by (how_of how) (items_of b) column)) (one-column how (items_of a) (items_of b) column h z)
+      ∙ same_self (raw_by (how_of how) (items_of b) column))
 
-  pub same_keys_lem : (v w la : List ℕ) (na sa ma : ℕ) (lb : List ℕ) (nb sb mb : ℕ) (t : Bool) → KeyIs f v la na sa ma → KeyIs f w lb nb sb mb
-      → t ≡ same (raw_of f la na sa ma) (raw_of f lb nb sb mb) → t ≡ same v w
-  same_keys_lem v w la na sa ma lb nb sb mb t p q e = rw (← p.is, ← q.is) e
-
-pub key_fits : (f v lead : List ℕ) (n start len : ℕ) → KeyIs f v lead n start len → KeyFits f lead n start len
-key_fits f v lead n start len k = record { length-is = k.size; few = k.few; inside = k.inside }
+pub same_keys_lem : (v w la ra lb rb : List ℕ) (t : Bool) → KeyIs v la ra → KeyIs w lb rb → t ≡ same (raw_value la ra) (raw_value lb rb) → t ≡ same v w
+same_keys_lem v w la ra lb rb t p q e = rw (← p.is, ← q.is) e
 
 -- ---- the columns of each group
 -- what the code finds of a column is whether its keys are the same

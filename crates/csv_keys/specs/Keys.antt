@@ -1,5 +1,5 @@
--- A key's raw value as the code finds it: some bytes that don't stand in the file, then a stretch of the file.
-use Rattle.std.specs.Prelude.{◌≡◌, true, false, List, ◌++◌, ℕ, ◌+◌, ◌≤◌, length, take, drop}
+-- A key's raw value as the code finds it: some bytes that don't stand in the file, then bytes of the file.
+use Rattle.std.specs.Prelude.{◌≡◌, true, false, List, ◌++◌, ℕ}
 use Rattle.rules.specs.Lists.{all}
 use Rattle.rules.specs.Shift.{within}
 use Rattle.csv_rules.specs.Written.{halved}
@@ -19,14 +19,11 @@ how_of Class = Columns.coded classes
 how_of Form = Columns.coded forms
 how_of ValueType = Columns.typed 35
 
--- the first n of the bytes lead, then the item that lies in the file f from start on
-unfoldable pub raw_of : List ℕ → List ℕ → ℕ → ℕ → ℕ → List ℕ
-raw_of f lead n start len = take n lead ++ halved false (take len (drop start f))
+-- the bytes lead, then the text that lies in the file as the bytes raw
+unfoldable pub raw_value : List ℕ → List ℕ → List ℕ
+raw_value lead raw = lead ++ halved false raw
 
 -- a key: its raw value is v; the bytes that don't stand in the file stand alone
-pub record KeyIs (f v lead : List ℕ) (n start len : ℕ) : Type 0 where
-  pub is : raw_of f lead n start len ≡ v
-  pub plain : all (λ (b : ℕ). within 0x20 0x7E b) (take n lead) ≡ true
-  pub size : length lead ≡ 15
-  pub few : n ≤ 15
-  pub inside : start + len ≤ length f
+pub record KeyIs (v lead raw : List ℕ) : Type 0 where
+  pub is : raw_value lead raw ≡ v
+  pub plain : all (λ (b : ℕ). within 0x20 0x7E b) lead ≡ true

@@ -1,17 +1,19 @@
-// The keys of a row (Req 01): cut, looked up and compared as their bytes lie in the file; nothing is copied but fifteen bytes at most.
+// The keys of a row (Req 01): cut, looked up and compared as their bytes lie in the file; nothing is copied.
 #![tactic(auto)]
 
-ghost use Rattle.std.specs.Prelude.{◌≡◌, true, false, ◌&&◌, [], ◌∷◌, ◌+◌, ◌≤◌, ◌<◌, length, take, drop};
+ghost use Rattle.std.specs.Prelude.{◌≡◌, true, false, ◌&&◌, [], ◌+◌, ◌≤◌, ◌<◌, length, MatchOption};
 ghost use Rattle.rules.specs.declared.Name.TheVariants.{Pid, Pv1, Spm, Obr};
-ghost use Rattle.rules.specs.Lists.{same};
+ghost use Rattle.rules.specs.Lists.{nth, same, all};
 ghost use Rattle.rules.specs.Shift.{within};
-ghost use Rattle.csv_rules.specs.Columns.{family_of, given_of, fifteen_of, meaning_of, type_of, sexes, classes, forms, number_of};
+ghost use Rattle.csv_rules.specs.Written.{halved};
+ghost use Rattle.csv_rules.specs.Columns.{family_of, given_of, fifteen_of, type_of, number_of};
 ghost use Rattle.csv_rules.specs.Columns as Columns;
 ghost use Rattle.csv_rules.specs.Raw.{raw_by, raw_agree};
-ghost use Rattle.csv_rows.specs.Rows.{Inside, row_at, item_at};
-ghost use Rattle.csv_keys.specs.Keys.{how_of, raw_of, KeyIs};
-ghost use Rattle.csv_keys.specs.Ways.{blank_at, code_of, item_in, AsIs, Word, NextOrBlank, KeyFits, StepIs, by_column};
+ghost use Rattle.csv_rows.specs.Rows.{items_of};
+ghost use Rattle.csv_keys.specs.Keys.{how_of, raw_value, KeyIs};
+ghost use Rattle.csv_keys.specs.Ways.{blank_at, meaning_in, is_plain, by_column, NextOrBlank, FirstIs};
 
+use csv_rows::RowItems;
 use value::Rule;
 
 // How a column's text becomes a value, as the table of columns has it.
@@ -27,25 +29,28 @@ pub enum How {
     ValueType, // of the value in column 35, where the column is its form
 }
 
-// A key's value before it is converted: the first bytes of `lead`, then a stretch of the file.
+// A key's value before it is converted: some bytes that don't stand in the file, then an item or a part of one as it lies there, quotes doubled.
 #[derive(Clone, Copy)]
-pub struct KeyAt {
-    pub lead: [u8; 15],
-    pub filled: usize,
-    pub start: usize,
-    pub len: usize,
+pub struct RawKey<'a> {
+    pub lead: &'a [u8],
+    pub raw: &'a [u8],
 }
 
-// An item as it lies in the file.
-fn as_is(start: usize, len: usize) -> KeyAt
-    ensures { AsIs start len result.lead result.filled result.start result.len }
+// An item, or a part of one, as it lies in the file.
+fn as_is<'a>(raw: &'a [u8]) -> RawKey<'a>
+    ensures { KeyIs (halved false raw.now) result.lead.now result.raw.now }
 {
-    let lead = [48u8; 15];
-    KeyAt {
-        lead,
-        filled: 0,
-        start,
-        len,
+    RawKey { lead: b"", raw }
+}
+
+// A word in place of an item.
+fn in_place<'a>(word: &'a [u8]) -> RawKey<'a>
+    requires { all (λ b. within 0x20 0x7E b) word.now ≡ true }
+    ensures { KeyIs word.now result.lead.now result.raw.now }
+{
+    RawKey {
+        lead: word,
+        raw: b"",
     }
 }
 
@@ -72,6 +77,7 @@ fn blank_at(raw: &[u8]) -> usize
     ensures within { result ≤ length raw.now }
 {
     let mut i = 0;
+    // no `for`: over a doubled quote the step is two
     while i < raw.len() {
         if raw[i] == 0x20 {
             return i;
@@ -82,291 +88,217 @@ fn blank_at(raw: &[u8]) -> usize
 }
 
 // PID-5: the family name stands before the first blank.
-fn family(file: &[u8], start: usize, len: usize) -> KeyAt
-    requires { start + len ≤ length file.now }
-    ensures { KeyIs file.now (family_of (item_in file.now start len)) result.lead result.filled result.start result.len }
+fn family<'a>(raw: &'a [u8]) -> RawKey<'a>
+    ensures { KeyIs (family_of (halved false raw.now)) result.lead.now result.raw.now }
 {
-    let end = start + len;
-    let at = blank_at(&file[start..end]);
-    as_is(start, at)
+    let at = blank_at(raw);
+    as_is(&raw[..at])
 }
 
 // The given name stands behind it.
-fn given(file: &[u8], start: usize, len: usize) -> KeyAt
-    requires { start + len ≤ length file.now }
-    ensures { KeyIs file.now (given_of (item_in file.now start len)) result.lead result.filled result.start result.len }
+fn given<'a>(raw: &'a [u8]) -> RawKey<'a>
+    ensures { KeyIs (given_of (halved false raw.now)) result.lead.now result.raw.now }
 {
-    let end = start + len;
-    let at = blank_at(&file[start..end]);
-    if at >= len {
-        return as_is(end, 0);
+    let at = blank_at(raw);
+    if at >= raw.len() {
+        return as_is(b"");
     }
     let behind = at + 1;
-    as_is(start + behind, len - behind)
+    as_is(&raw[behind..])
 }
 
 // ---- order numbers
 
+const ZEROS: [u8; 15] = [b'0'; 15];
+
 // OBR-2: "15 digits, leading zeros"; what isn't 1 to 15 digits stays.
-fn fifteen(file: &[u8], start: usize, len: usize) -> KeyAt
-    requires { start + len ≤ length file.now }
-    ensures { KeyIs file.now (fifteen_of (item_in file.now start len)) result.lead result.filled result.start result.len }
+fn fifteen<'a>(raw: &'a [u8]) -> RawKey<'a>
+    ensures { KeyIs (fifteen_of (halved false raw.now)) result.lead.now result.raw.now }
 {
+    let len = raw.len();
     if (len == 0) | (15 < len) {
-        return as_is(start, len);
+        return as_is(raw);
     }
-    let end = start + len;
-    if !plain_bytes::digits(&file[start..end], len) {
-        return as_is(start, len);
+    if !plain_bytes::all_digits(raw) {
+        return as_is(raw);
     }
-    let lead = [48u8; 15];
-    KeyAt {
-        lead,
-        filled: 15 - len,
-        start,
-        len,
+    let end = 15 - len;
+    RawKey {
+        lead: &ZEROS[..end],
+        raw,
     }
 }
 
 // ---- codes
 
-// The byte of an item that has one byte; 0 of any other.
-fn code_of(file: &[u8], start: usize, len: usize) -> u8
-    requires { start + len ≤ length file.now }
-    ensures { result ≡ code_of (take len (drop start file.now)) }
-{
-    if len != 1 {
-        return 0;
-    }
-    file[start]
-}
+// PID-8, table 2; PV1-2, table 6; SN, component 1, table 10: each code and its meaning.
+const SEXES: [(&[u8], &[u8]); 3] = [(b"1", b"M"), (b"2", b"F"), (b"3", b"O")];
 
-// The first bytes of two, in place of an item.
-fn word(first: u8, second: u8, size: usize) -> KeyAt
-    requires { (within 0x20 0x7E first ≡ true) × (within 0x20 0x7E second ≡ true) × (size ≤ 2) }
-    ensures { Word (take size (first ∷ second ∷ [])) result.lead result.filled result.start result.len }
-{
-    let mut lead = [48u8; 15];
-    lead[0] = first;
-    lead[1] = second;
-    KeyAt {
-        lead,
-        filled: size,
-        start: 0,
-        len: 0,
-    }
-}
+const CLASSES: [(&[u8], &[u8]); 2] = [(b"1", b"I"), (b"2", b"O")];
 
-// PID-8, table 2.
-fn sex(file: &[u8], start: usize, len: usize) -> KeyAt
-    requires { start + len ≤ length file.now }
-    ensures { KeyIs file.now (meaning_of sexes (item_in file.now start len)) result.lead result.filled result.start result.len }
-{
-    let code = code_of(file, start, len);
-    if code == b'1' {
-        return word(b'M', b' ', 1);
-    }
-    if code == b'2' {
-        return word(b'F', b' ', 1);
-    }
-    if code == b'3' {
-        return word(b'O', b' ', 1);
-    }
-    as_is(start, len)
-}
+const FORMS: [(&[u8], &[u8]); 5] = [
+    (b"U", b">="),
+    (b"E", b"<="),
+    (b"L", b"<"),
+    (b"O", b">"),
+    (b"B", b""),
+];
 
-// PV1-2, table 6.
-fn class(file: &[u8], start: usize, len: usize) -> KeyAt
-    requires { start + len ≤ length file.now }
-    ensures { KeyIs file.now (meaning_of classes (item_in file.now start len)) result.lead result.filled result.start result.len }
+// What an item means by a table of codes; what is no code stays.
+fn coded<'a>(raw: &'a [u8], codes: &[(&[u8], &'a [u8])]) -> RawKey<'a>
+    requires { all is_plain codes.now ≡ true }
+    ensures { KeyIs (meaning_in codes.now (halved false raw.now)) result.lead.now result.raw.now }
 {
-    let code = code_of(file, start, len);
-    if code == b'1' {
-        return word(b'I', b' ', 1);
+    for (code, meaning) in codes {
+        if plain_bytes::equal(raw, code) {
+            return in_place(meaning);
+        }
     }
-    if code == b'2' {
-        return word(b'O', b' ', 1);
-    }
-    as_is(start, len)
-}
-
-// SN, component 1, table 10.
-fn form(file: &[u8], start: usize, len: usize) -> KeyAt
-    requires { start + len ≤ length file.now }
-    ensures { KeyIs file.now (meaning_of forms (item_in file.now start len)) result.lead result.filled result.start result.len }
-{
-    let code = code_of(file, start, len);
-    if code == b'U' {
-        return word(b'>', b'=', 2);
-    }
-    if code == b'E' {
-        return word(b'<', b'=', 2);
-    }
-    if code == b'L' {
-        return word(b'<', b' ', 1);
-    }
-    if code == b'O' {
-        return word(b'>', b' ', 1);
-    }
-    if code == b'B' {
-        return word(b' ', b' ', 0);
-    }
-    as_is(start, len)
+    as_is(raw)
 }
 
 // OBX-2: a form other than B makes SN; without one a number is NM, any other value ST. (A text with a quote is no number, doubled or not.)
-fn value_type(file: &[u8], spans: &[usize; 90], start: usize, len: usize) -> KeyAt
-    requires { Inside file.now spans.now × (start + len ≤ length file.now) }
-    ensures { KeyIs file.now (type_of (item_at file.now spans.now 34) (item_in file.now start len)) result.lead result.filled result.start result.len }
+fn value_type<'a>(row: &RowItems, form: &[u8]) -> RawKey<'a>
+    ensures { KeyIs (type_of (nth (items_of row.now) 34) (halved false form.now)) result.lead.now result.raw.now }
 {
-    let code = code_of(file, start, len);
-    if (len != 0) & (code != b'B') {
-        return word(b'S', b'N', 2);
+    if (form.len() != 0) & !plain_bytes::equal(form, b"B") {
+        return in_place(b"SN");
     }
-    let number = csv_rows::item(file, spans, 34);
+    let number = row.item(34);
     if value::fine(value::fault_of(true, Rule::Number, number)) {
-        return word(b'N', b'M', 2);
+        return in_place(b"NM");
     }
-    word(b'S', b'T', 2)
+    in_place(b"ST")
 }
 
 // The key that a column feeds.
-pub fn key(file: &[u8], spans: &[usize; 90], how: How, column: usize) -> KeyAt
-    requires { Inside file.now spans.now × (1 ≤ column) × (column ≤ 45) }
-    ensures { KeyIs file.now (raw_by (how_of how) (row_at file.now spans.now) column) result.lead result.filled result.start result.len }
+pub fn key<'a>(row: &RowItems<'a>, how: How, column: usize) -> RawKey<'a>
+    requires { (1 ≤ column) × (column ≤ 45) }
+    ensures { KeyIs (raw_by (how_of how) (items_of row.now) column) result.lead.now result.raw.now }
 {
-    let n = column - 1;
-    let start = spans[2 * n];
-    let len = spans[2 * n + 1];
+    let raw = row.item(column - 1);
     match how {
-        How::Text => as_is(start, len),
-        How::UpToBlank => family(file, start, len),
-        How::PastBlank => given(file, start, len),
-        How::Fifteen => fifteen(file, start, len),
-        How::Sex => sex(file, start, len),
-        How::Class => class(file, start, len),
-        How::Form => form(file, start, len),
-        How::ValueType => value_type(file, spans, start, len),
+        How::Text => as_is(raw),
+        How::UpToBlank => family(raw),
+        How::PastBlank => given(raw),
+        How::Fifteen => fifteen(raw),
+        How::Sex => coded(raw, &SEXES),
+        How::Class => coded(raw, &CLASSES),
+        How::Form => coded(raw, &FORMS),
+        How::ValueType => value_type(row, raw),
     }
 }
 
 // ---- comparing
 
-// A byte of a key, and the place behind it.
+// The first byte of a key, and what is left of the key.
 #[derive(Clone, Copy)]
-struct Step {
+struct First<'a> {
     byte: u8,
-    next: usize,
+    rest: RawKey<'a>,
 }
 
-// A byte of a key, at a place of its first bytes and its item together.
-fn byte_at(file: &[u8], k: KeyAt, p: usize) -> Step
-    requires { KeyFits file.now k.lead k.filled k.start k.len × (p < k.filled + k.len) }
-    ensures { StepIs file.now k.lead k.filled k.start k.len p result.byte result.next }
+// None of a key without bytes.
+fn split_first<'a>(key: &RawKey<'a>) -> Option<First<'a>>
+    ensures { MatchOption result (raw_value key.now.lead.now key.now.raw.now ≡ []) (λ r. FirstIs key.now.lead.now key.now.raw.now r.byte r.rest.lead.now r.rest.raw.now) }
 {
-    let lead = k.lead;
-    let filled = k.filled;
-    if p < filled {
-        return Step {
-            byte: lead[p],
-            next: p + 1,
-        };
+    let lead = key.lead;
+    let raw = key.raw;
+    if lead.len() > 0 {
+        return Some(First {
+            byte: lead[0],
+            rest: RawKey {
+                lead: &lead[1..],
+                raw,
+            },
+        });
     }
-    let start = k.start;
-    let end = start + k.len;
-    let raw = &file[start..end];
-    let i = p - filled;
-    let next = past_byte(raw, i);
-    Step {
-        byte: raw[i],
-        next: filled + next,
+    if raw.len() == 0 {
+        return None;
     }
+    let next = past_byte(raw, 0);
+    Some(First {
+        byte: raw[0],
+        rest: RawKey {
+            lead,
+            raw: &raw[next..],
+        },
+    })
 }
 
 // Whether two keys have the same raw value.
-fn same_key(file: &[u8], a: KeyAt, b: KeyAt) -> bool
-    requires { KeyFits file.now a.lead a.filled a.start a.len × KeyFits file.now b.lead b.filled b.start b.len }
-    ensures { result ≡ same (raw_of file.now a.lead a.filled a.start a.len) (raw_of file.now b.lead b.filled b.start b.len) }
+fn same_key(a: RawKey, b: RawKey) -> bool
+    ensures { result ≡ same (raw_value a.entry.lead.now a.entry.raw.now) (raw_value b.entry.lead.now b.entry.raw.now) }
 {
-    let m = a.filled + a.len;
-    let n = b.filled + b.len;
-    let mut i = 0;
-    let mut j = 0;
-    while (i < m) & (j < n) {
-        let x = byte_at(file, a, i);
-        let y = byte_at(file, b, j);
-        if x.byte != y.byte {
+    let mut x = a;
+    let mut y = b;
+    while let Some(p) = split_first(&x) {
+        let Some(q) = split_first(&y) else {
+            return false;
+        };
+        if p.byte != q.byte {
             return false;
         }
-        i = x.next;
-        j = y.next;
+        x = p.rest;
+        y = q.rest;
     }
-    (m <= i) & (n <= j)
+    split_first(&y).is_none()
 }
 
 // Whether two rows agree in a key that its column alone feeds. Items that are the same byte for byte give the same key.
-fn same_at(file: &[u8], a: &[usize; 90], b: &[usize; 90], how: How, column: usize) -> bool
-    requires { Inside file.now a.now × Inside file.now b.now × (1 ≤ column) × (column ≤ 45) × (by_column how ≡ true) }
-    ensures { result ≡ same (raw_by (how_of how) (row_at file.now a.now) column) (raw_by (how_of how) (row_at file.now b.now) column) }
+fn same_at(a: &RowItems, b: &RowItems, how: How, column: usize) -> bool
+    requires { (1 ≤ column) × (column ≤ 45) × (by_column how ≡ true) }
+    ensures { result ≡ same (raw_by (how_of how) (items_of a.now) column) (raw_by (how_of how) (items_of b.now) column) }
 {
     let n = column - 1;
-    let mine = csv_rows::item(file, a, n);
-    let other = csv_rows::item(file, b, n);
-    if plain_bytes::equal(mine, other) {
+    if plain_bytes::equal(a.item(n), b.item(n)) {
         return true;
     }
-    let k = key(file, a, how, column);
-    let l = key(file, b, how, column);
-    same_key(file, k, l)
+    same_key(key(a, how, column), key(b, how, column))
 }
 
 // Whether two rows agree in the halves of a name.
-fn same_name(file: &[u8], a: &[usize; 90], b: &[usize; 90], column: usize) -> bool
-    requires { Inside file.now a.now × Inside file.now b.now × (1 ≤ column) × (column ≤ 45) }
-    ensures { result ≡ (same (raw_by Columns.up_to_blank (row_at file.now a.now) column) (raw_by Columns.up_to_blank (row_at file.now b.now) column) && same (raw_by Columns.past_blank (row_at file.now a.now) column) (raw_by Columns.past_blank (row_at file.now b.now) column)) }
+fn same_name(a: &RowItems, b: &RowItems, column: usize) -> bool
+    requires { (1 ≤ column) × (column ≤ 45) }
+    ensures { result ≡ (same (raw_by Columns.up_to_blank (items_of a.now) column) (raw_by Columns.up_to_blank (items_of b.now) column) && same (raw_by Columns.past_blank (items_of a.now) column) (raw_by Columns.past_blank (items_of b.now) column)) }
 {
-    same_at(file, a, b, How::UpToBlank, column) & same_at(file, a, b, How::PastBlank, column)
+    same_at(a, b, How::UpToBlank, column) & same_at(a, b, How::PastBlank, column)
 }
 
 // Whether two rows agree in the patient keys.
-fn same_patient(file: &[u8], a: &[usize; 90], b: &[usize; 90]) -> bool
-    requires { Inside file.now a.now × Inside file.now b.now }
-    ensures { result ≡ raw_agree Pid (row_at file.now a.now) (row_at file.now b.now) }
+fn same_patient(a: &RowItems, b: &RowItems) -> bool
+    ensures { result ≡ raw_agree Pid (items_of a.now) (items_of b.now) }
 {
-    same_at(file, a, b, How::Text, 8)
-        & same_name(file, a, b, 9)
-        & same_name(file, a, b, 10)
-        & same_at(file, a, b, How::Text, 11)
-        & same_at(file, a, b, How::Sex, 12)
+    same_at(a, b, How::Text, 8)
+        & same_name(a, b, 9)
+        & same_name(a, b, 10)
+        & same_at(a, b, How::Text, 11)
+        & same_at(a, b, How::Sex, 12)
 }
 
 // Whether the numbers of two rows are the same: column 7 as it stands.
-pub fn same_number(file: &[u8], a: &[usize; 90], b: &[usize; 90]) -> bool
-    requires { Inside file.now a.now × Inside file.now b.now }
-    ensures { result ≡ same (number_of (row_at file.now a.now)) (number_of (row_at file.now b.now)) }
+pub fn same_number(a: &RowItems, b: &RowItems) -> bool
+    ensures { result ≡ same (number_of (items_of a.now)) (number_of (items_of b.now)) }
 {
-    same_at(file, a, b, How::Text, 7)
+    same_at(a, b, How::Text, 7)
 }
 
 // Whether two rows agree in the header keys.
-pub fn same_header(file: &[u8], a: &[usize; 90], b: &[usize; 90]) -> bool
-    requires { Inside file.now a.now × Inside file.now b.now }
-    ensures { result ≡ (raw_agree Pid (row_at file.now a.now) (row_at file.now b.now) && raw_agree Pv1 (row_at file.now a.now) (row_at file.now b.now)) }
+pub fn same_header(a: &RowItems, b: &RowItems) -> bool
+    ensures { result ≡ (raw_agree Pid (items_of a.now) (items_of b.now) && raw_agree Pv1 (items_of a.now) (items_of b.now)) }
 {
-    same_patient(file, a, b) & same_at(file, a, b, How::Class, 21)
+    same_patient(a, b) & same_at(a, b, How::Class, 21)
 }
 
 // In the specimen keys; in the order keys.
-pub fn same_specimen(file: &[u8], a: &[usize; 90], b: &[usize; 90]) -> bool
-    requires { Inside file.now a.now × Inside file.now b.now }
-    ensures { result ≡ raw_agree Spm (row_at file.now a.now) (row_at file.now b.now) }
+pub fn same_specimen(a: &RowItems, b: &RowItems) -> bool
+    ensures { result ≡ raw_agree Spm (items_of a.now) (items_of b.now) }
 {
-    same_at(file, a, b, How::Text, 25) & same_at(file, a, b, How::Text, 24)
+    same_at(a, b, How::Text, 25) & same_at(a, b, How::Text, 24)
 }
 
-pub fn same_order(file: &[u8], a: &[usize; 90], b: &[usize; 90]) -> bool
-    requires { Inside file.now a.now × Inside file.now b.now }
-    ensures { result ≡ raw_agree Obr (row_at file.now a.now) (row_at file.now b.now) }
+pub fn same_order(a: &RowItems, b: &RowItems) -> bool
+    ensures { result ≡ raw_agree Obr (items_of a.now) (items_of b.now) }
 {
-    same_at(file, a, b, How::Fifteen, 20) & same_at(file, a, b, How::Text, 30)
+    same_at(a, b, How::Fifteen, 20) & same_at(a, b, How::Text, 30)
 }

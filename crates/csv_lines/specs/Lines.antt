@@ -2,20 +2,15 @@
 use Rattle.std.specs.Prelude.{cond, ◌&&◌, List, [], ◌∷◌, ◌++◌, ℕ, take, drop}
 use Rattle.rules.specs.declared.Name.{Name}
 use Rattle.rules.specs.declared.Name.TheVariants.{Msh, Pid, Pv1, Spm, Obr, Obx}
-use Rattle.rules.specs.Lists.{bytes, ended}
+use Rattle.rules.specs.Lists.{bytes}
 use Rattle.rules.specs.Row.{lines}
 use Rattle.rules.specs.Sheet.{lines_text}
 use Rattle.csv_rules.specs.Quote.{Items}
 use Rattle.csv_rules.specs.Columns.{value_by, keys}
 use Rattle.csv_rules.specs.Sheets.{agree}
-use Rattle.reach.specs.Reach.{Adds}
 use Rattle.csv_keys.specs.declared.How.{How}
 use Rattle.csv_keys.specs.declared.How.TheVariants.{UpToBlank, PastBlank}
 use Rattle.csv_keys.specs.Keys.{how_of}
-
--- lines, each ended by 0A, over x from at on, as far as x reaches
-pub record AddsLines (at : ℕ) (x : List ℕ) (ls : List (List ℕ)) (r : ℕ) (y : List ℕ) : Type 0 where
-  pub adds : Adds at x (ended 0x0A ls) r y
 
 -- a line's key with `=`, and the value that a column feeds; the two of a name
 unfoldable pub line_by : List ℕ → How → Items → ℕ → List (List ℕ)

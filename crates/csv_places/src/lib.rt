@@ -5,9 +5,11 @@
 ghost use Rattle.std.specs.Prelude.{◌≡◌, false, cond, ◌<◌, length};
 ghost use Rattle.csv_rules.specs.Written.{halved};
 ghost use Rattle.csv_rules.specs.Columns.{number_of};
-ghost use Rattle.csv_rows.specs.Rows.{Inside, row_at};
+ghost use Rattle.csv_rows.specs.Rows.{items_of};
 ghost use Rattle.csv_places.specs.Places.{items_at, stirred, hash_of, slot_filled, slot_after, number_at, RowThere, Places, SlotIs, keeps_place, with_place};
 ghost use Rattle.csv_places.specs.Slots.{Nothing, free_slot};
+
+use csv_rows::RowItems;
 
 // What is kept of a number.
 #[derive(Clone, Copy)]
@@ -53,12 +55,11 @@ fn hash(raw: &[u8]) -> usize
 }
 
 // The hash of a row's number.
-pub fn hash_of(file: &[u8], spans: &[usize; 90]) -> usize
-    requires { Inside file.now spans.now }
-    ensures value { result ≡ hash_of (number_of (row_at file.now spans.now)) }
+pub fn hash_of(row: &RowItems) -> usize
+    ensures value { result ≡ hash_of (number_of (items_of row.now)) }
     ensures small { result < 4294967296 }
 {
-    hash(csv_rows::item(file, spans, 6))
+    hash(row.item(6))
 }
 
 // The slot behind one, the first behind the last.
@@ -74,30 +75,29 @@ fn slot_after(slot: usize) -> usize
 }
 
 // Whether the row that begins at a place has the number of a row.
-fn number_there(file: &[u8], p: usize, spans: &[usize; 90]) -> bool
-    requires { RowThere file.now p × Inside file.now spans.now }
-    ensures { result ≡ number_at file.now (row_at file.now spans.now) p }
+fn number_there(file: &[u8], p: usize, row: &RowItems) -> bool
+    requires { RowThere file.now p }
+    ensures { result ≡ number_at file.now (items_of row.now) p }
 {
-    let t = csv_rows::row(file, p, true);
-    let q = t.spans;
-    csv_keys::same_number(file, spans, &q)
+    let there = csv_rows::row(file, p, true).unwrap();
+    csv_keys::same_number(row, &there.items)
 }
 
 // The same, where the hashes of both numbers are known: the row is read only where they are alike.
-fn number_marked(file: &[u8], p: usize, mark: usize, spans: &[usize; 90], hash: usize) -> bool
-    requires { RowThere file.now p × Inside file.now spans.now × (mark ≡ hash_of (number_of (items_at file.now p))) × (hash ≡ hash_of (number_of (row_at file.now spans.now))) }
-    ensures { result ≡ number_at file.now (row_at file.now spans.now) p }
+fn number_marked(file: &[u8], p: usize, mark: usize, row: &RowItems, hash: usize) -> bool
+    requires { RowThere file.now p × (mark ≡ hash_of (number_of (items_at file.now p))) × (hash ≡ hash_of (number_of (items_of row.now))) }
+    ensures { result ≡ number_at file.now (items_of row.now) p }
 {
     if mark == hash {
-        return number_there(file, p, spans);
+        return number_there(file, p, row);
     }
     false
 }
 
 // What is kept of the number of a row, whose hash is given: looked for from the slot of its hash on.
-pub fn look_up(file: &[u8], places: &[u32; 65536], spans: &[usize; 90], hash: usize) -> Slot
-    requires { Places file.now places.now × Inside file.now spans.now × (hash ≡ hash_of (number_of (row_at file.now spans.now))) }
-    ensures { SlotIs file.now places.now (row_at file.now spans.now) result }
+pub fn look_up(file: &[u8], places: &[u32; 65536], row: &RowItems, hash: usize) -> Slot
+    requires { Places file.now places.now × (hash ≡ hash_of (number_of (items_of row.now))) }
+    ensures { SlotIs file.now places.now (items_of row.now) result }
 {
     let mut slot = hash % 32768;
     for _ in 0..256usize {
@@ -106,7 +106,7 @@ pub fn look_up(file: &[u8], places: &[u32; 65536], spans: &[usize; 90], hash: us
             return Slot::Free(slot);
         }
         let mark = places[2 * slot + 1] as usize;
-        if number_marked(file, p, mark, spans, hash) {
+        if number_marked(file, p, mark, row, hash) {
             return Slot::Held(p);
         }
         slot = slot_after(slot);

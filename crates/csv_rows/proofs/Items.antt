@@ -271,7 +271,7 @@ pub drop-same : (f : List ℕ) (j : ℕ) → drop (j + 0) f ≡ drop j f
 drop-same f j = let q : j + 0 ≡ j = omega arith in ap (λ (n : ℕ). drop n f) q
 
 module _ (f : List ℕ) (j : ℕ) (p : j ≤ length f) where
-  pub behind-end : length f ≤ j → BehindAt f j 0 false false
+  pub behind-end : length f ≤ j → BehindAt f j 0 false
   unfolding lines_at put_before afterwards cut
   behind-end h = record { is = rw (drop-same f j, over f j h); place = omega arith }
 
@@ -280,7 +280,7 @@ module _ (f : List ℕ) (j : ℕ) (p : j ≤ length f) where
     unfolding quote_first
     no-quote = rw (here 0 f j h) at q
 
-    pub behind-comma : get_or f j 0 ≡ 0x2C → BehindAt f j 1 true false
+    pub behind-comma : get_or f j 0 ≡ 0x2C → BehindAt f j 1 true
     unfolding afterwards
     behind-comma g = record {
       is = ap (lines_at Quote) (here 0 f j h) ∙ read-comma (get_or f j 0) no-quote (drop (j + 1) f) (eq-eqb (get_or f j 0) 0x2C g) ∙ before-comma (lines_at Comma (drop (j + 1) f));
@@ -288,19 +288,14 @@ module _ (f : List ℕ) (j : ℕ) (p : j ≤ length f) where
     }
 
     module _ (k : ℕ) (n : get_or f j 0 ≡ 0x2C → ⊥) (e : k ≡ j + 1) where
-      pub behind-last : length f ≤ k → BehindAt f j 0 false true
-      unfolding put_before afterwards
+      pub behind-last : length f ≤ k → lines_at Quote (drop j f) ≡ broken
       behind-last l =
           let o : drop (j + 1) f ≡ [] = over f (j + 1) (omega arith) in
-          record {
-            is =
-                ap (lines_at Quote) (here 0 f j h ∙ ap (λ (s : List ℕ). get_or f j 0 ∷ s) o)
-                ∙ read-last (get_or f j 0) no-quote (ne_eqb (get_or f j 0) 0x2C n);
-            place = omega arith;
-          }
+          ap (lines_at Quote) (here 0 f j h ∙ ap (λ (s : List ℕ). get_or f j 0 ∷ s) o)
+          ∙ read-last (get_or f j 0) no-quote (ne_eqb (get_or f j 0) 0x2C n)
 
       module _ (l : k < length f) where
-        pub behind-crlf : (eqb (get_or f j 0) 0x0D && eqb (get_or f k 0) 0x0A) ≡ true → BehindAt f j 2 false false
+        pub behind-crlf : (eqb (get_or f j 0) 0x0D && eqb (get_or f k 0) 0x0A) ≡ true → BehindAt f j 2 false
         unfolding put_before afterwards
         behind-crlf t =
             let w = both (eqb (get_or f j 0) 0x0D) (eqb (get_or f k 0) 0x0A) t in
@@ -311,12 +306,9 @@ module _ (f : List ℕ) (j : ℕ) (p : j ≤ length f) where
               place = omega arith;
             }
 
-        pub behind-bad : (eqb (get_or f j 0) 0x0D && eqb (get_or f k 0) 0x0A) ≡ false → BehindAt f j 0 false true
-        unfolding put_before afterwards
-        behind-bad t = record {
-          is = ap (lines_at Quote) (two_here f j k e l) ∙ read-bad (get_or f j 0) no-quote (ne_eqb (get_or f j 0) 0x2C n) (get_or f k 0) (drop (j + 2) f) t;
-          place = omega arith;
-        }
+        pub behind-bad : (eqb (get_or f j 0) 0x0D && eqb (get_or f k 0) 0x0A) ≡ false → lines_at Quote (drop j f) ≡ broken
+        behind-bad t =
+            ap (lines_at Quote) (two_here f j k e l) ∙ read-bad (get_or f j 0) no-quote (ne_eqb (get_or f j 0) 0x2C n) (get_or f k 0) (drop (j + 2) f) t
 
 -- ---- an item
 module _ (f : List ℕ) (s e : ℕ) (c : e ≡ s + closing_at false (drop s f)) (k : e < length f) where
@@ -330,47 +322,51 @@ module _ (f : List ℕ) (s e : ℕ) (c : e ≡ s + closing_at false (drop s f)) 
   item-stops n o = ap quote_first (sym (onward n o)) ∙ closed-stops (drop s f) closes
 
 module _ (f : List ℕ) (i : ℕ) (p : i ≤ length f) where
-  item-bad : lines_at Comma (drop i f) ≡ broken → ItemAt f i 0 0 0 false true
-  unfolding put_before afterwards
-  item-bad e = record { is = e; inside = omega arith; some = omega arith; moves = omega arith; place = omega arith }
-
-  pub item-none : length f ≤ i → ItemAt f i 0 0 0 false true
+  pub item-none : length f ≤ i → lines_at Comma (drop i f) ≡ broken
   unfolding lines_at
-  item-none h = item-bad (rw (over f i h))
+  item-none h = rw (over f i h)
 
   module _ (h : i < length f) where
-    pub item-unquoted : (get_or f i 0 ≡ 0x22 → ⊥) → ItemAt f i 0 0 0 false true
+    pub item-unquoted : (get_or f i 0 ≡ 0x22 → ⊥) → lines_at Comma (drop i f) ≡ broken
     unfolding lines_at
-    item-unquoted n = item-bad (ap (lines_at Comma) (here 0 f i h) ∙ rw (ne_eqb (get_or f i 0) 0x22 n, lines_at))
+    item-unquoted n = ap (lines_at Comma) (here 0 f i h) ∙ rw (ne_eqb (get_or f i 0) 0x22 n, lines_at)
 
     module _ (s e : ℕ) (q : get_or f i 0 ≡ 0x22) (g : s ≡ i + 1) (c : e ≡ s + closing_at false (drop s f)) where
       opened : lines_at Comma (drop i f) ≡ more (λ is. is) (lines_at Inside (drop s f))
       unfolding lines_at
       opened = ap (lines_at Comma) (here 0 f i h ∙ ap (λ (n : ℕ). get_or f i 0 ∷ drop n f) (sym g)) ∙ rw (eq-eqb (get_or f i 0) 0x22 q, lines_at)
 
-      pub item-open : length f ≤ e → ItemAt f i 0 0 0 false true
+      pub item-open : length f ≤ e → lines_at Comma (drop i f) ≡ broken
       unfolding more
-      item-open k = item-bad (opened ∙ rw (inside-open (drop s f) (omega (arith, length-drop s f))))
+      item-open k = opened ∙ rw (inside-open (drop s f) (omega (arith, length-drop s f)))
 
       module _ (k : e < length f) where
-        pub item-fine : (n m : ℕ) (goes bad : Bool) → n ≡ e + 1 → BehindAt f n m goes bad → ItemAt f i s (e - s) (((e - s) + 2) + m) goes bad
-        item-fine n m goes bad o b =
+        -- what stands behind the item, read with it
+        with_rest : (n m : ℕ) (z : Lines) → n ≡ e + 1 → lines_at Quote (drop n f) ≡ put_before ([] ∷ []) m z
+            → lines_at Comma (drop i f) ≡ put_before (halved false (take (e - s) (drop s f)) ∷ []) (((e - s) + 2) + m) z
+        with_rest n m z o b =
             let t = closing_at false (drop s f) in
             let w = halved false (take t (drop s f)) in
             let x : t ≡ e - s = omega arith in
             let y : suc (m + suc t) ≡ ((e - s) + 2) + m = omega arith in
+            opened
+            ∙ ap (more (λ is. is)) (inside-closed (drop s f) (closes f s e c k) ∙ ap (λ (d : List ℕ). grow w (suc t) (lines_at Quote d)) (onward f s e c k n o) ∙ ap (grow w (suc t)) b
+            ∙ grow-before w (suc t) m z)
+            ∙ skip-before (w ∷ []) (m + suc t) z
+            ∙ ap (λ (u : ℕ). put_before (halved false (take u (drop s f)) ∷ []) (suc (m + suc t)) z) x
+            ∙ ap (λ (u : ℕ). put_before (halved false (take (e - s) (drop s f)) ∷ []) u z) y
+
+        pub item-fine : (n m : ℕ) (goes : Bool) → n ≡ e + 1 → BehindAt f n m goes → ItemAt f i (take (e - s) (drop s f)) (((e - s) + 2) + m) goes
+        item-fine n m goes o b =
             let z : n + m ≡ i + (((e - s) + 2) + m) = omega arith in
             record {
               is =
-                  opened
-                  ∙ ap (more (λ is. is)) (inside-closed (drop s f) (closes f s e c k) ∙ ap (λ (d : List ℕ). grow w (suc t) (lines_at Quote d)) (onward f s e c k n o) ∙ ap (grow w (suc t)) b.is
-                  ∙ grow-before w (suc t) m (afterwards goes bad (drop (n + m) f)))
-                  ∙ skip-before (w ∷ []) (m + suc t) (afterwards goes bad (drop (n + m) f))
-                  ∙ ap (λ (u : ℕ). put_before (halved false (take u (drop s f)) ∷ []) (suc (m + suc t)) (afterwards goes bad (drop (n + m) f))) x
-                  ∙ ap (λ (u : ℕ). put_before (halved false (take (e - s) (drop s f)) ∷ []) u (afterwards goes bad (drop (n + m) f))) y
-                  ∙ ap (λ (u : ℕ). put_before (halved false (take (e - s) (drop s f)) ∷ []) (((e - s) + 2) + m) (afterwards goes bad (drop u f))) z;
-              inside = omega arith;
+                  with_rest n m (afterwards goes (drop (n + m) f)) o b.is
+                  ∙ ap (λ (u : ℕ). put_before (halved false (take (e - s) (drop s f)) ∷ []) (((e - s) + 2) + m) (afterwards goes (drop u f))) z;
               some = omega arith;
-              moves = omega arith;
               place = omega (arith, b.place);
             }
+
+        pub item-bad : (n : ℕ) → n ≡ e + 1 → lines_at Quote (drop n f) ≡ broken → lines_at Comma (drop i f) ≡ broken
+        unfolding put_before
+        item-bad n o b = with_rest n 0 broken o b

@@ -12,12 +12,13 @@ use Rattle.rules.specs.Lists.{all}
 use Rattle.rules.specs.Shift.{within}
 use Rattle.rules.proofs.Logic.{cases, both, never}
 use Rattle.rules.proofs.Lists.{here, over}
+use Rattle.csv_rules.specs.Quote.{Comma, Quote, broken, lines_at}
 use Rattle.csv_rules.specs.Kanji.{lead, characters_at, characters, good_character, convertible}
 use Rattle.csv_rules.specs.Written.{halved}
 use Rattle.sjis.specs.Items.{is_clear}
 use Rattle.csv_rows.specs.Plain.{plain_at, comma_at, PlainItem}
 use Rattle.csv_rows.specs.Rows.{closing_at, quote_first, BehindAt, ItemAt}
-use Rattle.csv_rows.proofs.Items.{close-plain, close-stop, half-plain, behind-comma, item-open, item-fine}
+use Rattle.csv_rows.proofs.Items.{close-plain, close-stop, half-plain, behind-comma, item-open, item-fine, item-bad}
 
 -- ---- a byte
 clear-parts : (b : ℕ) → is_clear b ≡ true → (within 0x20 0x7E b ≡ true) × (eqb b 0x22 ≡ false)
@@ -97,7 +98,7 @@ module _ (f : List ℕ) (s p e : ℕ) (t : p ≡ s + plain_at (drop s f)) (c : e
       let q : drop (plain_at (drop s f)) (drop s f) ≡ drop p f = drop-drop (plain_at (drop s f)) s f ∙ ap (λ (n : ℕ). drop n f) (sym t) in
       omega (arith, closes-past (drop s f) ∙ ap (λ (d : List ℕ). plain_at (drop s f) + closing_at false d) q)
 
-  pub item-plain : PlainItem f s (e - s) (eqb e p)
+  pub item-plain : PlainItem (take (e - s) (drop s f)) (eqb e p)
   item-plain = record {
     converts = λ h.
         let q : e - s ≡ plain_at (drop s f) = omega (arith, eqb-true e p h) in
@@ -106,14 +107,14 @@ module _ (f : List ℕ) (s p e : ℕ) (t : p ≡ s + plain_at (drop s f)) (c : e
 
 module _ (f : List ℕ) (i : ℕ) (h : i < length f) (s b e : ℕ) (q : get_or f i 0 ≡ 0x22) (g : s ≡ i + 1)
     (t : b ≡ s + plain_at (drop s f)) (c : e ≡ b + closing_at false (drop b f)) where
-  pub open-past : length f ≤ e → ItemAt f i 0 0 0 false true
+  pub open-past : length f ≤ e → lines_at Comma (drop i f) ≡ broken
   open-past = item-open f i (omega arith) h s e q g (end-past f s b e t c)
 
-  pub fine-past : e < length f → (n m : ℕ) (goes bad : Bool) → n ≡ e + 1 → BehindAt f n m goes bad → ItemAt f i s (e - s) (((e - s) + 2) + m) goes bad
+  pub fine-past : e < length f → (n m : ℕ) (goes : Bool) → n ≡ e + 1 → BehindAt f n m goes → ItemAt f i (take (e - s) (drop s f)) (((e - s) + 2) + m) goes
   fine-past = item-fine f i (omega arith) h s e q g (end-past f s b e t c)
 
-pub item-unjudged : (f : List ℕ) (s l : ℕ) → PlainItem f s l false
-item-unjudged f s l = record { converts = λ h. never (sym h) }
+  pub bad-past : e < length f → (n : ℕ) → n ≡ e + 1 → lines_at Quote (drop n f) ≡ broken → lines_at Comma (drop i f) ≡ broken
+  bad-past = item-bad f i (omega arith) h s e q g (end-past f s b e t c)
 
 -- ---- plain bytes, or none, that a quote and a comma close
 and_no : (a b : Bool) → b ≡ false → (a && b) ≡ false
@@ -155,13 +156,13 @@ module _ (f : List ℕ) (p : ℕ) where
           ap (closing_at false) (here 0 f p (omega (arith, comma-in))) ∙ close-stop (get_or f p 0) (drop (p + 1) f) (eq-eqb (get_or f p 0) 0x22 two_bytes.0) comma-first,
         )
 
-    pub comma-item : (i s : ℕ) → i < length f → get_or f i 0 ≡ 0x22 → s ≡ i + 1 → p ≡ s + plain_at (drop s f) → ItemAt f i s (p - s) ((p - s) + 3) true false
+    pub comma-item : (i s : ℕ) → i < length f → get_or f i 0 ≡ 0x22 → s ≡ i + 1 → p ≡ s + plain_at (drop s f) → ItemAt f i (take (p - s) (drop s f)) ((p - s) + 3) true
     comma-item i s h k o t =
         let b = behind-comma f (p + 1) (omega (arith, comma-in)) comma-first comma-in two_bytes.1 in
         let x : ((p - s) + 2) + 1 ≡ (p - s) + 3 = omega arith in
-        rw x at (fine-past f i h s p p k o t closes_here (omega (arith, comma-in)) (p + 1) 1 true false refl b)
+        rw x at (fine-past f i h s p p k o t closes_here (omega (arith, comma-in)) (p + 1) 1 true refl b)
 
-pub comma-plain : (f : List ℕ) (s p : ℕ) → p ≡ s + plain_at (drop s f) → PlainItem f s (p - s) true
+pub comma-plain : (f : List ℕ) (s p : ℕ) → p ≡ s + plain_at (drop s f) → PlainItem (take (p - s) (drop s f)) true
 comma-plain f s p t = record {
   converts = λ h.
       let q : p - s ≡ plain_at (drop s f) = omega arith in

@@ -2,10 +2,11 @@
 use mathlib.Core.Path.{◌≡◌, refl, ap, ◌∙◌}
 use mathlib.Core.Bool.{Bool, true, ◌&&◌}
 use mathlib.Core.List.{List, [], ◌∷◌, map}
-use Prim.Native.Nat.{ℕ, zero, suc, ◌+◌, ◌-◌, ◌≤◌, ◌<◌}
+use Prim.Native.Nat.{ℕ, zero, suc, ◌-◌, ◌<◌}
 use native.Mathlib.Omega.{arith}
 use borrow.Author.Tests.{leb-true}
 use lib.Dec.{leb}
+use lib.ListN.{length}
 use Rattle.rules.specs.declared.Name.{Name}
 use Rattle.rules.specs.declared.Name.TheVariants.{Msh, Pid, Pv1, Spm, Obr, Orc, Obx, Other}
 use Rattle.rules.specs.Lists.{nth, all}
@@ -15,7 +16,8 @@ use Rattle.csv_rules.specs.Quote.{Items}
 use Rattle.csv_rules.specs.Kanji.{characters_at, characters, convertible}
 use Rattle.csv_rules.specs.Columns.{How, text, up_to_blank, past_blank, fifteen, blank, coded, typed, family_of, given_of, fifteen_of, meaning_of, type_of, text_at, value_by, Entry, columns, keys, number_of}
 use Rattle.csv_rules.specs.Raw.{raw_by, raw_keys}
-use Rattle.csv_rows.specs.Rows.{item_at, items_from, row_at, Spans}
+use Rattle.csv_rows.specs.declared.RowItems.{RowItems}
+use Rattle.csv_rows.specs.Rows.{items_of, Firsts}
 
 -- ---- every column of the table is one of the 45
 unfoldable reaches : How → ℕ → Bool
@@ -93,18 +95,6 @@ module _ (r q : Items) (s : (n : ℕ) → n < 45 → nth r n ≡ nth q n) where
   raw-keys-same g = map_same (λ row h n. raw_by h row n) raw_same (columns g) (table-reaches g)
 
 -- ---- a row as it lies in the file
-items-from : (f spans : List ℕ) (k m n : ℕ) → n < m → nth (items_from f spans k m) n ≡ item_at f spans (k + n)
-unfolding items_from
-items-from f spans k zero n h = absurd (omega arith)
-items-from f spans k (suc m) zero h = let e : k ≡ k + 0 = omega arith in ap (item_at f spans) e
-items-from f spans k (suc m) (suc n) h =
-    let e : suc k + n ≡ k + suc n = omega arith in
-    items-from f spans (suc k) m n (omega arith) ∙ ap (item_at f spans) e
-
-pub row-item : (f spans : List ℕ) (n : ℕ) → n < 45 → nth (row_at f spans) n ≡ item_at f spans n
-unfolding row_at
-row-item f spans n h = let e : 0 + n ≡ n = omega arith in items-from f spans 0 45 n h ∙ ap (item_at f spans) e
-
 convertible-none : convertible [] ≡ true
 unfolding convertible characters characters_at all
 convertible-none = refl
@@ -114,29 +104,21 @@ nth-converts [] n h = convertible-none
 nth-converts (x ∷ items) zero h = (all_first convertible x items h).0
 nth-converts (x ∷ items) (suc n) h = nth-converts items n (all_first convertible x items h).1
 
-from-converts : (f spans : List ℕ) → ((n : ℕ) → n < 45 → convertible (item_at f spans n) ≡ true)
-    → (k m : ℕ) → k + m ≤ 45 → all convertible (items_from f spans k m) ≡ true
-unfolding items_from all
-from-converts f spans c k zero h = refl
-from-converts f spans c k (suc m) h =
-    all_cons convertible (item_at f spans k) (items_from f spans (suc k) m)
-    ∙ rw (c k (omega arith), from-converts f spans c (suc k) m (omega arith))
+each-converts : (items : Items) → ((n : ℕ) → n < length items → convertible (nth items n) ≡ true) → all convertible items ≡ true
+unfolding all
+each-converts [] c = refl
+each-converts (x ∷ items) c = all_cons convertible x items ∙ rw (c 0 (omega arith), each-converts items (λ n h. c (suc n) (omega arith)))
 
-module _ (f spans : List ℕ) (items : Items) (p : Spans f spans items) where
-  tied-item : (n : ℕ) → n < 45 → nth (row_at f spans) n ≡ nth items n
-  tied-item n h = row-item f spans n h ∙ p.each n h
+module _ (r : RowItems) (items : Items) (p : Firsts r items) where
+  pub tied-keys : (g : Name) → keys g (items_of r) ≡ keys g items
+  tied-keys g = keys-same (items_of r) items p.each g
 
-  pub tied-keys : (g : Name) → keys g (row_at f spans) ≡ keys g items
-  tied-keys g = keys-same (row_at f spans) items tied-item g
+  pub tied-raw : (g : Name) → raw_keys g (items_of r) ≡ raw_keys g items
+  tied-raw g = raw-keys-same (items_of r) items p.each g
 
-  pub tied-raw : (g : Name) → raw_keys g (row_at f spans) ≡ raw_keys g items
-  tied-raw g = raw-keys-same (row_at f spans) items tied-item g
-
-  pub tied-number : number_of (row_at f spans) ≡ number_of items
+  pub tied-number : number_of (items_of r) ≡ number_of items
   unfolding number_of
-  tied-number = tied-item 6 (omega arith)
+  tied-number = p.each 6 (omega arith)
 
-  pub tied-converts : all convertible items ≡ true → all convertible (row_at f spans) ≡ true
-  unfolding row_at
-  tied-converts h =
-      from-converts f spans (λ n k. rw (p.each n k) (nth-converts items n h)) 0 45 (omega arith)
+  pub tied-converts : all convertible items ≡ true → all convertible (items_of r) ≡ true
+  tied-converts h = each-converts (items_of r) (λ n k. rw (p.each n (omega (arith, p.size))) (nth-converts items n h))

@@ -1,5 +1,5 @@
 -- What is found of the run of rows that begins at a place of a file.
-use Rattle.std.specs.Prelude.{◌≡◌, Bool, true, false, List, [], ◌∷◌, ℕ, ◌+◌, ◌≤◌, length, drop}
+use Rattle.std.specs.Prelude.{◌≡◌, Bool, true, List, [], ◌∷◌, ℕ, ◌+◌, ◌≤◌, length, drop}
 use Rattle.rules.specs.Lists.{all}
 use Rattle.csv_rules.specs.Quote.{cut, is_broken}
 use Rattle.csv_rules.specs.Sheets.{Run, run_lines, row_converts, differ, bytes_in, runs_from}
@@ -18,7 +18,6 @@ pub record Broken (f : List ℕ) (at : ℕ) : Type 0 where
   pub none : runs_from f at ≡ []
   pub broken : is_broken (cut (drop at f)) ≡ true
 
-pub record RunIs (f : List ℕ) (at size : ℕ) (good differs bad : Bool) : Type 0 where
-  pub found : bad ≡ false → Found f at size good differs
-  pub broken : bad ≡ true → Broken f at
+pub record RunIs (f : List ℕ) (at size : ℕ) (good differs : Bool) : Type 0 where
+  pub found : Found f at size good differs
   pub inside : at + size ≤ length f

@@ -1,10 +1,9 @@
 -- What fetch tells after the check, and what its routines find.
-use Rattle.std.specs.Prelude.{◌≡◌, not, ◌||◌, List, ℕ, ◌+◌, ◌-◌, ◌≤◌, eqb, length}
+use Rattle.std.specs.Prelude.{◌≡◌, not, ◌||◌, List, ℕ, ◌+◌, ◌-◌, ◌≤◌, eqb, length, Result, Ok}
+use Rattle.rules.specs.declared.Refusal.{Refusal}
 use Rattle.rules.specs.declared.Delims.{Delims}
 use Rattle.rules.specs.declared.Span.{Span}
-use Rattle.rules.specs.declared.Fetched.{Fetched}
-use Rattle.rules.specs.declared.Fetched.TheVariants as Fetched
-use Rattle.rules.specs.Told.{Told, gives, refuse◌if◌else◌, ◌>>=◌, told_span}
+use Rattle.rules.specs.Told.{Told, gives, refuse◌if◌else◌, ◌>>=◌, told}
 use Rattle.rules.specs.Lists.{nth, split}
 use Rattle.rules.specs.Frame.{known, header_ok, delims_of}
 use Rattle.rules.specs.View.{component_of, first_repetition}
@@ -19,9 +18,9 @@ place_told m o f c =
     (ordinal (known m) o >>= λ k. gives (span_of (delims_of m) k f c))
 
 -- the same of the call, as `Located` says it of fetch
-pub record PlaceFound (m : List ℕ) (o f c : ℕ) (r : Fetched) : Type 0 where
-  pub told : told_span r ≡ place_told m o f c
-  pub within : (p : Span) → r ≡ Fetched.At p → p.start + p.len ≤ length m
+pub record PlaceFound (m : List ℕ) (o f c : ℕ) (r : Result Span Refusal) : Type 0 where
+  pub told : told r ≡ place_told m o f c
+  pub within : (p : Span) → r ≡ Ok p → p.start + p.len ≤ length m
 
 -- ---- the component c of the first repetition of a field, by its place there; of the n-th piece of a segment that starts at `at`
 unfoldable pub part_in : Delims → List ℕ → ℕ → Span

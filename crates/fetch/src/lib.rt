@@ -9,16 +9,15 @@ ghost use Rattle.rules.specs.Fetch.{span_of, stretch, known_of};
 ghost use Rattle.rules.specs.Promises.{Located, PartGiven, StretchGiven};
 ghost use Rattle.fetch.specs.Place.{PlaceFound, part_in, stretch_of};
 
-use rules::{Answer, Delims, Fetched, Found, Kind, KnownSegment, Name, Refusal, Span};
+use rules::{Delims, Kind, KnownSegment, Name, Refusal, Span};
 
 // Where the part stands, or the refusal: the check's own first, then 31, then 30.
-pub fn locate(m: &[u8], ordinal: usize, field: usize, component: usize) -> Fetched
+#[tactic(auto, unfolding(rules::specs::Fetch::fetch_told))]
+pub fn locate(m: &[u8], ordinal: usize, field: usize, component: usize) -> Result<Span, Refusal>
     ensures { Located m.now ordinal field component result }
 {
-    match checks::check(m) {
-        Answer::Refused(r) => Fetched::NotFetched(r),
-        Answer::Accepted(_) => place(m, ordinal, field, component),
-    }
+    checks::check(m)?;
+    place(m, ordinal, field, component)
 }
 
 // The part itself, as the part of m that it is; where it is refused an empty one, at the start.
@@ -29,69 +28,50 @@ pub fn fetch(m: &[u8], ordinal: usize, field: usize, component: usize) -> &[u8]
 }
 
 // The stretch of m that an answer names; an empty one, at the start, where it names none that lies in m.
-pub fn bytes_of(m: &[u8], answer: Fetched) -> &[u8]
+#[tactic(auto, unfolding(rules::specs::Fetch::span_in, rules::specs::Fetch::bytes_at))]
+pub fn bytes_of(m: &[u8], answer: Result<Span, Refusal>) -> &[u8]
     ensures { StretchGiven m.now m.entry.ref_ptr answer result.now result.ref_ptr }
 {
-    match answer {
-        Fetched::NotFetched(_) => &m[..0],
-        Fetched::At(p) => {
-            let start = p.start;
-            let len = p.len;
-            if m.len() < start {
-                return &m[..0];
-            }
-            if m.len() - start < len {
-                return &m[..0];
-            }
-            let end = start + len;
-            &m[start..end]
-        }
+    let Ok(Span { start, len }) = answer else {
+        return &m[..0];
+    };
+    if m.len() < start || m.len() - start < len {
+        return &m[..0];
     }
+    let end = start + len;
+    &m[start..end]
 }
 
 // After the check: where the part stands, or 31, or 30. It takes any bytes.
-pub fn place(m: &[u8], ordinal: usize, field: usize, component: usize) -> Fetched
+#[tactic(auto, unfolding(crate::specs::Place::place_told))]
+pub fn place(m: &[u8], ordinal: usize, field: usize, component: usize) -> Result<Span, Refusal>
     ensures { PlaceFound m.now ordinal field component result }
 {
-    if (field == 0) | (component == 0) {
-        return refused(Kind::Zero);
+    if field == 0 || component == 0 {
+        return Err(Kind::Zero.into());
     }
     if !header::is_header(m) {
-        return refused(Kind::NoOrdinal);
+        return Err(Kind::NoOrdinal.into());
     }
-    match known::known_segment(m, ordinal) {
-        Found::Nothing => refused(Kind::NoOrdinal),
-        Found::At(s) => Fetched::At(part_of(m, header::delims(m), s, field, component)),
-    }
-}
-
-fn refused(kind: Kind) -> Fetched
-    ensures { result ≡ Fetched.NotFetched (record { kind = kind; segment = 0; field = 0 }) }
-{
-    Fetched::NotFetched(Refusal {
-        kind,
-        segment: 0,
-        field: 0,
-    })
+    let segment = known::known_segment(m, ordinal).ok_or(Kind::NoOrdinal)?;
+    Ok(part_of(m, header::delims(m), segment, field, component))
 }
 
 // A component of a field of a segment. In MSH the first separator is itself field 1.
+#[tactic(auto, unfolding(rules::specs::Fetch::span_of, crate::specs::Place::stretch_of, crate::specs::Place::part_in, rules::specs::View::field_of, rules::specs::View::piece_of))]
 fn part_of(m: &[u8], d: Delims, s: KnownSegment, field: usize, component: usize) -> Span
     requires { (1 ≤ field) × (1 ≤ component) × (9 ≤ length m.now) × (s.start + s.len ≤ length m.now) × Proper d }
     ensures value { result ≡ span_of d (known_of m.now s) field component }
     ensures within { result.start + result.len ≤ length m.now }
 {
-    let name = s.name;
-    if !names::is(name, Name::Msh) {
+    if !names::is(s.name, Name::Msh) {
         return component_of(m, d, s, field, component);
     }
-    if field == 1 {
-        return undivided(3, 1, component);
+    match field {
+        1 => undivided(3, 1, component),
+        2 => undivided(4, 4, component),
+        _ => component_of(m, d, s, field - 1, component),
     }
-    if field == 2 {
-        return undivided(4, 4, component);
-    }
-    component_of(m, d, s, field - 1, component)
 }
 
 // "MSH-1 is the separator byte, MSH-2 the four bytes undivided; further components of both are empty."

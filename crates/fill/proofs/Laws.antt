@@ -1,5 +1,5 @@
 -- The laws of writing as far as a lent buffer reaches. Assumes nothing.
-use Prim.Native.Nat.{ℕ, zero, suc, ◌+◌, ◌-◌, ◌≤◌, ◌<◌}
+use Prim.Native.Nat.{ℕ, zero, suc, ◌+◌, ◌-◌, ◌≤◌, ◌<◌, min}
 use native.Mathlib.Nat.{zero-add, suc-add}
 use native.Mathlib.Omega.{arith}
 use mathlib.Core.Path.{◌≡◌, refl, sym, ap, subst, ◌∙◌}
@@ -10,6 +10,7 @@ use borrow.Author.Tests.{eqb-true}
 use lib.Dec.{eqb}
 use lib.ListN.{length, take, drop, length-append}
 use lib.Seq.{take_all, length-take-le}
+use Rattle.std.proofs.lemmas.List.{take_min, drop_min}
 use Rattle.rules.specs.declared.Delims.{Delims}
 use Rattle.rules.specs.Lists.{ended, or_empty}
 use Rattle.rules.specs.Shift.{met, byte_of}
@@ -32,37 +33,26 @@ use Rattle.unescape.specs.declared.NotHeld.TheVariants.{Faulty, Over}
 use Rattle.writer.specs.Over.{Wrote}
 use Rattle.writer.specs.Over as W
 use Rattle.writer.proofs.Laws.{tail_none}
-use Rattle.fill.specs.Fill.{lesser, Filled, fill_at, FilledAt, Lined}
-
--- ---- the lesser of two numbers
-pub least_first : (a b : ℕ) → a < b → a ≡ lesser a b
-unfolding lesser
-least_first zero b h = refl
-least_first (suc a) zero h = absurd (omega arith)
-least_first (suc a) (suc b) h = ap suc (least_first a b (omega arith))
-
-pub least-second : (a b : ℕ) → b ≤ a → b ≡ lesser a b
-unfolding lesser
-least-second zero b h = omega arith
-least-second (suc a) zero h = refl
-least-second (suc a) (suc b) h = ap suc (least-second a b (omega arith))
+use Rattle.fill.specs.declared.Lines.{Lines}
+use Rattle.fill.specs.Fill.{Filled, fill_at, FilledAt, Lined, longest}
+use Rattle.fill.specs.Lines.{Same, Continued}
 
 -- ---- bytes as they are
-fill-over : (s old : List ℕ) → take (lesser (length s) (length old)) s ++ drop (lesser (length s) (length old)) old ≡ fill s old
-unfolding lesser fill
-fill-over [] old = refl
-fill-over (x ∷ s) [] = refl
-fill-over (x ∷ s) (o ∷ old) = ap (λ (l : List ℕ). x ∷ l) (fill-over s old)
+fill-over : (s old : List ℕ) (n : ℕ) → n ≡ min (length s) (length old) → take n s ++ drop n old ≡ fill s old
+unfolding fill
+fill-over [] old zero e = refl
+fill-over [] old (suc n) e = absurd (omega arith)
+fill-over (x ∷ s) [] zero e = refl
+fill-over (x ∷ s) [] (suc n) e = absurd (omega arith)
+fill-over (x ∷ s) (o ∷ old) zero e = absurd (omega arith)
+fill-over (x ∷ s) (o ∷ old) (suc n) e = ap (λ (l : List ℕ). x ∷ l) (fill-over s old n (omega arith))
 
-pub put-fills : (s old x : List ℕ) (n k : ℕ) → n ≡ lesser (length s) (length old) → (n ≤ length s) × (n ≤ length old) → Wrote k x (take n s) old → Filled (length s) x s old
+pub put_fills : (s old x : List ℕ) (n k : ℕ) → n ≡ min (length s) (length old) → Wrote k x (take n s) old → Filled (length s) x s old
 unfolding W.over_front
-put-fills s old x n k e h w = record {
-  ends = refl;
-  is = w.is ∙ rw (length-take-le n s h.0, e) (fill-over s old);
-}
+put_fills s old x n k e w = record { ends = refl; is = w.is ∙ rw (length-take-le n s (omega arith)) (fill-over s old n e) }
 
-pub prefix-room : (s old : List ℕ) (n : ℕ) → (n ≤ length s) × (n ≤ length old) → length (take n s) ≤ length old
-prefix-room s old n h = omega (arith, length-take-le n s h.0, h.1)
+pub prefix_room : (s old : List ℕ) (n : ℕ) → n ≡ min (length s) (length old) → length (take n s) ≤ length old
+prefix_room s old n e = omega (arith, length-take-le n s (omega arith))
 
 -- ---- a value is no longer than its component
 module _ (d : Delims) (raw : List ℕ) where
@@ -121,21 +111,21 @@ length-fill [] old = refl
 length-fill (x ∷ w) [] = refl
 length-fill (x ∷ w) (o ∷ old) = ap suc (length-fill w old)
 
-fill_more : (w b old : List ℕ) → take (lesser (length w) (length old)) (fill w old) ++ fill b (drop (lesser (length w) (length old)) (fill w old)) ≡ fill (w ++ b) old
-unfolding lesser fill
+fill_more : (w b old : List ℕ) → take (length w) (fill w old) ++ fill b (drop (length w) (fill w old)) ≡ fill (w ++ b) old
+unfolding fill
 fill_more [] b old = refl
 fill_more (x ∷ w) b [] = fill-nil b
 fill_more (x ∷ w) b (o ∷ old) = ap (λ (l : List ℕ). x ∷ l) (fill_more w b old)
 
 -- the buffer once what is left of it from a place on, which was lent to a routine, is back
-pub back : (x y b : List ℕ) (at f r : ℕ) → f ≡ lesser at (length x) → Filled r y b (take (length x - f) (drop f x))
+pub back : (x y b : List ℕ) (at f r : ℕ) → f ≡ min at (length x) → Filled r y b (take (length x - f) (drop f x))
     → FilledAt at x b (at + r) (take f x ++ (y ++ drop (length x - f) (drop f x)))
 unfolding fill_at
-back x y b at f r e q = record { ends = omega (arith, q.ends); is = rw (q.is, rest-is, tail_none, append-nil, e) }
+back x y b at f r e q = record { ends = omega (arith, q.ends); is = rw (q.is, rest-is, tail_none, append-nil, e, take_min, drop_min) }
 
 pub add_twice : (at : ℕ) (b c x : List ℕ) → fill_at (at + length b) c (fill_at at b x) ≡ fill_at at (b ++ c) x
-unfolding fill_at lesser
-add_twice zero b c x = rw (zero-add, length-fill b x) (fill_more b c x)
+unfolding fill_at
+add_twice zero b c x = rw zero-add (fill_more b c x)
 add_twice (suc at) b c [] = rw (fill-nil b, suc-add) (rw (fill-nil c, fill-nil (b ++ c)))
 add_twice (suc at) b c (o ∷ x) = rw suc-add (ap (λ (l : List ℕ). o ∷ l) (add_twice at b c x))
 
@@ -145,19 +135,32 @@ add-then {at} {r} {k} {x} {y} {z} {b} {c} p q = record {
   is = q.is ∙ rw (p.ends, p.is) (add_twice at b c x);
 }
 
-pub line-is : (at a b r : ℕ) (x y z w k v n : List ℕ) → FilledAt at x k a y → FilledAt a y v b z → FilledAt b z n r w → n ≡ 0x0A ∷ [] → Lined at x ((k ++ v) ∷ []) r w
-unfolding ended
-line-is at a b r x y z w k v n p q s e = record { filled = rw e at (add-then (add-then p q) s) }
-
-pub blank-is : (at r : ℕ) (x y k v : List ℕ) → v ≡ [] → Lined at x ((k ++ v) ∷ []) r y → Lined at x (k ∷ []) r y
-blank-is at r x y k v e p = rw (e, append-nil) at p
-
 pub lined_then : {at r k : ℕ} {x y z : List ℕ} {ls ms : List (List ℕ)} → Lined at x ls r y → Lined r y ms k z → Lined at x (ls ++ ms) k z
 lined_then {ls = ls} {ms} p q = record { filled = rw (ended-append 0x0A ls ms) (add-then p.filled q.filled) }
 
-module _ (at r k : ℕ) (x y z a b : List ℕ) where
-  pub two_is : Lined at x (a ∷ []) r y → Lined r y (b ∷ []) k z → Lined at x (a ∷ b ∷ []) k z
-  two_is p q = lined_then p q
+-- ---- lines where they are written
+pub same_then : {l m n : Lines} → Same l m → Same m n → Same l n
+same_then p q = record { out = q.out ∙ p.out; delims = q.delims ∙ p.delims }
 
-  pub three-is : (c : List ℕ) → Lined at x (a ∷ b ∷ []) r y → Lined r y (c ∷ []) k z → Lined at x (a ∷ b ∷ c ∷ []) k z
-  three-is c p q = lined_then p q
+-- a key, a value and 0A are a line
+pub line_is : {l m n o : Lines} (k e : List ℕ) (v : Delims → List ℕ) → Same l m → Same m n → Same n o → FilledAt l.at l.out.now k m.at m.out.now
+    → FilledAt m.at m.out.now (v m.delims) n.at n.out.now → FilledAt n.at n.out.now e o.at o.out.now → e ≡ 0x0A ∷ [] → o.at ≤ l.at + longest 1
+    → Continued 1 l o (λ d. (k ++ v d) ∷ [])
+unfolding ended
+line_is k e v s t u p q r i w = record {
+  same = same_then s (same_then t u);
+  lined = record { filled = rw (s.delims, i) at (add-then (add-then p q) r) };
+  within = w;
+}
+
+-- lines behind lines
+pub then : {a b : ℕ} {l m n : Lines} {f g : Delims → List (List ℕ)} → Continued a l m f → Continued b m n g → Continued (a + b) l n (λ d. f d ++ g d)
+then {g = g} p q = record {
+  same = same_then p.same q.same;
+  lined = lined_then p.lined (rw p.same.delims at q.lined);
+  within = omega (arith, p.within, q.within);
+}
+
+-- lines by their texts
+pub lines_as : {n : ℕ} {l m : Lines} {f g : Delims → List (List ℕ)} → Continued n l m f → f l.delims ≡ g l.delims → Continued n l m g
+lines_as p e = record { same = p.same; lined = rw e at p.lined; within = p.within }

@@ -1,15 +1,9 @@
 -- Writing as far as a lent buffer reaches. A write tells how long its text is, so that a write into nothing measures it.
-use Rattle.std.specs.Prelude.{◌≡◌, List, ◌++◌, ℕ, zero, suc, ◌+◌, ◌*◌, ◌<◌, length, take, drop}
+use Rattle.std.specs.Prelude.{◌≡◌, List, ◌++◌, ℕ, ◌+◌, ◌*◌, ◌<◌, length, take, drop}
 use Rattle.rules.specs.declared.Delims.{Delims}
 use Rattle.rules.specs.Lists.{ended}
 use Rattle.rules.specs.Judge.{plain_of}
 use Rattle.unescape.specs.Unescaped.{fill}
-
--- the lesser of two numbers
-unfoldable pub lesser : ℕ → ℕ → ℕ
-lesser zero n = 0
-lesser (suc a) zero = 0
-lesser (suc a) (suc n) = suc (lesser a n)
 
 -- a text w over old's front, as far as old reaches: r is how long it is, x what it leaves
 pub record Filled (r : ℕ) (x w old : List ℕ) : Type 0 where
@@ -18,7 +12,7 @@ pub record Filled (r : ℕ) (x w old : List ℕ) : Type 0 where
 
 -- a text b over x from at on, as far as x reaches: it ends at r, and leaves y
 unfoldable pub fill_at : ℕ → List ℕ → List ℕ → List ℕ
-fill_at at b x = take (lesser at (length x)) x ++ fill b (drop (lesser at (length x)) x)
+fill_at at b x = take at x ++ fill b (drop at x)
 
 pub record FilledAt (at : ℕ) (x b : List ℕ) (r : ℕ) (y : List ℕ) : Type 0 where
   pub ends : r ≡ at + length b

@@ -1,4 +1,4 @@
-// The lines of a sheet, written as far as the lent buffer reaches. Each routine tells how long its text is, whatever the room: lent nothing, it
+// The lines of a sheet, written as far as the lent buffer reaches. Each routine goes as far as its text is long, whatever the room: lent nothing, it
 // measures.
 #![tactic(auto)]
 
@@ -6,127 +6,98 @@ ghost use Rattle.std.specs.Prelude.{◌≡◌, [], ◌∷◌, ◌++◌, ◌+◌,
 ghost use Rattle.rules.specs.Shift.{met};
 ghost use Rattle.rules.specs.Proper.{Proper};
 ghost use Rattle.rules.specs.Judge.{plain_of};
-ghost use Rattle.fill.specs.Fill.{lesser, Filled, FilledAt, Lined, keyed, longest, Near};
+ghost use Rattle.fill.specs.Fill.{Filled, FilledAt, Near, keyed};
 
 use rules::Delims;
-
-// The lesser of two numbers.
-pub fn lesser(a: usize, b: usize) -> usize
-    ensures value { result ≡ lesser a b }
-    ensures within { (result ≤ a) × (result ≤ b) }
-{
-    if a < b { a } else { b }
-}
+use sources::Part;
 
 // Bytes as they are.
+#[tactic(auto, using(crate::proofs::Laws::prefix_room, crate::proofs::Laws::put_fills))]
 fn put(out: &mut [u8], bytes: &[u8]) -> usize
     ensures { Filled result out.new bytes.now out.old }
 {
-    let n = lesser(bytes.len(), out.len());
+    let n = bytes.len().min(out.len());
     writer::put(out, &bytes[..n]);
     bytes.len()
 }
 
 // A component of a segment without its escapes; nothing where it has a bad one.
-pub fn text(out: &mut [u8], raw: &[u8], d: Delims) -> usize
-    requires { Proper d × (length raw.now ≤ 4096) }
-    ensures filled { Filled result out.new (plain_of d (met raw.now)) out.old }
-    ensures within { result ≤ length raw.now }
+pub fn text(out: &mut [u8], raw: Part<'_>, d: Delims) -> usize
+    requires { Proper d }
+    ensures filled { Filled result out.new (plain_of d (met raw.entry.text.now)) out.old }
+    ensures within { result ≤ length raw.entry.text.now }
 {
-    let c = scan::first(raw, d);
-    if c.clean & (c.len == raw.len()) {
-        return put(out, raw);
+    let c = scan::first(raw.text, d);
+    if c.clean & (c.len == raw.text.len()) {
+        return put(out, raw.text);
     }
     let mut buf = [0u8; 4096];
-    match unescape::unescape_into(raw, d, &mut buf) {
+    match unescape::unescape_into(raw.text, d, &mut buf) {
         Ok(n) => put(out, &buf[..n]),
         Err(_) => 0,
     }
 }
 
-// ---- from a place on
-
-fn put_at(out: &mut [u8], at: usize, bytes: &[u8]) -> usize
-    requires { at + length bytes.now < 18446744073709551616 }
-    ensures { FilledAt at out.old bytes.now result out.new }
-{
-    let from = lesser(at, out.len());
-    at + put(&mut out[from..], bytes)
+// Lines as they are written: over what is lent, as far as it reaches. The next line begins at `at`.
+#[derive(Drop)]
+pub struct Lines<'a> {
+    pub out: &'a mut [u8],
+    pub at: usize,
+    pub delims: Delims,
+    ghost proper: { Proper delims },
 }
 
-fn text_at(out: &mut [u8], at: usize, raw: &[u8], d: Delims) -> usize
-    requires { Proper d × (length raw.now ≤ 4096) × (at + length raw.now < 18446744073709551616) }
-    ensures filled_at { FilledAt at out.old (plain_of d (met raw.now)) result out.new }
-    ensures within { result ≤ at + length raw.now }
-{
-    let from = lesser(at, out.len());
-    at + text(&mut out[from..], raw, d)
-}
+impl<'a> Lines<'a> {
+    ghost use Rattle.fill.specs.Lines.{Same, Continued};
 
-// A line: its key with `=`, its value, 0A.
-pub fn line(out: &mut [u8], at: usize, key: &[u8], raw: &[u8], d: Delims) -> usize
-    requires { Proper d × (length key.now ≤ 16) × (length raw.now ≤ 4096) × Near 1 at }
-    ensures lined { Lined at out.old (keyed d key.now (met raw.now) ∷ []) result out.new }
-    ensures within { result ≤ at + longest 1 }
-{
-    let at = put_at(out, at, key);
-    let at = text_at(out, at, raw, d);
-    put_at(out, at, b"\n")
-}
+    // Bytes as they are, behind those that stand already.
+    #[tactic(auto, using(crate::proofs::Laws::back))]
+    fn put(&mut self, bytes: &[u8])
+        requires { self.old.at + length bytes.now < 18446744073709551616 }
+        ensures same { Same self.old self.new }
+        ensures filled { FilledAt self.old.at self.old.out.now bytes.now self.new.at self.new.out.now }
+    {
+        let from = self.at.min(self.out.len());
+        self.at += put(&mut self.out[from..], bytes);
+    }
 
-// A line whose value is written as it is.
-pub fn line_as_is(out: &mut [u8], at: usize, key: &[u8], value: &[u8]) -> usize
-    requires { (length key.now ≤ 16) × (length value.now ≤ 4096) × Near 1 at }
-    ensures lined { Lined at out.old ((key.now ++ value.now) ∷ []) result out.new }
-    ensures within { result ≤ at + longest 1 }
-{
-    let at = put_at(out, at, key);
-    let at = put_at(out, at, value);
-    put_at(out, at, b"\n")
-}
+    // A component without its escapes.
+    #[tactic(auto, using(crate::proofs::Laws::back))]
+    fn text(&mut self, raw: Part<'_>)
+        requires { self.old.at + length raw.text.now < 18446744073709551616 }
+        ensures same { Same self.old self.new }
+        ensures filled { FilledAt self.old.at self.old.out.now (plain_of self.old.delims (met raw.entry.text.now)) self.new.at self.new.out.now }
+        ensures within { self.new.at ≤ self.old.at + length raw.entry.text.now }
+    {
+        let from = self.at.min(self.out.len());
+        self.at += text(&mut self.out[from..], raw, self.delims);
+    }
 
-// A line whose value is blank.
-pub fn blank_line(out: &mut [u8], at: usize, key: &[u8]) -> usize
-    requires { (length key.now ≤ 16) × Near 1 at }
-    ensures lined { Lined at out.old (key.now ∷ []) result out.new }
-    ensures within { result ≤ at + longest 1 }
-{
-    line_as_is(out, at, key, b"")
-}
+    // A line: its key with `=`, its value, 0A.
+    pub fn line(&mut self, key: &[u8], raw: Part<'_>)
+        requires { (length key.now ≤ 16) × Near 1 self.old.at }
+        ensures { Continued 1 self.old self.new (λ d. keyed d key.now (met raw.entry.text.now) ∷ []) }
+    {
+        self.put(key);
+        self.text(raw);
+        self.put(b"\n");
+    }
 
-// Two lines, or three: the keys j, k and l with the components a, b and c.
-pub fn two_lines<'a>(
-    out: &mut [u8],
-    at: usize,
-    j: &'a [u8],
-    a: &'a [u8],
-    k: &'a [u8],
-    b: &'a [u8],
-    d: Delims,
-) -> usize
-    requires { Proper d × (length j.now ≤ 16) × (length a.now ≤ 4096) × (length k.now ≤ 16) × (length b.now ≤ 4096) × Near 2 at }
-    ensures lined { Lined at out.old (keyed d j.now (met a.now) ∷ keyed d k.now (met b.now) ∷ []) result out.new }
-    ensures within { result ≤ at + longest 2 }
-{
-    let at = line(out, at, j, a, d);
-    line(out, at, k, b, d)
-}
+    // A line whose value is written as it is.
+    pub fn line_as_is(&mut self, key: &[u8], value: &[u8])
+        requires { (length key.now ≤ 16) × (length value.now ≤ 4096) × Near 1 self.old.at }
+        ensures { Continued 1 self.old self.new (λ d. (key.now ++ value.now) ∷ []) }
+    {
+        self.put(key);
+        self.put(value);
+        self.put(b"\n");
+    }
 
-pub fn three_lines<'a>(
-    out: &mut [u8],
-    at: usize,
-    j: &'a [u8],
-    a: &'a [u8],
-    k: &'a [u8],
-    b: &'a [u8],
-    l: &'a [u8],
-    c: &'a [u8],
-    d: Delims,
-) -> usize
-    requires { Proper d × (length j.now ≤ 16) × (length a.now ≤ 4096) × (length k.now ≤ 16) × (length b.now ≤ 4096) × (length l.now ≤ 16) × (length c.now ≤ 4096) × Near 3 at }
-    ensures lined { Lined at out.old (keyed d j.now (met a.now) ∷ keyed d k.now (met b.now) ∷ keyed d l.now (met c.now) ∷ []) result out.new }
-    ensures within { result ≤ at + longest 3 }
-{
-    let at = two_lines(out, at, j, a, k, b, d);
-    line(out, at, l, c, d)
+    // A line whose value is blank.
+    pub fn blank_line(&mut self, key: &[u8])
+        requires { (length key.now ≤ 16) × Near 1 self.old.at }
+        ensures { Continued 1 self.old self.new (λ d. key.now ∷ []) }
+    {
+        self.line_as_is(key, b"");
+    }
 }

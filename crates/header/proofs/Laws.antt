@@ -1,28 +1,26 @@
 -- Laws of the header: one for each way through its code. Assumes nothing.
+use Rattle.std.specs.List.{list_any}
 use mathlib.Core.Path.{◌≡◌, refl, sym, ap, ◌∙◌}
 use mathlib.Core.Bool.{Bool, true, false, not, ◌&&◌, ◌||◌}
-use mathlib.Core.List.{List}
-use Prim.Native.Nat.{ℕ, ◌+◌, ◌≤◌, ◌<◌}
-use borrow.Author.Tests.{eq-eqb, ne_eqb, le-leb, lt-leb}
+use mathlib.Core.List.{List, [], ◌∷◌}
+use Prim.Native.Nat.{ℕ, ◌≤◌, ◌<◌}
+use borrow.Author.Tests.{le-leb, lt-leb}
 use lib.Dec.{eqb}
-use lib.ListN.{length, get_or, drop}
+use lib.ListN.{length, get_or}
 use Rattle.rules.specs.declared.Delims.{Delims}
 use Rattle.rules.specs.Lists.{bytes, starts, all, has, distinct}
 use Rattle.rules.specs.Frame.{delims_of, five_of, twelve, delims_ok, header_ok}
 use Rattle.rules.proofs.Logic.{not-false, and-true, and_assoc, or-false}
-use Rattle.rules.proofs.Lists.{here, over, all_cons, has-cons, has-nil, has_here, has_there}
+use Rattle.rules.proofs.Lists.{all_cons, has-cons, has-nil}
 use Rattle.rules.proofs.Header.{header}
 
--- ---- a byte in a list
-module _ (x : ℕ) (s : List ℕ) (i : ℕ) (inv : has x s ≡ has x (drop i s)) where
-  pub has-found : i < length s → get_or s i 0 ≡ x → true ≡ has x s
-  has-found h e = sym (inv ∙ ap (has x) (here 0 s i h) ∙ has_here x (get_or s i 0) (drop (i + 1) s) (eq-eqb (get_or s i 0) x e))
+-- ---- a byte in a list, in the library's word
+any-is : (x : ℕ) (s : List ℕ) → list_any (λ b. eqb b x) s ≡ has x s
+any-is x [] = sym (has-nil x)
+any-is x (b ∷ s) = ap (λ t. eqb b x || t) (any-is x s) ∙ sym (has-cons x b s)
 
-  pub has_on : i < length s → (get_or s i 0 ≡ x → ⊥) → has x s ≡ has x (drop (i + 1) s)
-  has_on h e = inv ∙ ap (has x) (here 0 s i h) ∙ has_there x (get_or s i 0) (drop (i + 1) s) (ne_eqb (get_or s i 0) x e)
-
-  pub has-over : length s ≤ i → false ≡ has x s
-  has-over h = sym (inv ∙ ap (has x) (over s i h) ∙ has-nil x)
+pub has_by : (x : ℕ) (s : List ℕ) (r : Bool) → r ≡ list_any (λ b. eqb b x) s → r ≡ has x s
+has_by x s r e = e ∙ any-is x s
 
 -- ---- the delimiters
 pub different-is : (d : Delims)

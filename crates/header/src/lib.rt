@@ -1,8 +1,8 @@
 // 11. "The first nine bytes are `MSH`, five different delimiters and the first of these again."
-#![tactic(auto)]
+#![tactic(auto, unfolding(rules::specs::Frame::delims_of))]
 
 ghost use Rattle.std.specs.Prelude.{◌≡◌, ◌≤◌, length};
-ghost use Rattle.rules.specs.Lists.{has, distinct};
+ghost use Rattle.rules.specs.Lists.{distinct};
 ghost use Rattle.rules.specs.Frame.{delims_of, delims_ok, five_of, header_ok};
 
 use rules::Delims;
@@ -38,11 +38,11 @@ pub fn delims(m: &[u8]) -> Delims
 fn delims_ok(d: Delims) -> bool
     ensures { result ≡ delims_ok d }
 {
-    has_byte(&DELIMITERS, d.field)
-        & has_byte(&DELIMITERS, d.component)
-        & has_byte(&DELIMITERS, d.repetition)
-        & has_byte(&DELIMITERS, d.escape)
-        & has_byte(&DELIMITERS, d.sub)
+    DELIMITERS.contains(&d.field)
+        & DELIMITERS.contains(&d.component)
+        & DELIMITERS.contains(&d.repetition)
+        & DELIMITERS.contains(&d.escape)
+        & DELIMITERS.contains(&d.sub)
         & different(d)
 }
 
@@ -59,17 +59,4 @@ fn different(d: Delims) -> bool
         & (d.escape != d.repetition)
         & (d.sub != d.repetition)
         & (d.sub != d.escape)
-}
-
-fn has_byte(s: &[u8], x: u8) -> bool
-    ensures { result ≡ has x s.now }
-{
-    let mut i = 0;
-    while i < s.len() {
-        if s[i] == x {
-            return true;
-        }
-        i += 1;
-    }
-    false
 }

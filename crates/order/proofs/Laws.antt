@@ -21,27 +21,29 @@ module _ (a : Frame.Reached) (b : Name) (t : Bool) where
   unfolding may_follow
   one x y f e h = h ∙ sym (rw (e, f, any-cons (is b) y [], any-nil (is b)) (or-false (is b y)))
 
-  pub first-msh : a.last ≡ Other → t ≡ is b Msh → t ≡ may_follow a b
-  first-msh e h = one Other Msh refl e h
+  pub first_msh : a.last ≡ Other → t ≡ is b Msh → t ≡ may_follow a b
+  first_msh e h = one Other Msh refl e h
 
-  pub msh-pid : a.last ≡ Msh → t ≡ is b Pid → t ≡ may_follow a b
-  msh-pid e h = one Msh Pid refl e h
+  pub msh_pid : a.last ≡ Msh → t ≡ is b Pid → t ≡ may_follow a b
+  msh_pid e h = one Msh Pid refl e h
 
-  pub pid-pv1 : a.last ≡ Pid → t ≡ is b Pv1 → t ≡ may_follow a b
-  pid-pv1 e h = one Pid Pv1 refl e h
+  pub pid_pv1 : a.last ≡ Pid → t ≡ is b Pv1 → t ≡ may_follow a b
+  pid_pv1 e h = one Pid Pv1 refl e h
 
-  pub pv1-spm : a.last ≡ Pv1 → t ≡ is b Spm → t ≡ may_follow a b
-  pv1-spm e h = one Pv1 Spm refl e h
+  pub pv1_spm : a.last ≡ Pv1 → t ≡ is b Spm → t ≡ may_follow a b
+  pv1_spm e h = one Pv1 Spm refl e h
 
-  pub spm-obr : a.last ≡ Spm → t ≡ is b Obr → t ≡ may_follow a b
-  spm-obr e h = one Spm Obr refl e h
+  pub spm_obr : a.last ≡ Spm → t ≡ is b Obr → t ≡ may_follow a b
+  spm_obr e h = one Spm Obr refl e h
 
-  pub obr-orc : a.last ≡ Obr → t ≡ is b Orc → t ≡ may_follow a b
-  obr-orc e h = one Obr Orc refl e h
+  pub obr_orc : a.last ≡ Obr → t ≡ is b Orc → t ≡ may_follow a b
+  obr_orc e h = one Obr Orc refl e h
 
-  pub orc-obx : a.last ≡ Orc → t ≡ is b Obx → t ≡ may_follow a b
-  orc-obx e h = one Orc Obx refl e h
+  pub orc_obx : a.last ≡ Orc → t ≡ is b Obx → t ≡ may_follow a b
+  orc_obx e h = one Orc Obx refl e h
 
-pub after-obx : (a : Frame.Reached) (b : Name) (t u v : Bool) → a.last ≡ Obx → t ≡ is b Obx → u ≡ is b Obr → v ≡ is b Spm → ((t || u) || v) ≡ may_follow a b
+pub after_obx : (a : Frame.Reached) (b : Name) (t u v : Bool) → a.last ≡ Obx → t ≡ is b Obx → u ≡ is b Obr → v ≡ is b Spm → ((t || u) || v) ≡ may_follow a b
 unfolding may_follow
-after-obx a b t u v e f g h = rw (e, f, g, h) (sym (simp (any-cons, any-nil, or-false, or_assoc)))
+after_obx a b t u v e f g h = rw (e, f, g, h) (sym (simp (any-cons, any-nil, or-false, or_assoc)))
+
+pub ruleset follows = (first_msh, msh_pid, pid_pv1, pv1_spm, spm_obr, obr_orc, orc_obx, after_obx)

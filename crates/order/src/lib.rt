@@ -1,5 +1,5 @@
 // "MSH PID PV1, then one or more specimens: SPM and one or more orders: OBR ORC and one or more OBX."
-#![tactic(auto)]
+#![tactic(auto, using(crate::proofs::Laws::follows), unfolding(rules::specs::Frame::past, rules::specs::Frame::may_end))]
 
 ghost use Rattle.std.specs.Prelude.{◌≡◌};
 ghost use Rattle.rules.specs.Frame.{start, past, may_follow, may_end};
@@ -30,16 +30,15 @@ pub fn past(a: Reached, b: Name) -> Reached
 pub fn may_follow(a: Reached, b: Name) -> bool
     ensures { result ≡ may_follow (reached_of a) b }
 {
-    let last = a.last;
-    match last {
-        Name::Other => names::is(b, Name::Msh),
-        Name::Msh => names::is(b, Name::Pid),
-        Name::Pid => names::is(b, Name::Pv1),
-        Name::Pv1 => names::is(b, Name::Spm),
-        Name::Spm => names::is(b, Name::Obr),
-        Name::Obr => names::is(b, Name::Orc),
-        Name::Orc => names::is(b, Name::Obx),
-        Name::Obx => names::is(b, Name::Obx) | names::is(b, Name::Obr) | names::is(b, Name::Spm),
+    match a.last {
+        Name::Other => b == Name::Msh,
+        Name::Msh => b == Name::Pid,
+        Name::Pid => b == Name::Pv1,
+        Name::Pv1 => b == Name::Spm,
+        Name::Spm => b == Name::Obr,
+        Name::Obr => b == Name::Orc,
+        Name::Orc => b == Name::Obx,
+        Name::Obx => (b == Name::Obx) | (b == Name::Obr) | (b == Name::Spm),
     }
 }
 
@@ -47,6 +46,5 @@ pub fn may_follow(a: Reached, b: Name) -> bool
 pub fn may_end(a: Reached) -> bool
     ensures { result ≡ may_end (reached_of a) }
 {
-    let last = a.last;
-    names::is(last, Name::Obx)
+    a.last == Name::Obx
 }

@@ -3,26 +3,21 @@
 
 ghost use Rattle.rules.specs.Promises.{TextWritten};
 
-use rules::{Fetched, Written};
+use rules::Refusal;
 
 // Writes the text of a part into the lent buffer: how many bytes it has, or the refusal, which leaves the buffer: those of `locate`, then 23 for a bad escape or an
 // unescaped subcomponent separator, then 45.
+#[tactic(auto, unfolding(rules::specs::Fetch::text_told, rules::specs::Fetch::part_told))]
 pub fn part_text(
     m: &[u8],
     ordinal: usize,
     field: usize,
     component: usize,
     out: &mut [u8],
-) -> Written
+) -> Result<usize, Refusal>
     ensures { TextWritten m.now ordinal field component out.old result out.new }
 {
-    let answer = fetch::locate(m, ordinal, field, component);
-    match answer {
-        Fetched::NotFetched(r) => Written::NotWritten(r),
-        Fetched::At(_) => {
-            let raw = fetch::bytes_of(m, answer);
-            let d = header::delims(m);
-            text::text_of(raw, d, ordinal, field, out)
-        }
-    }
+    let part = fetch::locate(m, ordinal, field, component)?;
+    let raw = fetch::bytes_of(m, Ok(part));
+    text::text_of(raw, header::delims(m), ordinal, field, out)
 }

@@ -4,6 +4,7 @@
 ghost use Rattle.std.specs.Prelude.{[], ◌∷◌, ◌≤◌, length};
 ghost use Rattle.reach.specs.Reach.{Adds};
 
+#[tactic(auto, using(crate::proofs::Laws::byte_in, crate::proofs::Laws::byte_out))]
 pub fn put_byte(out: &mut [u8], at: usize, b: u8) -> usize
     requires { at ≤ length out.old }
     ensures { Adds at out.old (b ∷ []) result out.new }
@@ -15,11 +16,12 @@ pub fn put_byte(out: &mut [u8], at: usize, b: u8) -> usize
     at
 }
 
+#[tactic(auto, using(crate::proofs::Laws::rest_room))]
 pub fn put(out: &mut [u8], at: usize, bytes: &[u8]) -> usize
     requires { at ≤ length out.old }
     ensures { Adds at out.old bytes.now result out.new }
 {
-    let n = fill::lesser(bytes.len(), out.len() - at);
+    let n = bytes.len().min(out.len() - at);
     writer::put(&mut out[at..], &bytes[..n]);
     at + n
 }

@@ -1,51 +1,58 @@
 -- The laws of the lines of MSH, PV1, SPM and OBR. Assumes nothing.
 use Prim.Native.Nat.{ℕ}
-use mathlib.Core.Path.{◌≡◌}
+use mathlib.Core.Path.{◌≡◌, refl}
 use mathlib.Core.List.{List, [], ◌∷◌, ◌++◌}
-use Rattle.rules.specs.declared.Delims.{Delims}
 use Rattle.rules.specs.declared.Name.TheVariants.{Msh, Pv1, Spm, Obr}
 use Rattle.rules.specs.Lists.{bytes}
 use Rattle.rules.specs.Shift.{met}
-use Rattle.rules.specs.Proper.{Proper}
 use Rattle.plain_bytes.specs.Bytes.{until}
 use Rattle.scan.specs.Scan.{ends, onward}
-use Rattle.fill.specs.Fill.{Lined, keyed}
-use Rattle.fill.proofs.Laws.{lined_then}
+use Rattle.fill.specs.declared.Lines.{Lines}
+use Rattle.fill.specs.Fill.{keyed}
+use Rattle.fill.specs.Lines.{Continued}
+use Rattle.fill.proofs.Laws.{then, lines_as}
 use Rattle.sources.specs.Sources.{lines_of_body}
 use Rattle.sources.proofs.Table.{first-is, tables, on, field_at, later}
 use Rattle.report.specs.Report.{from_sent, field_lines}
 
 -- ---- MSH
-pub from-sent-is : (d : Delims) (at r : ℕ) (x y t u w a b c j k l : List ℕ) → met a ≡ until (ends d) (met t) → met b ≡ until (ends d) (met u) → met c ≡ until (ends d) (met w)
-    → met u ≡ onward d.field 3 (met t) → met w ≡ onward d.field 1 (met u) → j ≡ bytes "mode=" → k ≡ bytes "sent=" → l ≡ bytes "control="
-    → Lined at x (keyed d j (met c) ∷ keyed d k (met a) ∷ keyed d l (met b) ∷ []) r y → Lined at x (from_sent d (met t)) r y
+pub from_sent_is : (l m n o : Lines) (t u w a b c i j k : List ℕ)
+    → Continued 1 l m (λ d. keyed d i (met c) ∷ []) → Continued 1 m n (λ d. keyed d j (met a) ∷ []) → Continued 1 n o (λ d. keyed d k (met b) ∷ [])
+    → met a ≡ until (ends l.delims) (met t) → met u ≡ onward l.delims.field 3 (met t) → met b ≡ until (ends l.delims) (met u)
+    → met w ≡ onward l.delims.field 1 (met u) → met c ≡ until (ends l.delims) (met w)
+    → i ≡ bytes "mode=" → j ≡ bytes "sent=" → k ≡ bytes "control=" → Continued 3 l o (λ d. from_sent d (met t))
 unfolding from_sent onward
-from-sent-is d at r x y t u w a b c j k l fa fb fc e f g h i p = rw (g, h, i, fa, later d t u b 3 e fb, later d t w c 4 (on d t u w 3 1 e f) fc) at p
+from_sent_is l m n o t u w a b c i j k p q r ea eu eb ew ec ei ej ek =
+    lines_as (then (then p q) r)
+    (rw (ei, ej, ek, ea, later l.delims t u b 3 eu eb, later l.delims t w c 4 (on l.delims t u w 3 1 eu ew) ec) refl)
 
-pub header_is : (d : Delims) (s t x y z k v : List ℕ) (r i : ℕ) → Proper d → met t ≡ onward d.field 6 (met s) → k ≡ bytes "version=" → v ≡ bytes "1"
-    → Lined 0 x ((k ++ v) ∷ []) r y → Lined r y (from_sent d (met t)) i z → Lined 0 x (lines_of_body d Msh (met s)) i z
+pub header_is : (l m n : Lines) (s t k v : List ℕ) → Continued 1 l m (λ d. (k ++ v) ∷ []) → Continued 3 m n (λ d. from_sent d (met t))
+    → met t ≡ onward l.delims.field 6 (met s) → k ≡ bytes "version=" → v ≡ bytes "1" → Continued 4 l n (λ d. lines_of_body d Msh (met s))
 unfolding tables from_sent
-header_is d s t x y z k v r i q f g h p o = rw (g, h, field_at d q s t 6 4 f, field_at d q s t 6 0 f, field_at d q s t 6 3 f) at (lined_then p o)
+header_is l m n s t k v p q e f g =
+    lines_as (then p q)
+    (rw (f, g, field_at l.delims l.proper s t 6 4 e, field_at l.delims l.proper s t 6 0 e, field_at l.delims l.proper s t 6 3 e) refl)
 
 -- ---- PV1
-pub visit-is : (d : Delims) (s t class k x y : List ℕ) (r : ℕ) → Proper d → met t ≡ onward d.field 2 (met s) → met class ≡ until (ends d) (met t)
-    → k ≡ bytes "class=" → Lined 0 x (keyed d k (met class) ∷ []) r y → Lined 0 x (lines_of_body d Pv1 (met s)) r y
+pub visit_is : (l m : Lines) (s t class k : List ℕ) → Continued 1 l m (λ d. keyed d k (met class) ∷ [])
+    → met t ≡ onward l.delims.field 2 (met s) → met class ≡ until (ends l.delims) (met t) → k ≡ bytes "class=" → Continued 1 l m (λ d. lines_of_body d Pv1 (met s))
 unfolding tables
-visit-is d s t class k x y r q e f g l = rw (g, first-is d q s t class 2 e f) at l
+visit_is l m s t class k p e f g = lines_as p (rw (g, first-is l.delims l.proper s t class 2 e f) refl)
 
 -- ---- SPM and OBR
-pub fields-are : (d : Delims) (at r n : ℕ) (x y t u a b j k : List ℕ) → met a ≡ until (ends d) (met t) → met u ≡ onward d.field n (met t) → met b ≡ until (ends d) (met u)
-    → Lined at x (keyed d j (met a) ∷ keyed d k (met b) ∷ []) r y → Lined at x (field_lines d j n k (met t)) r y
+pub fields_are : (l m n : Lines) (k : ℕ) (t u a b i j : List ℕ) → Continued 1 l m (λ d. keyed d i (met a) ∷ []) → Continued 1 m n (λ d. keyed d j (met b) ∷ [])
+    → met a ≡ until (ends l.delims) (met t) → met u ≡ onward l.delims.field k (met t) → met b ≡ until (ends l.delims) (met u)
+    → Continued 2 l n (λ d. field_lines d i k j (met t))
 unfolding field_lines onward
-fields-are d at r n x y t u a b j k f e g p = rw (f, later d t u b n e g) at p
+fields_are l m n k t u a b i j p q ea eu eb = lines_as (then p q) (rw (ea, later l.delims t u b k eu eb) refl)
 
-module _ (d : Delims) (q : Proper d) (s t x y j k : List ℕ) (r : ℕ) where
-  pub specimen-is : met t ≡ onward d.field 4 (met s) → j ≡ bytes "specimen=" → k ≡ bytes "collected="
-      → Lined 0 x (field_lines d j 13 k (met t)) r y → Lined 0 x (lines_of_body d Spm (met s)) r y
+module _ (l m : Lines) (s t j k : List ℕ) where
+  pub specimen_is : Continued 2 l m (λ d. field_lines d j 13 k (met t)) → met t ≡ onward l.delims.field 4 (met s) → j ≡ bytes "specimen=" → k ≡ bytes "collected="
+      → Continued 2 l m (λ d. lines_of_body d Spm (met s))
   unfolding tables field_lines
-  specimen-is e v w p = rw (v, w, field_at d q s t 4 0 e, field_at d q s t 4 13 e) at p
+  specimen_is p e v w = lines_as p (rw (v, w, field_at l.delims l.proper s t 4 0 e, field_at l.delims l.proper s t 4 13 e) refl)
 
-  pub order_is : met t ≡ onward d.field 2 (met s) → j ≡ bytes "order=" → k ≡ bytes "group="
-      → Lined 0 x (field_lines d j 2 k (met t)) r y → Lined 0 x (lines_of_body d Obr (met s)) r y
+  pub order_is : Continued 2 l m (λ d. field_lines d j 2 k (met t)) → met t ≡ onward l.delims.field 2 (met s) → j ≡ bytes "order=" → k ≡ bytes "group="
+      → Continued 2 l m (λ d. lines_of_body d Obr (met s))
   unfolding tables field_lines
-  order_is e v w p = rw (v, w, field_at d q s t 2 0 e, field_at d q s t 2 2 e) at p
+  order_is p e v w = lines_as p (rw (v, w, field_at l.delims l.proper s t 2 0 e, field_at l.delims l.proper s t 2 2 e) refl)

@@ -1,20 +1,20 @@
 -- The laws of an OBX's lines. Assumes nothing.
 use Prim.Native.Nat.{ℕ}
 use native.Mathlib.Omega.{arith}
-use mathlib.Core.Path.{◌≡◌, sym, ap, ◌∙◌}
+use mathlib.Core.Path.{◌≡◌, refl, sym, ap, ◌∙◌}
 use mathlib.Core.List.{List, [], ◌∷◌}
-use Rattle.rules.specs.declared.Delims.{Delims}
 use Rattle.rules.specs.declared.Name.TheVariants.{Obx}
 use Rattle.rules.specs.Lists.{bytes}
 use Rattle.rules.specs.Shift.{met}
-use Rattle.rules.specs.Proper.{Proper}
 use Rattle.rules.specs.Judge.{plain_of, raw_four}
 use Rattle.plain_bytes.specs.Bytes.{until, is_byte}
 use Rattle.scan.specs.Scan.{ends, onward, next}
 use Rattle.scan.proofs.Laws.{onward-add}
 use Rattle.components.proofs.Pieces.{piece-at}
-use Rattle.fill.specs.Fill.{Lined, keyed}
-use Rattle.fill.proofs.Laws.{lined_then}
+use Rattle.fill.specs.declared.Lines.{Lines}
+use Rattle.fill.specs.Fill.{keyed}
+use Rattle.fill.specs.Lines.{Continued}
+use Rattle.fill.proofs.Laws.{then, lines_as}
 use Rattle.sources.specs.Sources.{lines_of_body}
 use Rattle.sources.proofs.Laws.{next-onward}
 use Rattle.sources.proofs.Table.{raw_in, first-at, name-at, first-is, tables, on, field-on, later}
@@ -22,36 +22,42 @@ use Rattle.report_value.specs.Value.{four_lines}
 use Rattle.report_result.specs.Result.{from_item, from_value, from_unit}
 
 -- ---- from OBX-6 on
-pub from-unit-is : (d : Delims) (at r : ℕ) (x y t u w a b c j k l : List ℕ) → met a ≡ until (ends d) (met t) → met b ≡ until (ends d) (met u) → met c ≡ until (ends d) (met w)
-    → met u ≡ onward d.field 2 (met t) → met w ≡ onward d.field 3 (met u) → j ≡ bytes "unit=" → k ≡ bytes "flag=" → l ≡ bytes "status="
-    → Lined at x (keyed d j (met a) ∷ keyed d k (met b) ∷ keyed d l (met c) ∷ []) r y → Lined at x (from_unit d (met t)) r y
+pub from_unit_is : (l m n o : Lines) (t u w a b c i j k : List ℕ)
+    → Continued 1 l m (λ d. keyed d i (met a) ∷ []) → Continued 1 m n (λ d. keyed d j (met b) ∷ []) → Continued 1 n o (λ d. keyed d k (met c) ∷ [])
+    → met a ≡ until (ends l.delims) (met t) → met u ≡ onward l.delims.field 2 (met t) → met b ≡ until (ends l.delims) (met u)
+    → met w ≡ onward l.delims.field 3 (met u) → met c ≡ until (ends l.delims) (met w)
+    → i ≡ bytes "unit=" → j ≡ bytes "flag=" → k ≡ bytes "status=" → Continued 3 l o (λ d. from_unit d (met t))
 unfolding from_unit onward
-from-unit-is d at r x y t u w a b c j k l fa fb fc e f g h i p = rw (g, h, i, fa, later d t u b 2 e fb, later d t w c 5 (on d t u w 2 3 e f) fc) at p
+from_unit_is l m n o t u w a b c i j k p q r ea eu eb ew ec ei ej ek =
+    lines_as (then (then p q) r)
+    (rw (ei, ej, ek, ea, later l.delims t u b 2 eu eb, later l.delims t w c 5 (on l.delims t u w 2 3 eu ew) ec) refl)
 
 -- ---- from OBX-5 on, and from OBX-3 on
-module _ (d : Delims) (t : List ℕ) where
-  pub from-item-is : (at r i : ℕ) (x y z u v a b kind j k l : List ℕ) → Proper d → met a ≡ until (ends d) (met t) → met u ≡ next d (met t) → met b ≡ until (ends d) (met u)
-      → met v ≡ onward d.field 2 (met u) → j ≡ bytes "item=" → k ≡ bytes "name=" → l ≡ bytes "type="
-      → Lined at x (keyed d j (met a) ∷ keyed d k (met b) ∷ keyed d l (met kind) ∷ []) r y → Lined r y (from_value d (met v) (met kind)) i z
-      → Lined at x (from_item d (met t) (met kind)) i z
-  unfolding from_item
-  from-item-is at r i x y z u v a b kind j k l h f e g n ej ek el p q =
-      let v2 : met v ≡ onward d.field 2 (met t) = n ∙ ap (onward d.field 2) e ∙ next-onward d h 2 (met t) (omega arith) in
-      rw (ej, ek, el, f, g, e, v2) at (lined_then p q)
+pub from_value_is : (l m n : Lines) (t f u kind : List ℕ) → Continued 4 l m (λ d. four_lines d (raw_four d (plain_of d (met kind)) (met f)))
+    → Continued 3 m n (λ d. from_unit d (met u)) → met f ≡ until (is_byte l.delims.field) (met t) → met u ≡ onward l.delims.field 1 (met t)
+    → Continued 7 l n (λ d. from_value d (met t) (met kind))
+unfolding from_value
+from_value_is l m n t f u kind p q e g = lines_as (then p q) (rw (e, g) refl)
 
-  pub from-value-is : (at r i : ℕ) (x y z f u kind : List ℕ) → met f ≡ until (is_byte d.field) (met t) → met u ≡ onward d.field 1 (met t)
-      → Lined at x (four_lines d (raw_four d (plain_of d (met kind)) (met f))) r y → Lined r y (from_unit d (met u)) i z
-      → Lined at x (from_value d (met t) (met kind)) i z
-  unfolding from_value
-  from-value-is at r i x y z f u kind e g p q = rw (e, g) at (lined_then p q)
+pub from_item_is : (l m n o p : Lines) (t u v a b kind i j k : List ℕ)
+    → Continued 1 l m (λ d. keyed d i (met a) ∷ []) → Continued 1 m n (λ d. keyed d j (met b) ∷ []) → Continued 1 n o (λ d. keyed d k (met kind) ∷ [])
+    → Continued 7 o p (λ d. from_value d (met v) (met kind))
+    → met a ≡ until (ends l.delims) (met t) → met u ≡ next l.delims (met t) → met b ≡ until (ends l.delims) (met u) → met v ≡ onward l.delims.field 2 (met u)
+    → i ≡ bytes "item=" → j ≡ bytes "name=" → k ≡ bytes "type=" → Continued 10 l p (λ d. from_item d (met t) (met kind))
+unfolding from_item
+from_item_is l m n o p t u v a b kind i j k p1 p2 p3 p4 ea eu eb ev ei ej ek =
+    let v2 : met v ≡ onward l.delims.field 2 (met t) = ev ∙ ap (onward l.delims.field 2) eu ∙ next-onward l.delims l.proper 2 (met t) (omega arith) in
+    lines_as (then (then (then p1 p2) p3) p4) (rw (ei, ej, ek, ea, eb, eu, v2) refl)
 
 -- ---- OBX
-pub result-is : (d : Delims) (s t u kind x y : List ℕ) (r : ℕ) → Proper d → met t ≡ onward d.field 2 (met s) → met kind ≡ until (ends d) (met t)
-    → met u ≡ onward d.field 1 (met t) → Lined 0 x (from_item d (met u) (met kind)) r y → Lined 0 x (lines_of_body d Obx (met s)) r y
+pub result_is : (l m : Lines) (s t u kind : List ℕ) → Continued 10 l m (λ d. from_item d (met u) (met kind)) → met t ≡ onward l.delims.field 2 (met s)
+    → met kind ≡ until (ends l.delims) (met t) → met u ≡ onward l.delims.field 1 (met t) → Continued 10 l m (λ d. lines_of_body d Obx (met s))
 unfolding tables from_item from_value four_lines from_unit
-result-is d s t u kind x y r q et ek eu p =
+result_is l m s t u kind p et ek eu =
+    let d = l.delims in
     let u3 : met u ≡ onward d.field 3 (met s) = on d s t u 2 1 et eu in
-    let k2 : met kind ≡ raw_in d (met s) 2 1 = first-is d q s t kind 2 et ek in
-    let i3 : until (ends d) (met u) ≡ raw_in d (met s) 3 1 = first-at d q s u 3 u3 in
+    let k2 : met kind ≡ raw_in d (met s) 2 1 = first-is d l.proper s t kind 2 et ek in
+    let i3 : until (ends d) (met u) ≡ raw_in d (met s) 3 1 = first-at d l.proper s u 3 u3 in
     let v5 : onward d.field 2 (met u) ≡ onward d.field 5 (met s) = ap (onward d.field 2) u3 ∙ onward-add d.field 3 2 (met s) in
-    rw (i3, name-at d q s u 3 u3, k2, v5, sym (piece-at d.field 5 (met s)), field-on d q (met s) 5 1 0, field-on d q (met s) 5 1 2, field-on d q (met s) 5 1 5) at p
+    lines_as p
+    (rw (i3, name-at d l.proper s u 3 u3, k2, v5, sym (piece-at d.field 5 (met s)), field-on d l.proper (met s) 5 1 0, field-on d l.proper (met s) 5 1 2, field-on d l.proper (met s) 5 1 5) refl)

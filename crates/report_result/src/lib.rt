@@ -1,67 +1,68 @@
 // The lines of an OBX, their values found in one walk.
 #![tactic(auto)]
 
-ghost use Rattle.std.specs.Prelude.{◌+◌, ◌≤◌, length};
 ghost use Rattle.rules.specs.declared.Name.TheVariants.{Obx};
 ghost use Rattle.rules.specs.Shift.{met};
-ghost use Rattle.rules.specs.Proper.{Proper};
-ghost use Rattle.fill.specs.Fill.{Lined, longest, Near};
+ghost use Rattle.fill.specs.Fill.{Near};
+ghost use Rattle.fill.specs.Lines.{Continued};
 ghost use Rattle.sources.specs.Sources.{lines_of_body};
 ghost use Rattle.report_result.specs.Result.{from_item, from_value, from_unit};
 
-use rules::Delims;
-use sources::{field_behind, first_component, next_component, onward, piece};
+use fill::Lines;
+use sources::Part;
 
 // OBX.
-pub fn result(out: &mut [u8], s: &[u8], d: Delims) -> usize
-    requires { Proper d × (length s.now ≤ 4096) }
-    ensures lined { Lined 0 out.old (lines_of_body d Obx (met s.now)) result out.new }
-    ensures within { result ≤ longest 10 }
+pub fn result(lines: &mut Lines<'_>, s: Part<'_>)
+    requires { Near 10 lines.old.at }
+    ensures { Continued 10 lines.old lines.new (λ d. lines_of_body d Obx (met s.entry.text.now)) }
 {
-    let t = onward(s, d.field, 2);
-    let obx2 = first_component(t, d);
-    let u = field_behind(t, obx2.len(), d, 1);
-    from_item(out, u, obx2, d)
+    let d = lines.delims;
+    let t = s.onward(d.field, 2);
+    let obx2 = t.component(d);
+    let u = t.field_behind(obx2, d, 1);
+    from_item(lines, u, obx2);
 }
 
 // From OBX-3 on, and the type.
-fn from_item<'a>(out: &mut [u8], t: &'a [u8], obx2: &'a [u8], d: Delims) -> usize
-    requires { Proper d × (length t.now ≤ 4096) × (length obx2.now ≤ 4096) }
-    ensures lined { Lined 0 out.old (from_item d (met t.now) (met obx2.now)) result out.new }
-    ensures within { result ≤ longest 10 }
+fn from_item<'a>(lines: &mut Lines<'_>, t: Part<'a>, obx2: Part<'a>)
+    requires { Near 10 lines.old.at }
+    ensures { Continued 10 lines.old lines.new (λ d. from_item d (met t.entry.text.now) (met obx2.entry.text.now)) }
 {
-    let code = first_component(t, d);
-    let u = next_component(t, code.len(), d);
-    let name = first_component(u, d);
-    let at = fill::three_lines(out, 0, b"item=", code, b"name=", name, b"type=", obx2, d);
-    let v = field_behind(u, name.len(), d, 2);
-    from_value(out, at, v, obx2, d)
+    let d = lines.delims;
+    let code = t.component(d);
+    let u = t.next_component(code, d);
+    let name = u.component(d);
+    let v = u.field_behind(name, d, 2);
+    lines.line(b"item=", code);
+    lines.line(b"name=", name);
+    lines.line(b"type=", obx2);
+    from_value(lines, v, obx2);
 }
 
 // From OBX-5 on, by the type.
-fn from_value<'a>(out: &mut [u8], at: usize, t: &'a [u8], obx2: &'a [u8], d: Delims) -> usize
-    requires { Proper d × (length t.now ≤ 4096) × (length obx2.now ≤ 4096) × Near 7 at }
-    ensures lined { Lined at out.old (from_value d (met t.now) (met obx2.now)) result out.new }
-    ensures within { result ≤ at + longest 7 }
+fn from_value<'a>(lines: &mut Lines<'_>, t: Part<'a>, obx2: Part<'a>)
+    requires { Near 7 lines.old.at }
+    ensures { Continued 7 lines.old lines.new (λ d. from_value d (met t.entry.text.now) (met obx2.entry.text.now)) }
 {
-    let f = piece(t, d.field);
-    let at = report_value::parts(out, at, f, obx2, d);
-    let u = field_behind(t, f.len(), d, 1);
-    from_unit(out, at, u, d)
+    let d = lines.delims;
+    let f = t.piece(d.field);
+    let u = t.field_behind(f, d, 1);
+    report_value::parts(lines, f, obx2);
+    from_unit(lines, u);
 }
 
 // From OBX-6 on.
-fn from_unit(out: &mut [u8], at: usize, t: &[u8], d: Delims) -> usize
-    requires { Proper d × (length t.now ≤ 4096) × Near 3 at }
-    ensures lined { Lined at out.old (from_unit d (met t.now)) result out.new }
-    ensures within { result ≤ at + longest 3 }
+fn from_unit(lines: &mut Lines<'_>, t: Part<'_>)
+    requires { Near 3 lines.old.at }
+    ensures { Continued 3 lines.old lines.new (λ d. from_unit d (met t.entry.text.now)) }
 {
-    let unit = first_component(t, d);
-    let u = field_behind(t, unit.len(), d, 2);
-    let flag = first_component(u, d);
-    let w = field_behind(u, flag.len(), d, 3);
-    let status = first_component(w, d);
-    fill::three_lines(
-        out, at, b"unit=", unit, b"flag=", flag, b"status=", status, d,
-    )
+    let d = lines.delims;
+    let unit = t.component(d);
+    let u = t.field_behind(unit, d, 2);
+    let flag = u.component(d);
+    let w = u.field_behind(flag, d, 3);
+    let status = w.component(d);
+    lines.line(b"unit=", unit);
+    lines.line(b"flag=", flag);
+    lines.line(b"status=", status);
 }

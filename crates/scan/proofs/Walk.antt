@@ -14,7 +14,7 @@ use Rattle.rules.specs.declared.Delims.{Delims}
 use Rattle.rules.specs.declared.Mode.{Mode}
 use Rattle.rules.specs.declared.Mode.TheVariants.{One, Two, Second}
 use Rattle.rules.specs.Shift.{step, is_one, walk, keeps, mark, marks, met, within, byte_of}
-use Rattle.rules.specs.Lists.{bytes, has, all, later}
+use Rattle.rules.specs.Lists.{bytes, has, all}
 use Rattle.rules.specs.Proper.{Delim, Proper}
 use Rattle.rules.proofs.Logic.{both, not-true, not-false, never, and-true, and_assoc, or-false, or_assoc}
 use Rattle.rules.proofs.Lists.{here, over, rest-is, has-cons, has-nil}
@@ -25,18 +25,11 @@ use Rattle.scan.specs.Scan.{meets_of, after_sep, onward, between, hidden, Hides,
 use Rattle.scan.proofs.Laws.{map-append, between_none, between-one, between_first, between-then, between-take, between-length, until-yes, until-no, until-nil, until-stops, after-drop, Far, far-is, far-escapes, ends-far, hidden-append, hidden-nil, hidden-length, hidden-bytes, hidden-until, hidden-has, hidden-plain, plain-cons, plain-nil, from-met, alnum-plain}
 
 -- ---- meets
-pub meets-is : (m : Mode) (b a : ℕ) (t : Bool) → a < 256 → t ≡ is_one m → (t && eqb b a) ≡ meets_of a (mark m b)
+pub meets_is : (m : Mode) (b a : ℕ) (t : Bool) → a < 256 → t ≡ is_one m → (t && eqb b a) ≡ meets_of a (mark m b)
 unfolding meets_of
-meets-is m b a t h e = rw e (sym (met-as m b a h))
-
--- ---- simple
-pub simple-is : (b : ℕ) (p q r : Bool) → p ≡ within 48 57 b → q ≡ within 65 90 b → r ≡ within 97 122 b → ((p || q) || r) ≡ alnum b
-simple-is b p q r e f g = cc
+meets_is m b a t h e = rw e (sym (met-as m b a h))
 
 -- ---- units
-pub unit-is : (a b : ℕ) (p q : Bool) → p ≡ within 0x21 0x7E a → q ≡ within 0x21 0x7E b → (p && q) ≡ (within 0x21 0x7E a && within 0x21 0x7E b)
-unit-is a b p q e f = cc
-
 hides-none : (end : ℕ) (s : List ℕ) (m : Mode) (i : ℕ) → i ≤ length s → Hides end s m i m i
 hides-none end s m i h = record { later = omega arith; inside = h; met = rw (between_none s i, hidden-nil); mode = refl }
 
@@ -146,8 +139,8 @@ bytes_on end s i j k r =
     ∙ ap (λ l. get_or s i 0 ∷ l) (hidden-bytes (between (i + 1) j s)) ∙ sym (between_first s i j r.later r.inside)
 
 -- ---- next_byte
-pub next-plain : (end : ℕ) (s : List ℕ) (i : ℕ) (t : Bool) → i < length s → t ≡ within 0x20 0x7E (get_or s i 0) → t ≡ true → Reaches end s i (i + 1) true
-next-plain end s i t h e y = plain-on end s i h (sym e ∙ y)
+pub next_plain : (end : ℕ) (s : List ℕ) (i : ℕ) (t : Bool) → i < length s → t ≡ within 0x20 0x7E (get_or s i 0) → t ≡ true → Reaches end s i (i + 1) true
+next_plain end s i t h e y = plain-on end s i h (sym e ∙ y)
 
 -- ---- keeps
 pub keeps_on : (end : ℕ) (s : List ℕ) (i j : ℕ) (k : Bool) → keeps end s ≡ keeps end (drop i s) → Reaches end s i j k → not k ≡ false → keeps end s ≡ keeps end (drop j s)
@@ -158,11 +151,11 @@ keeps-not end s i j k inv r e = sym (inv ∙ r.keeps ∙ rw (not-true k e))
 
 pub keeps-plain : (end : ℕ) (s : List ℕ) (i : ℕ) (t : Bool) → keeps end s ≡ keeps end (drop i s) → i < length s → t ≡ within 0x20 0x7E (get_or s i 0) → t ≡ true
     → keeps end s ≡ keeps end (drop (i + 1) s)
-keeps-plain end s i t inv h e y = keeps_on end s i (i + 1) true inv (next-plain end s i t h e y) refl
+keeps-plain end s i t inv h e y = keeps_on end s i (i + 1) true inv (next_plain end s i t h e y) refl
 
-pub line-ends : (end b : ℕ) → (eqb b end && not (eqb b 0x1B)) ≡ true → step end One b ≡ One
+pub line_ends : (end b : ℕ) → (eqb b end && not (eqb b 0x1B)) ≡ true → step end One b ≡ One
 unfolding step
-line-ends end b y = let q = both (eqb b end) _ y in rw (not-true (eqb b 0x1B) q.1, q.0)
+line_ends end b y = let q = both (eqb b end) _ y in rw (not-true (eqb b 0x1B) q.1, q.0)
 
 pub keeps_line : (end : ℕ) (s : List ℕ) (i : ℕ) (t : Bool) → keeps end s ≡ keeps end (drop i s) → i < length s → (t ≡ true → step end One (get_or s i 0) ≡ One) → t ≡ true
     → keeps end s ≡ keeps end (drop (i + 1) s)
@@ -221,9 +214,9 @@ module _ (end sep : ℕ) (s : List ℕ) (i : ℕ) (inv : Before end s (is_byte s
 past-at : (s : List ℕ) (sep r : ℕ) → sep < 256 → r ≡ length (until (is_byte sep) (met s)) → after_sep sep (met s) ≡ drop 1 (met (drop r s))
 past-at s sep r l e = after-drop sep (met s) ∙ ap (drop 1) (from-met (is_byte sep) (far-is sep l) s ∙ ap (λ k. met (drop k s)) (sym e))
 
-pub past-over : (s : List ℕ) (sep r : ℕ) → sep < 256 → r ≡ length (until (is_byte sep) (marks 0x0D One s)) → r ≡ length s → met (drop r s) ≡ after_sep sep (met s)
+pub past_over : (s : List ℕ) (sep r : ℕ) → sep < 256 → r ≡ length (until (is_byte sep) (marks 0x0D One s)) → r ≡ length s → met (drop r s) ≡ after_sep sep (met s)
 unfolding met
-past-over s sep r l e h =
+past_over s sep r l e h =
     let n : met (drop r s) ≡ [] = marks-over 0x0D s r One (omega arith) in
     n ∙ sym (past-at s sep r l e ∙ ap (drop 1) n)
 
@@ -243,21 +236,25 @@ past_next s sep r p e l n =
     sym (past-at s sep r far e ∙ ap (drop 1) at-r ∙ met-rest 0x0D One b sep (drop (r + 1) s) (printable sep p).0 (printable sep p).1 y)
 
 -- ---- skip
-pub skip-on : (s : List ℕ) (sep n left at r : ℕ) → onward sep n (met s) ≡ onward sep left (met (drop at s)) → 0 < left
+skip-step : (s : List ℕ) (sep n left at r : ℕ) → onward sep n (met s) ≡ onward sep left (met (drop at s)) → 0 < left
     → met (drop r (take (length s - at) (drop at s))) ≡ after_sep sep (met (take (length s - at) (drop at s)))
     → onward sep n (met s) ≡ onward sep (left - 1) (met (drop (at + r) s))
 unfolding onward
-skip-on s sep n zero at r inv h e = absurd (omega arith)
-skip-on s sep n (suc k) at r inv h e =
+skip-step s sep n zero at r inv h e = absurd (omega arith)
+skip-step s sep n (suc k) at r inv h e =
     let j : suc k - 1 ≡ k = omega arith in
     let q : met (drop (at + r) s) ≡ after_sep sep (met (drop at s)) = rw (rest-is s at, drop-drop) at e in
     rw (inv, j, q)
 
-pub skip-end : (s : List ℕ) (sep n left at : ℕ) → onward sep n (met s) ≡ onward sep left (met (drop at s)) → left ≤ 0
+pub skip-on : (s : List ℕ) (sep n i at r : ℕ) → onward sep n (met s) ≡ onward sep (n - i) (met (drop at s)) → i < n
+    → met (drop r (take (length s - at) (drop at s))) ≡ after_sep sep (met (take (length s - at) (drop at s)))
+    → onward sep n (met s) ≡ onward sep (n - (i + 1)) (met (drop (at + r) s))
+skip-on s sep n i at r inv h e = let j : n - (i + 1) ≡ n - i - 1 = omega arith in rw j (skip-step s sep n (n - i) at r inv (omega arith) e)
+
+pub skip-end : (s : List ℕ) (sep n i at : ℕ) → onward sep n (met s) ≡ onward sep (n - i) (met (drop at s)) → n ≤ i
     → met (take (length s - at) (drop at s)) ≡ onward sep n (met s)
 unfolding onward
-skip-end s sep n zero at inv h = rw (rest-is s at, inv)
-skip-end s sep n (suc k) at inv h = absurd (omega arith)
+skip-end s sep n i at inv h = let z : n - i ≡ 0 = omega arith in rw (rest-is s at, inv, z)
 
 -- ---- first
 pub record Cutting (d : Delims) (t : List ℕ) (clean : Bool) (i : ℕ) : Type 0 where
@@ -371,9 +368,9 @@ module _ (t : List ℕ) (n : ℕ) (d : Delims) (pre : (n ≡ length (until (ends
       let e : n ≡ length (until (ends d) (met t)) = pre.0 in
       ap (next_from d) (from-met (ends d) (ends-far d pre.2) t ∙ ap (λ k. met (drop k t)) (sym e))
 
-  pub behind-end : n ≡ length t → met (take (length t - n) (drop n t)) ≡ next d (met t)
+  pub behind_end : n ≡ length t → met (take (length t - n) (drop n t)) ≡ next d (met t)
   unfolding next_from met
-  behind-end h =
+  behind_end h =
       let none : met (drop n t) ≡ [] = marks-over 0x0D t n One (omega arith) in
       ap met (rest-is t n) ∙ none ∙ sym (next-is ∙ ap (next_from d) none)
 
@@ -381,17 +378,19 @@ module _ (t : List ℕ) (n : ℕ) (d : Delims) (pre : (n ≡ length (until (ends
   unfolding met mark is_one
   at_n h = marks-here 0x0D t n One h
 
-  pub behind-next : (n ≡ length t → ⊥) → get_or t n 0 ≡ d.component → met (take (length t - (n + 1)) (drop (n + 1) t)) ≡ next d (met t)
+  pub behind_next : (n ≡ length t → ⊥) → get_or t n 0 ≡ d.component → met (take (length t - (n + 1)) (drop (n + 1) t)) ≡ next d (met t)
   unfolding next_from met mark is_one
-  behind-next h e =
+  behind_next h e =
       let l : n < length t = let k : n ≤ length t = pre.1 in omega arith in
       let p = printable d.component pre.2.component in
       let y : eqb (get_or t n 0) d.component ≡ true = eq-eqb (get_or t n 0) d.component e in
       let q : marks 0x0D (step 0x0D One (get_or t n 0)) (drop (n + 1) t) ≡ met (drop (n + 1) t) = met-rest 0x0D One (get_or t n 0) d.component (drop (n + 1) t) p.0 p.1 y in
       ap met (rest-is t (n + 1)) ∙ sym (next-is ∙ cc (at_n l, q, y))
 
-  pub behind-same : (n ≡ length t → ⊥) → (get_or t n 0 ≡ d.component → ⊥) → met (take (length t - n) (drop n t)) ≡ next d (met t)
+  pub behind_same : (n ≡ length t → ⊥) → (get_or t n 0 ≡ d.component → ⊥) → met (take (length t - n) (drop n t)) ≡ next d (met t)
   unfolding next_from
-  behind-same h e =
+  behind_same h e =
       let l : n < length t = let k : n ≤ length t = pre.1 in omega arith in
       ap met (rest-is t n) ∙ sym (next-is ∙ cc (at_n l, ne_eqb (get_or t n 0) d.component e))
+
+pub ruleset each = (meets_is, line_ends, next_plain, past_over, past_next, behind_end, behind_next, behind_same)

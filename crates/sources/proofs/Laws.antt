@@ -19,7 +19,7 @@ use Rattle.plain_bytes.specs.Bytes.{until, is_byte}
 use Rattle.scan.specs.Scan.{ends, after_sep, onward, next_from, next, CutOf}
 use Rattle.scan.proofs.Laws.{Far, far-is, ends-far, from-met, piece-met}
 use Rattle.components.proofs.Pieces.{onward-within}
-use Rattle.components.proofs.Laws.{head-met}
+use Rattle.components.proofs.Laws.{head-met, next-within}
 use Rattle.sources.specs.Sources.{Leads}
 
 -- ---- walking
@@ -83,3 +83,6 @@ pub next-onward : (d : Delims) → Proper d → (k : ℕ) (m : List ℕ) → 1 �
 unfolding next
 next-onward d q k m h =
     onward-from d.field k (next d m) m h (after-from d q (drop (length (until (ends d) m)) m) ∙ after-until d.field (ends d) (ends-field d) m)
+
+-- what the check of a walk cites
+pub ruleset walking = (part_length, field-within, component-within, piece_is, head-met, component-leads, behind-is, behind-within, next-within)

@@ -1,6 +1,6 @@
-// Where the lines of a segment take their values from: its fields and components, found in one walk. Each routine is given what is left of the segment,
-// a part that starts in the middle.
-#![tactic(auto)]
+// Where the lines of a segment take their values from: its fields and components, found in one walk. Each routine goes on from what is left of the
+// segment, a part that starts in the middle.
+#![tactic(auto, using(crate::proofs::Laws::walking))]
 
 ghost use Rattle.std.specs.Prelude.{◌≡◌, ◌≤◌, length};
 ghost use Rattle.rules.specs.Shift.{met};
@@ -12,50 +12,68 @@ ghost use Rattle.sources.specs.Sources.{Leads};
 
 use rules::Delims;
 
-// What follows the n-th separator from here.
-pub fn onward(t: &[u8], sep: u8, n: usize) -> &[u8]
-    requires { Delim sep }
-    ensures result_value { met result.now ≡ Scan.onward sep n (met t.now) }
-    ensures within { length result.now ≤ length t.now }
-{
-    scan::skip(t, sep, n)
+// A part of a segment, which has at most 4,096 bytes.
+#[derive(Clone, Copy)]
+pub struct Part<'a> {
+    pub text: &'a [u8],
+    ghost short: { length text.now ≤ 4096 },
 }
 
-// What follows the k-th field separator from here, where the n bytes that begin here hold none and are passed over.
-pub fn field_behind(t: &[u8], n: usize, d: Delims, k: usize) -> &[u8]
-    requires { Proper d × Leads d n t.now × (1 ≤ k) }
-    ensures result_value { met result.now ≡ Scan.onward d.field k (met t.now) }
-    ensures within { length result.now ≤ length t.now }
-{
-    scan::skip(&t[n..], d.field, k)
-}
+impl<'a> Part<'a> {
+    // What follows the n-th separator from here.
+    pub fn onward(self, sep: u8, n: usize) -> Part<'a>
+        requires { Delim sep }
+        ensures result_value { met result.text.now ≡ Scan.onward sep n (met self.entry.text.now) }
+        ensures within { length result.text.now ≤ length self.entry.text.now }
+    {
+        Part {
+            text: scan::skip(self.text, sep, n),
+        }
+    }
 
-// The component here.
-pub fn first_component(t: &[u8], d: Delims) -> &[u8]
-    requires { Proper d }
-    ensures result_value { met result.now ≡ until (ends d) (met t.now) }
-    ensures within { length result.now ≤ length t.now }
-    ensures leads { Leads d (length result.now) t.now }
-{
-    let c = scan::first(t, d);
-    let n = c.len;
-    &t[..n]
-}
+    // What follows the k-th field separator from here, where what is read already, which begins here, holds none and is passed over.
+    pub fn field_behind(self, read: Part<'a>, d: Delims, k: usize) -> Part<'a>
+        requires { Proper d × Leads d (length read.text.now) self.text.now × (1 ≤ k) }
+        ensures result_value { met result.text.now ≡ Scan.onward d.field k (met self.entry.text.now) }
+        ensures within { length result.text.now ≤ length self.entry.text.now }
+    {
+        Part {
+            text: scan::skip(&self.text[read.text.len()..], d.field, k),
+        }
+    }
 
-// From the next component on, where the one here has n bytes.
-pub fn next_component(t: &[u8], n: usize, d: Delims) -> &[u8]
-    requires { (n ≡ length (until (ends d) (met t.now))) × (n ≤ length t.now) × Proper d }
-    ensures result_value { met result.now ≡ next d (met t.now) }
-    ensures within { length result.now ≤ length t.now }
-{
-    scan::behind(t, n, d)
-}
+    // The component here.
+    pub fn component(self, d: Delims) -> Part<'a>
+        requires { Proper d }
+        ensures result_value { met result.text.now ≡ until (ends d) (met self.entry.text.now) }
+        ensures within { length result.text.now ≤ length self.entry.text.now }
+        ensures leads { Leads d (length result.text.now) self.entry.text.now }
+    {
+        let c = scan::first(self.text, d);
+        Part {
+            text: &self.text[..c.len],
+        }
+    }
 
-// The piece before the next separator.
-pub fn piece(t: &[u8], sep: u8) -> &[u8]
-    ensures result_value { met result.now ≡ until (is_byte sep) (met t.now) }
-    ensures within { length result.now ≤ length t.now }
-{
-    let n = scan::find(t, 0x0D, sep);
-    &t[..n]
+    // From the next component on, where the one here is read already.
+    pub fn next_component(self, read: Part<'a>, d: Delims) -> Part<'a>
+        requires { (length read.text.now ≡ length (until (ends d) (met self.text.now))) × (length read.text.now ≤ length self.text.now) × Proper d }
+        ensures result_value { met result.text.now ≡ next d (met self.entry.text.now) }
+        ensures within { length result.text.now ≤ length self.entry.text.now }
+    {
+        Part {
+            text: scan::behind(self.text, read.text.len(), d),
+        }
+    }
+
+    // The piece before the next separator.
+    pub fn piece(self, sep: u8) -> Part<'a>
+        ensures result_value { met result.text.now ≡ until (is_byte sep) (met self.entry.text.now) }
+        ensures within { length result.text.now ≤ length self.entry.text.now }
+    {
+        let n = scan::find(self.text, 0x0D, sep);
+        Part {
+            text: &self.text[..n],
+        }
+    }
 }

@@ -1,5 +1,7 @@
 -- Laws of the place: one for each way through its code. Assumes nothing.
-use mathlib.Core.Path.{◌≡◌, sym, ap, ◌∙◌}
+use Rattle.std.specs.List.{count_by}
+use Rattle.std.proofs.lemmas.List.Recursion.{is_sum_by}
+use mathlib.Core.Path.{◌≡◌, refl, sym, ap, ◌∙◌}
 use mathlib.Core.Bool.{Bool, true, false, cond, not}
 use mathlib.Core.List.{List, [], ◌∷◌}
 use Prim.Native.Nat.{ℕ, suc, ◌+◌, ◌-◌, ◌≤◌, ◌<◌}
@@ -7,8 +9,7 @@ use native.Mathlib.Omega.{arith}
 use mir.Syntax.{w64}
 use mir.Val.{Fits}
 use borrow.Author.Tests.{eq-eqb, ne_eqb, lt-ltb, le-ltb}
-use lib.Dec.{eqb}
-use lib.ListN.{length, get_or, take, drop, get_or-eq_default}
+use lib.ListN.{length, get_or, take, drop}
 use Rattle.rules.specs.declared.Mode.{Mode}
 use Rattle.rules.specs.declared.Mode.TheVariants.{One}
 use Rattle.rules.specs.Lists.{count, split, all_but_last}
@@ -24,14 +25,10 @@ use Rattle.spot.specs.declared.Spot.{Spot}
 use Rattle.spot.specs.Spot.{is_bad, kept_bytes, good_bytes, place_at, no_place, longest_text, spot_of}
 
 -- ---- line ends
-module _ (end : ℕ) (s : List ℕ) (i n : ℕ) (inv : count (is_byte end) s ≡ n + count (is_byte end) (drop i s)) where
-  pub ends_on : (k : ℕ) → i < length s → k ≡ cond (eqb (get_or s i 0) end) 1 0 → count (is_byte end) s ≡ n + k + count (is_byte end) (drop (i + 1) s)
-  unfolding count
-  ends_on k h e = let q : count (is_byte end) (drop i s) ≡ k + count (is_byte end) (drop (i + 1) s) = rw (here 0 s i h, e) in omega arith
-
-  pub ends-over : length s ≤ i → n ≡ count (is_byte end) s
-  unfolding count
-  ends-over h = let q : count (is_byte end) (drop i s) ≡ 0 = rw (over s i h) in omega arith
+-- in the library's word for the same
+pub counted : (p : ℕ → Bool) (s : List ℕ) (r : ℕ) → r ≡ count_by p s → r ≡ count p s
+unfolding count
+counted p s r e = e ∙ sym (is_sum_by (count p) (λ b. cond (p b) 1 0) refl (λ b l. refl) s)
 
 pub ends-few : (at n : ℕ) (s : List ℕ) → at ≤ length s → length s ≤ longest_text → n ≤ length (take at s) → Fits w64 (n + 1)
 ends-few at n s h l k = omega (arith, part_length at s h)
@@ -63,10 +60,6 @@ module _ (end : ℕ) (s : List ℕ) (i : ℕ) (m : Mode) (inv : kept_bytes end O
   kept-ends h = let q : kept_bytes end m (drop i s) ≡ 0 = rw (over s i h) in omega arith
 
 -- ---- 13
-pub separator-none : (m : List ℕ) → length m < 4 → 0 ≡ (delims_of m).field
-unfolding delims_of
-separator-none m h = sym (get_or-eq_default m 0 (omega arith))
-
 pub good-bad : (bar : ℕ) (s : List ℕ) (ss : List (List ℕ)) → good_of bar s ≡ false → good_bytes bar (s ∷ ss) ≡ 0
 unfolding good_bytes
 good-bad bar s ss e = rw (e, good_bytes)

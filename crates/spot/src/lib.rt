@@ -1,7 +1,7 @@
 // Where a text breaks the rule of its refusal, for those that name no place: 12, 13 and 41.
-#![tactic(auto)]
+#![tactic(auto, unfolding(crate::specs::Spot::is_bad, rules::specs::Frame::delims_of))]
 
-ghost use Rattle.std.specs.Prelude.{◌≡◌, cond, ◌≤◌, length};
+ghost use Rattle.std.specs.Prelude.{◌≡◌, ◌≤◌, length};
 ghost use Rattle.rules.specs.declared.Mode.TheVariants.{One};
 ghost use Rattle.rules.specs.Lists.{count};
 ghost use Rattle.rules.specs.Frame.{delims_of, segments};
@@ -11,7 +11,8 @@ ghost use Rattle.spot.specs.Spot.{is_bad, kept_bytes, good_bytes, place_at, long
 use frame::all_segments;
 use rules::Mode;
 
-// A place in a text: its line and its byte, each counted from 1; 0 where none is named.
+// A place in a text: its line and its byte, each counted from 1; 0 where none is named. The zeros, and the number of a refusal below, are
+// what oul_spot_of tells and takes (the C interface), and SpotTold states them: so no Option and no Kind.
 #[derive(Clone, Copy)]
 pub struct Spot {
     pub line: usize,
@@ -22,19 +23,16 @@ pub struct Spot {
 pub fn spot_of(text: &[u8], number: usize) -> Spot
     ensures { SpotTold text.now number result }
 {
+    let nowhere = Spot { line: 0, byte: 0 };
     if 65536 < text.len() {
-        return Spot { line: 0, byte: 0 };
+        return nowhere;
     }
-    if number == 12 {
-        return place(text, 0x0D, kept_bytes(text, 0x0D));
+    match number {
+        12 => place(text, 0x0D, kept_bytes(text, 0x0D)),
+        13 => place(text, 0x0D, good_bytes(text, field_separator(text))),
+        41 => place(text, 0x0A, kept_bytes(text, 0x0A)),
+        _ => nowhere,
     }
-    if number == 13 {
-        return place(text, 0x0D, good_bytes(text, field_separator(text)));
-    }
-    if number == 41 {
-        return place(text, 0x0A, kept_bytes(text, 0x0A));
-    }
-    Spot { line: 0, byte: 0 }
 }
 
 // The place behind the first `at` bytes.
@@ -53,20 +51,7 @@ fn line_ends(s: &[u8], end: u8) -> usize
     ensures value { result ≡ count (is_byte end) s.now }
     ensures within { result ≤ length s.now }
 {
-    let mut n = 0;
-    let mut i = 0;
-    while i < s.len() {
-        n += one_if(s[i] == end);
-        i += 1;
-    }
-    n
-}
-
-fn one_if(yes: bool) -> usize
-    ensures value { result ≡ cond yes 1 0 }
-    ensures small { result ≤ 1 }
-{
-    if yes { 1 } else { 0 }
+    s.iter().filter(|b| **b == end).count()
 }
 
 // ---- 12, 41: the byte and shift rule
@@ -76,30 +61,19 @@ fn kept_bytes(s: &[u8], end: u8) -> usize
     ensures within { result ≤ length s.now }
 {
     let mut mode = Mode::One;
-    let mut i = 0;
-    while i < s.len() {
-        mode = scan::step(mode, s[i], end);
+    for (i, b) in s.iter().enumerate() {
+        mode = scan::step(mode, *b, end);
         if is_bad(mode) {
             return i;
         }
-        i += 1;
     }
-    i
+    s.len()
 }
 
 fn is_bad(m: Mode) -> bool
     ensures { result ≡ is_bad m }
 {
-    match m {
-        Mode::One => false,
-        Mode::Esc1 => false,
-        Mode::Esc2 => false,
-        Mode::Two => false,
-        Mode::Second => false,
-        Mode::Back1 => false,
-        Mode::Back2 => false,
-        Mode::Bad => true,
-    }
+    m == Mode::Bad
 }
 
 // ---- 13: the segments
@@ -107,10 +81,7 @@ fn is_bad(m: Mode) -> bool
 fn field_separator(m: &[u8]) -> u8
     ensures { result ≡ (delims_of m.now).field }
 {
-    if m.len() < 4 {
-        return 0;
-    }
-    m[3]
+    m.get(3).copied().unwrap_or(0)
 }
 
 // How many bytes the segments before the first bad one take, each with its 0D.

@@ -7,10 +7,9 @@ use native.Mathlib.Omega.{arith}
 use borrow.Author.Tests.{lt-ltb, le-ltb}
 use lib.ListN.{length, take, drop}
 use lib.Seq.{length-take-le}
+use Rattle.rules.specs.declared.Refusal.{Refusal}
 use Rattle.rules.specs.declared.Delims.{Delims}
 use Rattle.rules.specs.declared.Kind.TheVariants.{Escape, Room}
-use Rattle.rules.specs.declared.Written.{Written}
-use Rattle.rules.specs.declared.Written.TheVariants.{Wrote, NotWritten}
 use Rattle.rules.specs.Told.{gives, refused, Call}
 use Rattle.rules.specs.Shift.{met}
 use Rattle.rules.specs.Escape.{unescape}
@@ -48,13 +47,13 @@ asked-fits d raw s f room v e h = rw (e, unescaped_told, le-ltb room (length v) 
 
 module _ (d : Delims) (raw : List ℕ) (s f : ℕ) (old : List ℕ) (u : Result ℕ NotHeld) (x : List ℕ) (fits : Fits u (unescape d (met raw)) x) where
   -- 23
-  pub text-faulty : (r : Written) (why : NotHeld) → u ≡ Err why → why ≡ Faulty → r ≡ NotWritten (record { kind = Escape; segment = s; field = f }) → Call (unescaped_told d raw s f (length old)) old r old
+  pub text-faulty : (r : Result ℕ Refusal) (why : NotHeld) → u ≡ Err why → why ≡ Faulty → r ≡ Err (record { kind = Escape; segment = s; field = f }) → Call (unescaped_told d raw s f (length old)) old r old
   text-faulty r why e q g =
       call-refused (unescaped_told d raw s f (length old)) old (record { kind = Escape; segment = s; field = f }) r
       (asked-none d raw s f (length old) (subst (λ (z : Result ℕ NotHeld). Fits z (unescape d (met raw)) x) (e ∙ ap Err q) fits)) g
 
   -- nothing to write
-  pub text-empty : (n : ℕ) → length x ≡ 0 → u ≡ Ok n → Call (unescaped_told d raw s f (length old)) old (Wrote 0) old
+  pub text-empty : (n : ℕ) → length x ≡ 0 → u ≡ Ok n → Call (unescaped_told d raw s f (length old)) old (Ok 0) old
   text-empty n h e =
       let p : Whole n (unescape d (met raw)) x = subst (λ (z : Result ℕ NotHeld). Fits z (unescape d (met raw)) x) e fits in
       let q : take n x ≡ [] = nothing (take n x) (omega (arith, length-take-le n x p.low, p.low)) in
@@ -65,12 +64,12 @@ module _ (d : Delims) (raw : List ℕ) (s f : ℕ) (old : List ℕ) (u : Result 
     far = subst (λ (z : Result ℕ NotHeld). Fits z (unescape d (met raw)) x) (e ∙ ap Err q) fits
 
     -- 45
-    pub text-short : (r : Written) → length old < n → r ≡ NotWritten (record { kind = Room; segment = 0; field = 0 }) → Call (unescaped_told d raw s f (length old)) old r old
+    pub text-short : (r : Result ℕ Refusal) → length old < n → r ≡ Err (record { kind = Room; segment = 0; field = 0 }) → Call (unescaped_told d raw s f (length old)) old r old
     text-short r h g =
         call-refused (unescaped_told d raw s f (length old)) old (record { kind = Room; segment = 0; field = 0 }) r
         (asked-short d raw s f (length old) far.text far.is (omega (arith, far.long))) g
 
-    pub text-written : (y : List ℕ) → n ≤ length old → BufferHolds (unescape d (met raw)) old y → Call (unescaped_told d raw s f (length old)) old (Wrote n) y
+    pub text-written : (y : List ℕ) → n ≤ length old → BufferHolds (unescape d (met raw)) old y → Call (unescaped_told d raw s f (length old)) old (Ok n) y
     text-written y h k =
         let l : length far.text ≤ length old = omega (arith, far.long) in
         call-wrote (unescaped_told d raw s f (length old)) old far.text y n (asked-fits d raw s f (length old) far.text far.is l) far.long l

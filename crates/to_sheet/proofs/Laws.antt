@@ -7,15 +7,13 @@ use native.Mathlib.Omega.{arith}
 use borrow.Author.Tests.{leb-true, lt-ltb, le-ltb}
 use lib.Dec.{leb}
 use lib.ListN.{length, take, drop}
+use Rattle.std.specs.declared.result.Result.{Result}
+use Rattle.std.specs.declared.result.Result.TheVariants.{Ok, Err}
 use Rattle.rules.specs.declared.Delims.{Delims}
 use Rattle.rules.specs.declared.Counts.{Counts}
 use Rattle.rules.specs.declared.Kind.TheVariants.{Room}
 use Rattle.rules.specs.declared.Refusal.{Refusal}
-use Rattle.rules.specs.declared.Answer.{Answer}
-use Rattle.rules.specs.declared.Answer.TheVariants.{Accepted, Refused}
-use Rattle.rules.specs.declared.Written.{Written}
-use Rattle.rules.specs.declared.Written.TheVariants.{Wrote, NotWritten}
-use Rattle.rules.specs.Told.{gives, refused, refusal, told, over, Call}
+use Rattle.rules.specs.Told.{gives, refused, told, Call}
 use Rattle.rules.specs.Lists.{split, all_but_last, ended}
 use Rattle.rules.specs.Shift.{met}
 use Rattle.rules.specs.Frame.{delims_of, segments, segments_ok, name_of}
@@ -23,7 +21,7 @@ use Rattle.rules.specs.View.{view}
 use Rattle.rules.specs.Row.{rows_of}
 use Rattle.rules.specs.Check.{check_told}
 use Rattle.rules.specs.Sheet.{sheet_of, sheet_told, to_sheet}
-use Rattle.rules.proofs.Logic.{both, not-given, told_cases, called-as}
+use Rattle.rules.proofs.Logic.{both, not-given, told_cases, called-as, never-wrote}
 use Rattle.rules.proofs.Lists as Lists
 use Rattle.rules.proofs.Lists.{rest-is, rest-further}
 use Rattle.rules.proofs.Split.{ended-append}
@@ -35,7 +33,7 @@ use Rattle.unescape.specs.Unescaped.{fill}
 use Rattle.frame.specs.Frame.{good_of, frame_of, Sound}
 use Rattle.frame.proofs.Rules.{check-refused, sound}
 use Rattle.frame.proofs.Laws.{segment-there, ends-inside, good-there}
-use Rattle.fill.specs.Fill.{lesser, Filled, fill_at, Lined, longest}
+use Rattle.fill.specs.Fill.{Filled, fill_at, Lined, longest}
 use Rattle.sources.specs.Sources.{lines_of_body}
 use Rattle.to_sheet.specs.Sections.{sections}
 use Rattle.fill.proofs.Laws.{fill-nil, lined_then}
@@ -53,7 +51,7 @@ pub record Passing (d : Delims) (m out₀ : List ℕ) (at written : ℕ) (out : 
   pub lined : Lined 0 out₀ done written out
 
 pub begins : (d : Delims) (m out : List ℕ) → Sound m d → Passing d m out 0 0 out
-unfolding ended fill_at lesser fill
+unfolding ended fill_at fill
 begins d m out s = record {
   done = [];
   inside = omega arith;
@@ -147,27 +145,24 @@ module _ (m : List ℕ) (d : Delims) (s : Sound m d) (room : ℕ) where
   unfolding sheet_told
   told-whole h = rw (text-is, le-ltb room (length text) h)
 
-not-wrote : {P : Type 0} {k : Refusal} {n : ℕ} → NotWritten k ≡ Wrote n → P
-not-wrote h = let z : ◌≡◌ {A = ℕ} 0 1 = cc in absurd (omega arith)
-
 -- measured where nothing is lent, z, so the buffer is x still
 module _ (m : List ℕ) (d : Delims) (s : Sound m d) (x z : List ℕ) (n : ℕ) (measured : Filled n z (sections d (segments m)) []) where
   still : z ++ x ≡ x
   still = ap (λ (l : List ℕ). l ++ x) (measured.is ∙ fill-nil (sections d (segments m)))
 
   pub write-short : (k : Refusal) → length (z ++ x) < n → k ≡ record { kind = Room; segment = 0; field = 0 }
-      → Call (sheet_told (view m) (length x)) x (NotWritten k) (z ++ x)
-  write-short k h e = called-as (told-short m d s (length x) (omega (arith, measured.ends, ap length still))) (rw e (record { told = refl; buffer = still; within = λ i f. not-wrote f }))
+      → Call (sheet_told (view m) (length x)) x (Err k) (z ++ x)
+  write-short k h e = called-as (told-short m d s (length x) (omega (arith, measured.ends, ap length still))) (rw e (record { told = refl; buffer = still; within = λ i f. never-wrote f }))
 
-  pub write-whole : (r : ℕ) (y : List ℕ) → n ≤ length (z ++ x) → Filled r y (sections d (segments m)) (z ++ x) → Call (sheet_told (view m) (length x)) x (Wrote n) y
+  pub write-whole : (r : ℕ) (y : List ℕ) → n ≤ length (z ++ x) → Filled r y (sections d (segments m)) (z ++ x) → Call (sheet_told (view m) (length x)) x (Ok n) y
   write-whole r y h f =
       let room : length (sections d (segments m)) ≤ length x = omega (arith, measured.ends, ap length still) in
       called-as (told-whole m d s (length x) room)
       (record { told = ap gives measured.ends; buffer = f.is ∙ ap (fill (sections d (segments m))) still ∙ fits (sections d (segments m)) x room; within = λ i e. let q : i ≡ n = cc in omega (arith, measured.ends) })
 
 -- ---- the check first
-module _ (m : List ℕ) (a : Answer) (e : told a ≡ check_told m) where
-  module _ (c : Counts) (h : a ≡ Accepted c) where
+module _ (m : List ℕ) (a : Result Counts Refusal) (e : told a ≡ check_told m) where
+  module _ (c : Counts) (h : a ≡ Ok c) where
     accepted : check_told m ≡ gives c
     accepted = sym e ∙ ap told h
 
@@ -184,13 +179,5 @@ module _ (m : List ℕ) (a : Answer) (e : told a ≡ check_told m) where
     unfolding to_sheet
     sheet-told room = rw accepted
 
-    pub wrote-sheet : (x : List ℕ) (r : Written) (y : List ℕ) → Call (sheet_told (view m) (length x)) x r y → Call (to_sheet m (length x)) x r y
+    pub wrote-sheet : (x : List ℕ) (r : Result ℕ Refusal) (y : List ℕ) → Call (sheet_told (view m) (length x)) x r y → Call (to_sheet m (length x)) x r y
     wrote-sheet x r y w = called-as (sheet-told (length x)) w
-
-  module _ (k : Refusal) (h : a ≡ Refused k) where
-    not-told : (room : ℕ) → to_sheet m room ≡ refusal k
-    unfolding to_sheet
-    not-told room = rw (← e, h)
-
-    pub refused-sheet : (x : List ℕ) → Call (to_sheet m (length x)) x (NotWritten k) x
-    refused-sheet x = called-as (not-told (length x)) (record { told = refl; buffer = refl; within = λ i f. not-wrote f })

@@ -11,36 +11,28 @@ ghost use Rattle.frame.specs.Frame.{Sound};
 ghost use Rattle.fill.specs.Fill.{Filled};
 ghost use Rattle.to_sheet.specs.Sections.{sections};
 
-use rules::{Answer, Delims, Kind, Refusal, Written};
+use rules::{Delims, Kind, Refusal};
 
 // The check's refusal first; "Message to sheet gives 45 last."
-pub fn to_sheet(m: &[u8], out: &mut [u8]) -> Written
+#[tactic(auto, unfolding(rules::specs::Sheet::to_sheet))]
+pub fn to_sheet(m: &[u8], out: &mut [u8]) -> Result<usize, Refusal>
     ensures { SheetWritten m.now out.old result out.new }
 {
-    match checks::check(m) {
-        Answer::Refused(r) => Written::NotWritten(r),
-        Answer::Accepted(_) => {
-            let d = header::delims(m);
-            write(out, m, d)
-        }
-    }
+    checks::check(m)?;
+    write(out, m, header::delims(m))
 }
 
 // 45, or the sheet. It is measured first, where nothing of the buffer is lent.
-fn write(out: &mut [u8], m: &[u8], d: Delims) -> Written
+fn write(out: &mut [u8], m: &[u8], d: Delims) -> Result<usize, Refusal>
     requires { Sound m.now d }
     ensures { Call (sheet_told (view m.now) (length out.old)) out.old result out.new }
 {
     let n = pass(&mut out[..0], m, d);
     if out.len() < n {
-        return Written::NotWritten(Refusal {
-            kind: Kind::Room,
-            segment: 0,
-            field: 0,
-        });
+        return Err(Kind::Room.into());
     }
     pass(out, m, d);
-    Written::Wrote(n)
+    Ok(n)
 }
 
 // One pass over the segments: their lines as far as the buffer reaches, and how long they are, whatever the room.

@@ -1,18 +1,18 @@
 -- The laws of escaping: how a byte is written, and what a loop that escapes a text keeps. Assumes nothing.
 use mathlib.Core.Path.{◌≡◌, refl, sym, ap, ◌∙◌}
-use mathlib.Core.Bool.{Bool, true, false, not, ◌||◌}
+use mathlib.Core.Bool.{Bool, true}
+use mathlib.Core.Option.{none, some}
 use mathlib.Core.List.{List, [], ◌∷◌, ◌++◌}
 use Prim.Native.Nat.{ℕ, ◌+◌, ◌-◌, ◌≤◌, ◌<◌}
 use native.Mathlib.Omega.{arith}
 use borrow.Author.Tests.{eq-eqb, ne_eqb}
-use lib.Dec.{eqb}
 use lib.ListN.{length, drop, get_or, set, length-append}
 use Rattle.rules.specs.declared.Delims.{Delims}
 use Rattle.rules.specs.declared.Mode.TheVariants.{One}
-use Rattle.rules.specs.Shift.{marks, met, byte_of}
+use Rattle.rules.specs.Shift.{marks, met}
 use Rattle.rules.specs.Escape.{letters, letter_for, escape_met, escape}
 use Rattle.rules.specs.Proper.{Proper}
-use Rattle.rules.proofs.Logic.{cases, option_cases, never, not-true, not-false}
+use Rattle.rules.proofs.Logic.{option_cases}
 use Rattle.rules.proofs.Modes.{marks-over}
 use Rattle.rules.proofs.Header.{delim-far}
 use Rattle.rules.proofs.Escaped.{no-letter, unlettered, byte-near, escape-far}
@@ -20,81 +20,57 @@ use Rattle.scan.specs.Scan.{between, hidden, Reaches, alnum}
 use Rattle.scan.proofs.Laws.{between_none, between-length, alnum-plain}
 use Rattle.scan.proofs.Walk.{plain-on, apart}
 use Rattle.writer.specs.Over.{Wrote, Put}
-use Rattle.writer.specs.Escaping.{unit_as, unit_of, letter_or_zero, letter_of, lettered, is_delimiter}
+use Rattle.writer.specs.Escaping.{unit_as, unit_of}
 use Rattle.writer.proofs.Laws.{stored, Splits, Running, run-start, run_room, run-next, run_end}
 
 -- ---- the letter of a byte
 module _ (d : Delims) (b : ℕ) where
-  pub letter-field : b ≡ d.field → 70 ≡ letter_of d b
-  unfolding letter_of letter_for letters letter_or_zero
-  letter-field e = cc (eq-eqb b d.field e)
+  pub letter_field : b ≡ d.field → letter_for (letters d) b ≡ some 70
+  unfolding letter_for letters
+  letter_field e = cc (eq-eqb b d.field e)
 
   module _ (n1 : b ≡ d.field → ⊥) where
-    pub letter-component : b ≡ d.component → 83 ≡ letter_of d b
-    unfolding letter_of letter_for letters letter_or_zero
-    letter-component e = cc (ne_eqb b d.field n1, eq-eqb b d.component e)
+    pub letter_component : b ≡ d.component → letter_for (letters d) b ≡ some 83
+    unfolding letter_for letters
+    letter_component e = cc (ne_eqb b d.field n1, eq-eqb b d.component e)
 
     module _ (n2 : b ≡ d.component → ⊥) where
-      pub letter-sub : b ≡ d.sub → 84 ≡ letter_of d b
-      unfolding letter_of letter_for letters letter_or_zero
-      letter-sub e = cc (ne_eqb b d.field n1, ne_eqb b d.component n2, eq-eqb b d.sub e)
+      pub letter_sub : b ≡ d.sub → letter_for (letters d) b ≡ some 84
+      unfolding letter_for letters
+      letter_sub e = cc (ne_eqb b d.field n1, ne_eqb b d.component n2, eq-eqb b d.sub e)
 
       module _ (n3 : b ≡ d.sub → ⊥) where
-        pub letter-repetition : b ≡ d.repetition → 82 ≡ letter_of d b
-        unfolding letter_of letter_for letters letter_or_zero
-        letter-repetition e = cc (ne_eqb b d.field n1, ne_eqb b d.component n2, ne_eqb b d.sub n3, eq-eqb b d.repetition e)
+        pub letter_repetition : b ≡ d.repetition → letter_for (letters d) b ≡ some 82
+        unfolding letter_for letters
+        letter_repetition e = cc (ne_eqb b d.field n1, ne_eqb b d.component n2, ne_eqb b d.sub n3, eq-eqb b d.repetition e)
 
         module _ (n4 : b ≡ d.repetition → ⊥) where
-          pub letter-escape : b ≡ d.escape → 69 ≡ letter_of d b
-          unfolding letter_of letter_for letters letter_or_zero
-          letter-escape e =
+          pub letter_escape : b ≡ d.escape → letter_for (letters d) b ≡ some 69
+          unfolding letter_for letters
+          letter_escape e =
               cc (ne_eqb b d.field n1, ne_eqb b d.component n2, ne_eqb b d.sub n3, ne_eqb b d.repetition n4, eq-eqb b d.escape e)
 
-          pub letter-none : (b ≡ d.escape → ⊥) → 0 ≡ letter_of d b
-          unfolding letter_of letter_or_zero
-          letter-none n5 =
-              cc (no-letter d b (ne_eqb b d.field n1) (ne_eqb b d.component n2) (ne_eqb b d.sub n3) (ne_eqb b d.repetition n4) (ne_eqb b d.escape n5))
+          pub letter_none : (b ≡ d.escape → ⊥) → letter_for (letters d) b ≡ none
+          letter_none n5 = no-letter d b (ne_eqb b d.field n1) (ne_eqb b d.component n2) (ne_eqb b d.sub n3) (ne_eqb b d.repetition n4) (ne_eqb b d.escape n5)
 
--- ---- whether it has one
-pub delimiter-is : (d : Delims) (b : ℕ)
-    → (eqb b d.field || eqb b d.component || eqb b d.sub || eqb b d.repetition || eqb b d.escape) ≡ is_delimiter d b
-unfolding is_delimiter lettered letter_for letters
-delimiter-is d b =
-    cases (eqb b d.field) (λ e. cc)
-    (λ e. cases (eqb b d.component) (λ f. cc)
-    (λ f. cases (eqb b d.sub) (λ g. cc)
-    (λ g. cases (eqb b d.repetition) (λ h. cc)
-    (λ h. cases (eqb b d.escape) (λ k. cc) (λ k. cc)))))
+pub ruleset letter_laws = (letter_field, letter_component, letter_sub, letter_repetition, letter_escape, letter_none)
 
 -- ---- one byte of one-byte mode written
-module _ (d : Delims) (b : ℕ) (t : Bool) (e : t ≡ is_delimiter d b) where
-  unit-plain : t ≡ false → unit_of d b ≡ byte_of b ∷ []
-  unfolding unit_of unit_as is_delimiter lettered
-  unit-plain z = option_cases (letter_for (letters d) b) (λ k q. let w : t ≡ true = e ∙ rw q in never (sym w ∙ z)) (λ q. rw q)
+module _ (d : Delims) (b : ℕ) where
+  pub unit_plain : letter_for (letters d) b ≡ none → b < 256 → unit_of d b ≡ b ∷ []
+  unfolding unit_of unit_as
+  unit_plain e h = rw (e, byte-near b h)
 
-  unit-escaped : t ≡ true → unit_of d b ≡ d.escape ∷ letter_of d b ∷ d.escape ∷ []
-  unfolding unit_of unit_as is_delimiter lettered letter_of letter_or_zero
-  unit-escaped y = option_cases (letter_for (letters d) b) (λ k q. rw q) (λ q. let w : t ≡ false = e ∙ rw q in never (sym y ∙ w))
+  pub unit_escaped : (l : ℕ) → letter_for (letters d) b ≡ some l → unit_of d b ≡ d.escape ∷ l ∷ d.escape ∷ []
+  unfolding unit_of unit_as
+  unit_escaped l e = rw e
 
-  pub len-plain : t ≡ false → 1 ≡ length (unit_of d b)
-  len-plain z = sym (ap length (unit-plain z))
+  pub len_plain : letter_for (letters d) b ≡ none → length (unit_of d b) ≡ 1
+  unfolding unit_of unit_as
+  len_plain e = rw e
 
-  pub len-escaped : t ≡ true → 3 ≡ length (unit_of d b)
-  len-escaped y = sym (ap length (unit-escaped y))
-
-  module _ (at : ℕ) (x : List ℕ) where
-    pub room-plain : not t ≡ true → at + length (unit_of d b) ≤ length x → at + length (b ∷ []) ≤ length x
-    room-plain z r = omega (arith, len-plain (not-true t z))
-
-    pub room-escaped : (l : ℕ) → not t ≡ false → at + length (unit_of d b) ≤ length x → at + length (d.escape ∷ l ∷ d.escape ∷ []) ≤ length x
-    room-escaped l y r = omega (arith, len-escaped (not-false t y))
-
-    module _ (r : ℕ) (y : List ℕ) where
-      pub put-plain : not t ≡ true → b < 256 → Put at x (b ∷ []) r y → Put at x (unit_of d b) r y
-      put-plain z h p = rw (unit-plain (not-true t z), byte-near b h) p
-
-      pub put-escaped : (l : ℕ) → not t ≡ false → l ≡ letter_of d b → Put at x (d.escape ∷ l ∷ d.escape ∷ []) r y → Put at x (unit_of d b) r y
-      put-escaped l o g p = rw (unit-escaped (not-false t o), ← g) p
+  pub len_escaped : (l : ℕ) → letter_for (letters d) b ≡ some l → length (unit_of d b) ≡ 3
+  len_escaped l e = rw (unit_escaped l e)
 
 -- ---- a text written from one byte of one-byte mode to the next
 escape-cons : (d : Delims) (x : ℕ) (s : List ℕ) → escape_met d (x ∷ s) ≡ unit_of d x ++ escape_met d s

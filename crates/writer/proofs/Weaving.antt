@@ -1,11 +1,11 @@
 -- The laws of a segment by its pattern. Assumes nothing.
 use mathlib.Core.Path.{◌≡◌, refl, ap, ◌∙◌}
-use mathlib.Core.Bool.{cond}
 use mathlib.Core.List.{List, [], ◌∷◌}
 use Prim.Native.Nat.{ℕ, zero, suc, ◌+◌, ◌*◌, ◌≤◌, ◌<◌}
 use Prim.Native.Char.{code}
 use native.Mathlib.Omega.{arith}
-use borrow.Author.Tests.{eq-eqb, ne_eqb, le-leb, lt-leb}
+use borrow.Author.Tests.{ne_eqb, le-leb, lt-leb}
+use Rattle.std.specs.Prelude.{fold, sum_by}
 use lib.Dec.{eqb}
 use lib.ListN.{length, drop, get_or, length-append}
 use lib.Seq.{drop-drop}
@@ -19,96 +19,43 @@ use Rattle.writer.specs.Over.{Wrote, Put, fitted, Fit}
 use Rattle.writer.specs.Woven.{delimiter_of, taken, slot_text, first_text, woven, holes, sizes}
 use Rattle.writer.proofs.Laws.{Splits, Running, run-start, run_room, run-next, run_end}
 
--- ---- general: a chain of early returns, each on a byte
-pub hit : {A : Type 0} (b k : ℕ) (x y : A) → b ≡ k → x ≡ cond (eqb b k) x y
-hit b k x y e = rw (eq-eqb b k e)
-
-pub miss : {A : Type 0} (b k : ℕ) (x y z : A) → (b ≡ k → ⊥) → z ≡ y → z ≡ cond (eqb b k) x y
-miss b k x y z n e = rw (ne_eqb b k n) e
-
 -- ---- one byte of the pattern
 module _ (b : ℕ) where
-  pub takes-text : b ≡ code "$" → taken b ≡ 1
+  pub takes_text : b ≡ code "$" → taken b ≡ 1
   unfolding taken
-  takes-text e = rw (eq-eqb b 36 e)
+  takes_text e = rw e
 
-  pub takes-plain : (b ≡ code "$" → ⊥) → b ≡ code "#" → taken b ≡ 1
+  pub takes_plain : b ≡ code "#" → taken b ≡ 1
   unfolding taken
-  takes-plain n e = rw (ne_eqb b 36 n, eq-eqb b 35 e)
+  takes_plain e = rw e
 
   module _ (d : Delims) (t : List ℕ) where
-    slot-text : b ≡ code "$" → slot_text d b t ≡ escape d t
+    pub slot_escaped : b ≡ code "$" → slot_text d b t ≡ escape d t
     unfolding slot_text
-    slot-text e = rw (eq-eqb b 36 e)
+    slot_escaped e = rw e
 
-    slot-plain : (b ≡ code "$" → ⊥) → b ≡ code "#" → slot_text d b t ≡ t
+    pub slot_plain : b ≡ code "#" → slot_text d b t ≡ t
     unfolding slot_text
-    slot-plain n e = rw (ne_eqb b 36 n, eq-eqb b 35 e)
+    slot_plain e = rw e
 
-    slot-itself : (b ≡ code "$" → ⊥) → (b ≡ code "#" → ⊥) → slot_text d b t ≡ delimiter_of d b ∷ []
+    pub slot_itself : (b ≡ code "$" → ⊥) → (b ≡ code "#" → ⊥) → slot_text d b t ≡ delimiter_of d b ∷ []
     unfolding slot_text
-    slot-itself n m = rw (ne_eqb b 36 n, ne_eqb b 35 m)
+    slot_itself n m = rw (ne_eqb b 36 n, ne_eqb b 35 m)
 
 -- the next text is there
-pub next-is : (ts : List (Bor (List ℕ))) (q : ℕ) (z : Bor (List ℕ)) → q < length ts → first_text (drop q ts) ≡ (get_or ts q z).now
+pub next_is : (ts : List (Bor (List ℕ))) (q : ℕ) (z : Bor (List ℕ)) → q < length ts → first_text (drop q ts) ≡ (get_or ts q z).now
 unfolding first_text
-next-is ts q z h = rw (here z ts q h)
+next_is ts q z h = rw (here z ts q h)
 
-pub next-size : (ts : List (Bor (List ℕ))) (q : ℕ) → length (first_text (drop q ts)) ≤ sizes ts
+pub next_size : (ts : List (Bor (List ℕ))) (q : ℕ) → length (first_text (drop q ts)) ≤ sizes ts
 unfolding first_text sizes
-next-size [] zero = omega arith
-next-size [] (suc q) = omega arith
-next-size (t ∷ ts) zero = omega arith
-next-size (t ∷ ts) (suc q) = omega (arith, next-size ts q)
+next_size [] zero = omega arith
+next_size [] (suc q) = omega arith
+next_size (t ∷ ts) zero = omega arith
+next_size (t ∷ ts) (suc q) = omega (arith, next_size ts q)
 
-module _ (d : Delims) (b : ℕ) (ts : List (Bor (List ℕ))) (q : ℕ) where
-  pub there-text : b ≡ code "$" → q + taken b ≤ length ts → q < length ts
-  there-text e h = omega (arith, takes-text b e)
-
-  pub there-plain : (b ≡ code "$" → ⊥) → b ≡ code "#" → q + taken b ≤ length ts → q < length ts
-  there-plain n e h = omega (arith, takes-plain b n e)
-
-  module _ (z : Bor (List ℕ)) (p : q < length ts) where
-    same_text : b ≡ code "$" → slot_text d b (first_text (drop q ts)) ≡ escape d (get_or ts q z).now
-    same_text e = slot-text b d (first_text (drop q ts)) e ∙ ap (escape d) (next-is ts q z p)
-
-    same-plain : (b ≡ code "$" → ⊥) → b ≡ code "#" → slot_text d b (first_text (drop q ts)) ≡ (get_or ts q z).now
-    same-plain n e = slot-plain b d (first_text (drop q ts)) n e ∙ next-is ts q z p
-
-  module _ (at : ℕ) (x : List ℕ) (fits : at + length (slot_text d b (first_text (drop q ts))) ≤ length x) where
-    pub room-text : (z : Bor (List ℕ)) → b ≡ code "$" → q + taken b ≤ length ts → at + length (escape d (get_or ts q z).now) ≤ length x
-    room-text z e h = rw (same_text z (there-text e h) e) at fits
-
-    pub room-plain : (z : Bor (List ℕ)) → (b ≡ code "$" → ⊥) → b ≡ code "#" → q + taken b ≤ length ts → at + length (get_or ts q z).now ≤ length x
-    room-plain z n e h = rw (same-plain z (there-plain n e h) n e) at fits
-
-    pub room-itself : (k : ℕ) → (b ≡ code "$" → ⊥) → (b ≡ code "#" → ⊥) → at + length (k ∷ []) ≤ length x
-    room-itself k n m = rw (slot-itself b d (first_text (drop q ts)) n m) at fits
-
-  module _ (at : ℕ) (x : List ℕ) (r : ℕ) (y : List ℕ) where
-    pub put-text : (z : Bor (List ℕ)) → b ≡ code "$" → q + taken b ≤ length ts → Put at x (escape d (get_or ts q z).now) r y → Put at x (slot_text d b (first_text (drop q ts))) r y
-    put-text z e h p = rw (same_text z (there-text e h) e) p
-
-    pub put-plain : (z : Bor (List ℕ)) → (b ≡ code "$" → ⊥) → b ≡ code "#" → q + taken b ≤ length ts → Put at x (get_or ts q z).now r y
-        → Put at x (slot_text d b (first_text (drop q ts))) r y
-    put-plain z n e h p = rw (same-plain z (there-plain n e h) n e) p
-
-    pub put-itself : (k : ℕ) → (b ≡ code "$" → ⊥) → (b ≡ code "#" → ⊥) → k ≡ delimiter_of d b → Put at x (k ∷ []) r y → Put at x (slot_text d b (first_text (drop q ts))) r y
-    put-itself k n m e p = rw (slot-itself b d (first_text (drop q ts)) n m, ← e) p
-
-  pub small-text : sizes ts ≤ 1000000 → (z : Bor (List ℕ)) → b ≡ code "$" → q + taken b ≤ length ts → length (get_or ts q z).now ≤ 1000000
-  small-text fits z e h = omega (arith, next-size ts q, ap length (next-is ts q z (there-text e h)))
-
-  module _ (r : ℕ) where
-    pub len-text : (z : Bor (List ℕ)) → b ≡ code "$" → q + taken b ≤ length ts → r ≡ length (escape d (get_or ts q z).now) → r ≡ length (slot_text d b (first_text (drop q ts)))
-    len-text z e h g = rw (same_text z (there-text e h) e) g
-
-    pub len-plain : (z : Bor (List ℕ)) → (b ≡ code "$" → ⊥) → b ≡ code "#" → q + taken b ≤ length ts → r ≡ length (get_or ts q z).now
-        → r ≡ length (slot_text d b (first_text (drop q ts)))
-    len-plain z n e h g = rw (same-plain z (there-plain n e h) n e) g
-
-  pub len-itself : (b ≡ code "$" → ⊥) → (b ≡ code "#" → ⊥) → 1 ≡ length (slot_text d b (first_text (drop q ts)))
-  len-itself n m = rw (slot-itself b d (first_text (drop q ts)) n m)
+-- what stands for it, by the byte, and where its text is the next
+pub ruleset slot_laws = (takes_text, takes_plain, slot_escaped, slot_plain, slot_itself, next_is, next_size)
 
 -- ---- no byte takes more than three
 sizes-first : (ts : List (Bor (List ℕ))) → sizes ts ≡ length (first_text ts) + sizes (drop 1 ts)
@@ -161,9 +108,6 @@ module _ (d : Delims) (p : List ℕ) (ts : List (Bor (List ℕ))) (whole out₀ 
   unfolding woven
   woven-ends h = run_end run (rw (over p i h))
 
-pub sum-begins : (d : Delims) (p : List ℕ) (ts : List (Bor (List ℕ))) → 0 + length (woven d (drop 0 p) (drop 0 ts)) ≡ length (woven d p ts)
-sum-begins d p ts = omega arith
-
 module _ (d : Delims) (p : List ℕ) (ts : List (Bor (List ℕ))) (whole : List ℕ) (i q n : ℕ) (sum : n + length (woven d (drop i p) (drop q ts)) ≡ length whole) where
   pub sum_goes : (u k : ℕ) → i < length p → u ≡ length (slot_text d (get_or p i 0) (first_text (drop q ts))) → k ≡ taken (get_or p i 0)
       → (n + u) + length (woven d (drop (i + 1) p) (drop (q + k) ts)) ≡ length whole
@@ -178,20 +122,13 @@ module _ (d : Delims) (p : List ℕ) (ts : List (Bor (List ℕ))) (whole : List 
   sum-ends h = let e : length (woven d (drop i p) (drop q ts)) ≡ 0 = rw (over p i h) in omega arith
 
 -- ---- the texts added up
-pub sizes_begin : (ts : List (Bor (List ℕ))) → 0 + sizes (drop 0 ts) ≡ sizes ts
-sizes_begin ts = omega arith
+added : (n : ℕ) (ts : List (Bor (List ℕ))) → fold (λ a (t : Bor (List ℕ)). a + length t.now) n ts ≡ n + sizes ts
+unfolding sizes
+added n [] = omega arith
+added n (t ∷ ts) = added (n + length t.now) ts ∙ omega arith
 
-module _ (ts : List (Bor (List ℕ))) (i n w : ℕ) (sum : n + sizes (drop i ts) ≡ w) where
-  pub sizes-go : (z : Bor (List ℕ)) (k : ℕ) → i < length ts → k ≡ length (get_or ts i z).now → (n + k) + sizes (drop (i + 1) ts) ≡ w
-  unfolding sizes
-  sizes-go z k h e = let q : sizes (drop i ts) ≡ length (get_or ts i z).now + sizes (drop (i + 1) ts) = rw (here z ts i h) in omega arith
-
-  pub sizes-few : (z : Bor (List ℕ)) (k : ℕ) → i < length ts → k ≡ length (get_or ts i z).now → w ≤ 1000000 → n + k < 18446744073709551616
-  sizes-few z k h e f = omega (arith, sizes-go z k h e)
-
-  pub sizes-end : length ts ≤ i → n ≡ w
-  unfolding sizes
-  sizes-end h = let q : sizes (drop i ts) ≡ 0 = rw (over ts i h) in omega arith
+pub sizes_sum : (ts : List (Bor (List ℕ))) → sum_by (λ (t : Bor (List ℕ)). length t.now) ts ≡ sizes ts
+sizes_sum ts = added 0 ts ∙ omega arith
 
 -- ---- where there is room
 module _ (d : Delims) (p : List ℕ) (ts : List (Bor (List ℕ))) where

@@ -1,30 +1,30 @@
 // Writing into a lent buffer: bytes, numbers and escaped texts, each over the front of what remains of it, and the rest stays.
 #![tactic(auto)]
 
-ghost use Rattle.std.specs.Prelude.{◌≡◌, ◌+◌, ◌*◌, ◌≤◌, length, drop};
-ghost use Rattle.rules.specs.Escape.{escape};
+ghost use Rattle.std.specs.Prelude.{◌≡◌, ◌+◌, ◌*◌, ◌≤◌, length, drop, MatchOption};
+ghost use Rattle.std.proofs.Math.Option.{none, some};
+ghost use Rattle.rules.specs.Escape.{letters, letter_for, escape};
 ghost use Rattle.rules.specs.Lists.{decimal};
 ghost use Rattle.rules.specs.Proper.{Proper};
 ghost use Rattle.writer.specs.Over.{Wrote, Put, Fit};
 ghost use Rattle.writer.specs.Woven.{delimiter_of, taken, slot_text, first_text, woven, holes, sizes};
-ghost use Rattle.writer.specs.Escaping.{unit_of, letter_of, is_delimiter};
+ghost use Rattle.writer.specs.Escaping.{unit_of};
 
 use rules::Delims;
 
 // Copies bytes to the front of the lent tail.
+#[tactic(auto, unfolding(crate::specs::Over::over_front))]
 pub fn put(out: &mut [u8], bytes: &[u8]) -> usize
     requires { length bytes.now ≤ length out.old }
     ensures { Wrote result out.new bytes.now out.old }
 {
-    let mut i = 0;
-    while i < bytes.len() {
-        out[i] = bytes[i];
-        i += 1;
-    }
-    i
+    let n = bytes.len();
+    out[..n].copy_from_slice(bytes);
+    n
 }
 
 // The same at a place: lends the tail.
+#[tactic(auto, using(crate::proofs::Laws::back))]
 pub fn put_at(out: &mut [u8], at: usize, bytes: &[u8]) -> usize
     requires { at + length bytes.now ≤ length out.old }
     ensures { Put at out.old bytes.now result out.new }
@@ -45,6 +45,7 @@ pub fn put_number(out: &mut [u8], n: usize) -> usize
     put_at(out, k, &[(48 + n % 10) as u8])
 }
 
+#[tactic(auto, using(crate::proofs::Laws::back))]
 pub fn put_number_at(out: &mut [u8], at: usize, n: usize) -> usize
     requires { at + length (decimal n) ≤ length out.old }
     ensures { Put at out.old (decimal n) result out.new }
@@ -54,56 +55,47 @@ pub fn put_number_at(out: &mut [u8], at: usize, n: usize) -> usize
 
 // ---- escaped text
 
-// The letter that stands for a delimiter, 0 for any other byte.
-fn letter_for(b: u8, d: Delims) -> u8
-    ensures { result ≡ letter_of d b }
+// The letter that stands for a delimiter; another byte has none.
+#[tactic(auto, using(crate::proofs::Escapes::letter_laws))]
+fn letter_for(b: u8, d: Delims) -> Option<u8>
+    ensures { MatchOption result (letter_for (letters d) b ≡ none) (λ l. letter_for (letters d) b ≡ some l) }
 {
     if b == d.field {
-        return b'F';
+        Some(b'F')
+    } else if b == d.component {
+        Some(b'S')
+    } else if b == d.sub {
+        Some(b'T')
+    } else if b == d.repetition {
+        Some(b'R')
+    } else if b == d.escape {
+        Some(b'E')
+    } else {
+        None
     }
-    if b == d.component {
-        return b'S';
-    }
-    if b == d.sub {
-        return b'T';
-    }
-    if b == d.repetition {
-        return b'R';
-    }
-    if b == d.escape {
-        return b'E';
-    }
-    0
-}
-
-// Whether b is one of the five delimiters.
-fn is_delimiter(b: u8, d: Delims) -> bool
-    ensures { result ≡ is_delimiter d b }
-{
-    (b == d.field) | (b == d.component) | (b == d.sub) | (b == d.repetition) | (b == d.escape)
 }
 
 // A byte of one-byte mode, escaped where it is a delimiter.
+#[tactic(auto, using(crate::proofs::Escapes::unit_plain, crate::proofs::Escapes::unit_escaped))]
 fn put_unit(out: &mut [u8], at: usize, b: u8, d: Delims) -> usize
     requires { at + length (unit_of d b) ≤ length out.old }
     ensures { Put at out.old (unit_of d b) result out.new }
 {
-    if !is_delimiter(b, d) {
-        return put_at(out, at, &[b]);
+    match letter_for(b, d) {
+        Some(l) => put_at(out, at, &[d.escape, l, d.escape]),
+        None => put_at(out, at, &[b]),
     }
-    let e = d.escape;
-    let l = letter_for(b, d);
-    put_at(out, at, &[e, l, e])
 }
 
 // How many bytes it takes.
+#[tactic(auto, using(crate::proofs::Escapes::len_plain, crate::proofs::Escapes::len_escaped))]
 fn unit_len(b: u8, d: Delims) -> usize
     ensures { (result ≡ length (unit_of d b)) × (result ≤ 3) }
 {
-    if is_delimiter(b, d) {
-        return 3;
+    match letter_for(b, d) {
+        Some(_) => 3,
+        None => 1,
     }
-    1
 }
 
 // How many bytes a text takes, escaped.
@@ -114,6 +106,7 @@ fn escaped_len(text: &[u8], d: Delims) -> usize
 {
     let mut n: usize = 0;
     let mut i = 0;
+    // A step is one byte, or a byte and the two-byte units behind it: no `for` goes so.
     while i < text.len() {
         let b = text[i];
         // A letter or digit is no delimiter and stands for itself.
@@ -137,6 +130,7 @@ fn put_escaped(out: &mut [u8], text: &[u8], d: Delims) -> usize
 {
     let mut at = 0;
     let mut i = 0;
+    // A step as in `escaped_len`.
     while i < text.len() {
         let b = text[i];
         // A letter or digit is no delimiter and stands for itself.
@@ -156,6 +150,7 @@ fn put_escaped(out: &mut [u8], text: &[u8], d: Delims) -> usize
     at
 }
 
+#[tactic(auto, using(crate::proofs::Laws::back))]
 fn put_escaped_at(out: &mut [u8], at: usize, text: &[u8], d: Delims) -> usize
     requires { (at + length (escape d text.now) ≤ length out.old) × Proper d }
     ensures { Put at out.old (escape d text.now) result out.new }
@@ -166,71 +161,54 @@ fn put_escaped_at(out: &mut [u8], at: usize, text: &[u8], d: Delims) -> usize
 // ---- a segment by its pattern
 
 // The delimiter that a byte of a pattern stands for, or the byte itself.
+#[tactic(auto, using(std::proofs::lemmas::Bool::Decides::nat_tests), unfolding(crate::specs::Woven::delimiter_of))]
 fn delimiter(slot: u8, d: Delims) -> u8
     ensures { result ≡ delimiter_of d slot }
 {
-    if slot == b'|' {
-        return d.field;
+    match slot {
+        b'|' => d.field,
+        b'^' => d.component,
+        b'~' => d.repetition,
+        b'\\' => d.escape,
+        b'&' => d.sub,
+        _ => slot,
     }
-    if slot == b'^' {
-        return d.component;
-    }
-    if slot == b'~' {
-        return d.repetition;
-    }
-    if slot == b'\\' {
-        return d.escape;
-    }
-    if slot == b'&' {
-        return d.sub;
-    }
-    slot
 }
 
 // How many texts it takes.
+#[tactic(auto, using(std::proofs::lemmas::Bool::Decides::nat_tests), unfolding(crate::specs::Woven::taken))]
 fn texts_for(slot: u8) -> usize
     ensures { (result ≡ taken slot) × (result ≤ 1) }
 {
-    if slot == b'$' {
-        return 1;
+    match slot {
+        b'$' | b'#' => 1,
+        _ => 0,
     }
-    if slot == b'#' {
-        return 1;
-    }
-    0
 }
 
 // What stands for it in the segment, and how many bytes that is.
+#[tactic(auto, using(crate::proofs::Weaving::slot_laws))]
 fn put_slot(out: &mut [u8], at: usize, slot: u8, texts: &[&[u8]], next: usize, d: Delims) -> usize
     requires { (next + taken slot ≤ length texts.now) × (at + length (slot_text d slot (first_text (drop next texts.now))) ≤ length out.old) × Proper d }
     ensures { Put at out.old (slot_text d slot (first_text (drop next texts.now))) result out.new }
 {
-    if slot == b'$' {
-        return put_escaped_at(out, at, texts[next], d);
+    match slot {
+        b'$' => put_escaped_at(out, at, texts[next], d),
+        b'#' => put_at(out, at, texts[next]),
+        _ => put_at(out, at, &[delimiter(slot, d)]),
     }
-    if slot == b'#' {
-        return put_at(out, at, texts[next]);
-    }
-    put_at(out, at, &[delimiter(slot, d)])
 }
 
+#[tactic(auto, using(crate::proofs::Weaving::slot_laws))]
 fn slot_len(slot: u8, texts: &[&[u8]], next: usize, d: Delims) -> usize
     requires { (next + taken slot ≤ length texts.now) × (sizes texts.now ≤ 1000000) × Proper d }
     ensures { result ≡ length (slot_text d slot (first_text (drop next texts.now))) }
 {
-    if slot == b'$' {
-        return escaped_len(texts[next], d);
+    match slot {
+        b'$' => escaped_len(texts[next], d),
+        b'#' => texts[next].len(),
+        _ => 1,
     }
-    if slot == b'#' {
-        return length_of(texts[next]);
-    }
-    1
-}
-
-fn length_of(text: &[u8]) -> usize
-    ensures { result ≡ length text.now }
-{
-    text.len()
 }
 
 // The whole pattern.
@@ -240,12 +218,9 @@ fn put_woven(out: &mut [u8], pattern: &[u8], texts: &[&[u8]], d: Delims) -> usiz
 {
     let mut at = 0;
     let mut next = 0;
-    let mut i = 0;
-    while i < pattern.len() {
-        let slot = pattern[i];
-        at = put_slot(out, at, slot, texts, next, d);
-        next += texts_for(slot);
-        i += 1;
+    for slot in pattern {
+        at = put_slot(out, at, *slot, texts, next, d);
+        next += texts_for(*slot);
     }
     at
 }
@@ -256,12 +231,9 @@ fn woven_len(pattern: &[u8], texts: &[&[u8]], d: Delims) -> usize
 {
     let mut n: usize = 0;
     let mut next = 0;
-    let mut i = 0;
-    while i < pattern.len() {
-        let slot = pattern[i];
-        n += slot_len(slot, texts, next, d);
-        next += texts_for(slot);
-        i += 1;
+    for slot in pattern {
+        n += slot_len(*slot, texts, next, d);
+        next += texts_for(*slot);
     }
     n
 }
@@ -271,13 +243,7 @@ fn sizes_of(texts: &[&[u8]]) -> usize
     requires { sizes texts.now ≤ 1000000 }
     ensures { result ≡ sizes texts.now }
 {
-    let mut n: usize = 0;
-    let mut i = 0;
-    while i < texts.len() {
-        n += length_of(texts[i]);
-        i += 1;
-    }
-    n
+    texts.iter().map(|t| t.len()).sum()
 }
 
 // Writes it where the lent tail has room, and answers its length in either case. No byte takes more than three, so it is measured only where

@@ -1,5 +1,4 @@
 use borrow.Author.Rules.{rules}
-use Prim.Native.Nat.{◌-◌}
 use Rattle.csv_keys.proofs.Items.{blank-starts, blank-found, blank-on, blank_none}
 use Rattle.csv_keys.proofs.blank_at.Goals as goal
 

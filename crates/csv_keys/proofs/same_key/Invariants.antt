@@ -1,12 +1,12 @@
 use mathlib.Core.Path.{◌≡◌}
-use Prim.Native.Nat.{◌-◌, ◌≤◌}
+use Prim.Native.Nat.{◌+◌}
+use lib.ListN.{length}
 use Rattle.rules.specs.Lists.{same}
-use Rattle.csv_keys.specs.Keys.{raw_of}
-use Rattle.csv_keys.specs.Ways.{left_of}
+use Rattle.csv_keys.specs.Keys.{raw_value}
 use Rattle.csv_keys.proofs.same_key.Given as goal
 
-abbrev pub invariant-loop-i : goal.invariant-loop-i
-invariant-loop-i l = (l.i ≤ l.m) × (same (raw_of l.file l.a.lead l.a.filled l.a.start l.a.len) (raw_of l.file l.b.lead l.b.filled l.b.start l.b.len) ≡ same (left_of l.file l.a.lead l.a.filled l.a.start l.a.len l.i) (left_of l.file l.b.lead l.b.filled l.b.start l.b.len l.j))
+abbrev pub invariant-loop-p : goal.invariant-loop-p
+invariant-loop-p l = same (raw_value l.a.lead.now l.a.raw.now) (raw_value l.b.lead.now l.b.raw.now) ≡ same (raw_value l.x.lead.now l.x.raw.now) (raw_value l.y.lead.now l.y.raw.now)
 
-abbrev pub decreases-loop-i : goal.decreases-loop-i
-decreases-loop-i l = l.m - l.i
+abbrev pub decreases-loop-p : goal.decreases-loop-p
+decreases-loop-p l = length l.x.lead.now + length l.x.raw.now

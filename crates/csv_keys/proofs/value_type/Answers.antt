@@ -1,12 +1,26 @@
+use mathlib.Core.Path.{refl}
 use borrow.Author.Rules.{rules}
+use Rattle.rules.specs.Lists.{all}
 use Rattle.csv_keys.proofs.Codes.{kind-sn, kind-nm, kind-st}
 use Rattle.csv_keys.proofs.value_type.Goals as goal
 
-pub returns-then-len-code : goal.returns-then-len-code
-returns-then-len-code c = search (kind-sn, rules)
+pub returns-then-form-equal : goal.returns-then-form-equal
+returns-then-form-equal c = search (kind-sn, rules)
 
 pub returns-then-fine : goal.returns-then-fine
 returns-then-fine c = search (kind-nm, rules)
 
 pub returns : goal.returns
 returns c = search (kind-st, rules)
+
+pub in_place-requires : goal.in_place-requires
+unfolding all
+in_place-requires c = refl
+
+pub in_place-requires-then-fine : goal.in_place-requires-then-fine
+unfolding all
+in_place-requires-then-fine c = refl
+
+pub in_place-requires-2 : goal.in_place-requires-2
+unfolding all
+in_place-requires-2 c = refl

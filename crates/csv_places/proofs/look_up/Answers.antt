@@ -9,7 +9,7 @@ pub returns-then-p-eq0 : goal.returns-then-p-eq0
 returns-then-p-eq0 c = search (look-free, rules)
 
 pub number_marked-requires : goal.number_marked-requires
-number_marked-requires c = (search (place-row, rules), search rules, search (place-mark, rules), search rules)
+number_marked-requires c = (search (place-row, rules), search (place-mark, rules), search rules)
 
 pub returns-then-number_marked : goal.returns-then-number_marked
 returns-then-number_marked c = search (look-held, rules)

@@ -1,5 +1,4 @@
 use borrow.Author.Rules.{rules}
-use Prim.Native.Nat.{◌-◌}
 use Rattle.csv_rows.proofs.Items.{end-plain, end-two, end-last, end-stop, end-over}
 use Rattle.csv_rows.proofs.item_end.Goals as goal
 

@@ -1,13 +1,19 @@
 use borrow.Author.Rules.{rules}
 use Rattle.csv_rows.proofs.Items.{item-stops}
-use Rattle.csv_rows.proofs.Plain.{open-past, fine-past, item-plain, item-unjudged}
+use Rattle.csv_rows.proofs.Plain.{open-past, bad-past, fine-past, item-plain}
 use Rattle.csv_rows.proofs.item_past.Goals as goal
 
-pub returns-then-e-file : goal.returns-then-e-file
-returns-then-e-file c = record { item_at = search (open-past, rules); plain = search (item-unjudged, rules) }
+pub returns-then-e-file-clause-item_at : goal.returns-then-e-file-clause-item_at
+returns-then-e-file-clause-item_at c = search (open-past, rules)
 
-pub after_close-b-requires : goal.after_close-b-requires
-after_close-b-requires c = search (item-stops, rules)
+pub after_close-requires : goal.after_close-requires
+after_close-requires c = search (item-stops, rules)
 
-pub returns : goal.returns
-returns c = record { item_at = search (fine-past, rules); plain = search (item-plain, rules) }
+pub returns-in_err-b-clause-item_at : goal.returns-in_err-b-clause-item_at
+returns-in_err-b-clause-item_at c = search (bad-past, rules)
+
+pub returns-clause-item_at : goal.returns-clause-item_at
+returns-clause-item_at c = search (fine-past, rules)
+
+pub returns-clause-plain : goal.returns-clause-plain
+returns-clause-plain c = search (item-plain, rules)

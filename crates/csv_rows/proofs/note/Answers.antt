@@ -5,5 +5,5 @@ use Rattle.csv_rows.proofs.note.Goals as goal
 pub returns-then-n-lt45 : goal.returns-then-n-lt45
 returns-then-n-lt45 c = search (note-in, rules)
 
-pub returns : goal.returns
-returns c = search (note-out, rules)
+pub returns-else-n-lt45 : goal.returns-else-n-lt45
+returns-else-n-lt45 c = search (note-out, rules)

@@ -1,5 +1,4 @@
 use borrow.Author.Rules.{rules}
-use Prim.Native.Nat.{◌-◌}
 use Rattle.csv_rows.proofs.Plain.{plain_over, plain-on, plain-stop}
 use Rattle.csv_rows.proofs.plain_end.Goals as goal
 

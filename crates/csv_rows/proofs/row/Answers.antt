@@ -1,31 +1,22 @@
 use borrow.Author.Rules.{rules}
-use Prim.Native.Nat.{◌-◌}
-use Rattle.csv_rows.proofs.Laws.{row-starts, row-place, item-inside, row_room, row-few, row-less, row_on, row_ends}
+use Rattle.csv_rows.specs.Rows.{raw_of}
+use Rattle.csv_rows.proofs.Laws.{row-starts, row_stops, row_on, row_ends}
 use Rattle.csv_rows.proofs.row.Goals as goal
 
-pub loop-goes-init : goal.loop-goes-init
-loop-goes-init c = search (row-starts, rules)
+pub items-init : goal.items-init
+unfolding raw_of
+items-init c = search (row-starts, rules)
 
-pub overflow_add-at : goal.overflow_add-at
-overflow_add-at c = search (row-place, rules)
+pub returns-in_err-t : goal.returns-in_err-t
+returns-in_err-t c =
+    rw c.from_residual.ensures
+    (row_stops c.args.file.now c.args.at c.args.known (raw_of c.items.raw) c.items.size c.items.count c.items.good c.items.invariant c.in_err-t.ensures.item_at)
 
-pub next_item-t-requires : goal.next_item-t-requires
-next_item-t-requires c = search (row-place, rules)
+pub returns-then-not-t : goal.returns-then-not-t
+returns-then-not-t c =
+    row_ends c.args.file.now c.args.at c.args.known (raw_of c.items.raw) c.items.size c.items.count c.items.good c.items.invariant
+    c.in_ok-t.t.item.now c.in_ok-t.t.size c.in_ok-t.t.goes c.in_ok-t.ensures.item_at c.note.new.raw c.in_ok-t.t.plain c.converts-good.result
+    c.note.ensures c.in_ok-t.ensures.plain c.converts-good.ensures c.if-not-t.true
 
-pub converts-good-requires : goal.converts-good-requires
-converts-good-requires c = search (item-inside, rules)
-
-pub overflow_add-size : goal.overflow_add-size
-overflow_add-size c = search (row_room, rules)
-
-pub overflow_add-count : goal.overflow_add-count
-overflow_add-count c = search (row-few, rules)
-
-pub loop-goes-smaller : goal.loop-goes-smaller
-loop-goes-smaller c = search (row-less, rules)
-
-pub loop-goes-preserved : goal.loop-goes-preserved
-loop-goes-preserved c = search (row_on, rules)
-
-pub returns : goal.returns
-returns c = search (row_ends, rules)
+pub items-preserved : goal.items-preserved
+items-preserved c = search (row_on, rules)

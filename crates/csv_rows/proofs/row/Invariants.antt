@@ -1,11 +1,11 @@
-use mathlib.Core.Bool.{cond}
 use Prim.Native.Nat.{◌+◌, ◌-◌}
 use lib.ListN.{length}
+use Rattle.csv_rows.specs.Rows.{raw_of}
 use Rattle.csv_rows.proofs.Laws.{Reading}
 use Rattle.csv_rows.proofs.row.Given as goal
 
-abbrev pub invariant-loop-goes : goal.invariant-loop-goes
-invariant-loop-goes l = Reading l.file l.at l.known l.spans l.size l.count l.good l.goes l.bad
+abbrev pub invariant-items : goal.invariant-items
+invariant-items l = Reading l.file l.at l.known (raw_of l.raw) l.size l.count l.good
 
-abbrev pub decreases-loop-goes : goal.decreases-loop-goes
-decreases-loop-goes l = (length l.file - (l.at + l.size)) + cond l.goes 1 0
+abbrev pub decreases-items : goal.decreases-items
+decreases-items l = length l.file - (l.at + l.size)

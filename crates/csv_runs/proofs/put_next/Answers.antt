@@ -1,12 +1,6 @@
 use borrow.Author.Rules.{rules}
-use Rattle.csv_runs.proofs.Sheet.{ready-inside, ready-converts, put-asked, put-none}
+use Rattle.csv_runs.proofs.Sheet.{put-none}
 use Rattle.csv_runs.proofs.put_next.Goals as goal
 
-pub next_row-requires : goal.next_row-requires
-next_row-requires c = search (ready-inside, ready-converts, rules)
-
-pub returns-then-asked : goal.returns-then-asked
-returns-then-asked c = search (put-asked, rules)
-
-pub returns : goal.returns
-returns c = search (put-none, rules)
+pub returns-else-asked : goal.returns-else-asked
+returns-else-asked c = search (put-none, rules)

@@ -1,12 +1,8 @@
-use borrow.Author.Rules.{rules}
-use Rattle.part_text.proofs.Laws.{located-long, text-refused, text-given}
+use Rattle.part_text.proofs.Laws.{located-long, text-given}
 use Rattle.part_text.proofs.part_text.Goals as goal
 
-pub delims-d-requires : goal.delims-d-requires
-delims-d-requires c = search (located-long, rules)
+pub delims-requires : goal.delims-requires
+delims-requires c = located-long _ _ _ _ _ c.locate.ensures _ c.in_ok-part.was
 
-pub returns-in-NotFetched : goal.returns-in-NotFetched
-returns-in-NotFetched c = search (text-refused, rules)
-
-pub returns-in-At : goal.returns-in-At
-returns-in-At c = search (text-given, rules)
+pub returns : goal.returns
+returns c = text-given _ _ _ _ _ c.locate.ensures _ _ _ _ _ _ _ _ c.in_ok-part.was c.bytes_of-raw.ensures c.delims.ensures c.text_of.ensures

@@ -1,8 +1,9 @@
-use borrow.Author.Rules.{rules}
+use mathlib.Core.Path.{refl}
 use Rattle.rules.specs.Lists.{bytes}
 use Rattle.report.proofs.Laws.{order_is}
 use Rattle.report.proofs.order.Goals as goal
 
 pub returns : goal.returns
 unfolding bytes
-returns c = record { lined = search (order_is, rules); within = search rules }
+returns c =
+    order_is _ _ _ _ _ _ c.two_fields.ensures c.onward-t.ensures.result_value refl refl

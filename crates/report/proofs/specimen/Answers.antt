@@ -1,8 +1,9 @@
-use borrow.Author.Rules.{rules}
+use mathlib.Core.Path.{refl}
 use Rattle.rules.specs.Lists.{bytes}
-use Rattle.report.proofs.Laws.{specimen-is}
+use Rattle.report.proofs.Laws.{specimen_is}
 use Rattle.report.proofs.specimen.Goals as goal
 
 pub returns : goal.returns
 unfolding bytes
-returns c = record { lined = search (specimen-is, rules); within = search rules }
+returns c =
+    specimen_is _ _ _ _ _ _ c.two_fields.ensures c.onward-t.ensures.result_value refl refl

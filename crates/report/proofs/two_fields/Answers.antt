@@ -1,6 +1,7 @@
-use borrow.Author.Rules.{rules}
-use Rattle.report.proofs.Laws.{fields-are}
+use Rattle.report.proofs.Laws.{fields_are}
 use Rattle.report.proofs.two_fields.Goals as goal
 
 pub returns : goal.returns
-returns c = record { lined = search (fields-are, rules); within = search rules }
+returns c =
+    fields_are _ _ _ _ _ _ _ _ _ _ c.line.ensures c.line-2.ensures
+    c.component-a.ensures.result_value c.field_behind-u.ensures.result_value c.component-b.ensures.result_value

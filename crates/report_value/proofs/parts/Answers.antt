@@ -1,9 +1,8 @@
-use borrow.Author.Rules.{rules}
-use Rattle.report_value.proofs.Laws.{parts-sn, parts-one}
+use Rattle.report_value.proofs.Laws.{parts_sn, parts_one}
 use Rattle.report_value.proofs.parts.Goals as goal
 
 pub returns-then-is_sn : goal.returns-then-is_sn
-returns-then-is_sn c = record { lined = search (parts-sn, rules); within = search rules }
+returns-then-is_sn c = parts_sn _ _ _ _ _ c.is_sn.ensures c.if-is_sn.true c.numbers.ensures
 
-pub returns : goal.returns
-returns c = record { lined = search (parts-one, rules); within = search rules }
+pub returns-else-is_sn : goal.returns-else-is_sn
+returns-else-is_sn c = parts_one _ _ _ _ _ c.is_sn.ensures c.if-is_sn.false c.single.ensures

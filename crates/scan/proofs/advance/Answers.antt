@@ -1,5 +1,4 @@
 use borrow.Author.Rules.{rules}
-use Prim.Native.Nat.{◌-◌}
 use Rattle.scan.proofs.Walk.{away-starts, away-on, away-back, away-over}
 use Rattle.scan.proofs.advance.Goals as goal
 

@@ -1,5 +1,4 @@
 use borrow.Author.Rules.{rules}
-use Prim.Native.Nat.{◌-◌}
 use Rattle.scan.proofs.Walk.{find-on, find-plain, find-here, find-over}
 use Rattle.scan.proofs.find.Goals as goal
 

@@ -1,5 +1,4 @@
 use borrow.Author.Rules.{rules}
-use Prim.Native.Nat.{◌-◌}
 use Rattle.scan.proofs.Walk.{finish-starts, finish-here, finish-over, finish-on, finish-plain}
 use Rattle.scan.proofs.finish.Goals as goal
 

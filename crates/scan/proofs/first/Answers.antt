@@ -1,5 +1,4 @@
 use borrow.Author.Rules.{rules}
-use Prim.Native.Nat.{◌-◌}
 use Rattle.scan.proofs.Walk.{first-starts, first-here, first-over, first_on, first_plain, first-simple}
 use Rattle.scan.proofs.first.Goals as goal
 

@@ -1,5 +1,4 @@
 use borrow.Author.Rules.{rules}
-use Prim.Native.Nat.{◌-◌}
 use Rattle.scan.proofs.Walk.{keeps_on, keeps-not, keeps-plain, keeps_line, keeps-over}
 use Rattle.scan.proofs.keeps.Goals as goal
 

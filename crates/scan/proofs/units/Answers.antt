@@ -1,10 +1,9 @@
 use borrow.Author.Rules.{rules}
-use Prim.Native.Nat.{◌-◌}
 use Rattle.scan.proofs.Walk.{units-none, units-on, units-done}
 use Rattle.scan.proofs.units.Goals as goal
 
-pub returns-then-not-two : goal.returns-then-not-two
-returns-then-not-two c = search (units-none, units-done, rules)
+pub returns-then-ne : goal.returns-then-ne
+returns-then-ne c = search (units-none, units-done, rules)
 
 pub loop-i-init : goal.loop-i-init
 loop-i-init c = search (units-none, units-done, rules)

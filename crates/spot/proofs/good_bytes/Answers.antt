@@ -1,5 +1,4 @@
 use borrow.Author.Rules.{rules}
-use Prim.Native.Nat.{◌-◌}
 use Rattle.spot.proofs.Laws.{good-ends, good-goes, good-open, good-stops}
 use Rattle.rules.proofs.Lists.{part_length, rest-further, rest-inside}
 use Rattle.spot.proofs.good_bytes.Goals as goal

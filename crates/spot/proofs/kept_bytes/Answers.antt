@@ -1,5 +1,4 @@
 use borrow.Author.Rules.{rules}
-use Prim.Native.Nat.{◌-◌}
 use Rattle.spot.proofs.Laws.{kept-ends, kept_goes, kept-stops}
 use Rattle.spot.proofs.kept_bytes.Goals as goal
 

@@ -1,10 +1,7 @@
 use borrow.Author.Rules.{rules}
-use Prim.Native.Nat.{◌-◌}
-use Rattle.spot.proofs.Laws.{ends_on, ends-over}
+use Rattle.plain_bytes.specs.Bytes.{is_byte}
+use Rattle.spot.proofs.Laws.{counted}
 use Rattle.spot.proofs.line_ends.Goals as goal
 
-pub loop-i-preserved : goal.loop-i-preserved
-loop-i-preserved c = search (ends_on, rules)
-
-pub returns : goal.returns
-returns c = search (ends-over, rules)
+pub returns-clause-value : goal.returns-clause-value
+returns-clause-value c = counted (is_byte c.args.end) c.args.s.now c.count.result (search rules)

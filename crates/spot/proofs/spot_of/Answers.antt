@@ -5,14 +5,14 @@ use Rattle.spot.proofs.spot_of.Goals as goal
 pub returns-then-text-gt65536 : goal.returns-then-text-gt65536
 returns-then-text-gt65536 c = search (spot-far, rules)
 
-pub returns-then-number-eq12 : goal.returns-then-number-eq12
-returns-then-number-eq12 c = search (spot-12, rules)
+pub returns-in-12 : goal.returns-in-12
+returns-in-12 c = search (spot-12, rules)
 
-pub returns-then-number-eq13 : goal.returns-then-number-eq13
-returns-then-number-eq13 c = search (spot-13, rules)
+pub returns-in-13 : goal.returns-in-13
+returns-in-13 c = search (spot-13, rules)
 
-pub returns-then-number-eq41 : goal.returns-then-number-eq41
-returns-then-number-eq41 c = search (spot-41, rules)
+pub returns-in-41 : goal.returns-in-41
+returns-in-41 c = search (spot-41, rules)
 
-pub returns : goal.returns
-returns c = search (spot-none, rules)
+pub returns-in_default : goal.returns-in_default
+returns-in_default c = search (spot-none, rules)

@@ -1,6 +1,5 @@
 use borrow.Author.Rules.{rules}
 use Rattle.rules.proofs.Lists.{part_length}
-use Prim.Native.Nat.{◌-◌}
 use Rattle.to_sheet.proofs.Laws.{begins, ends, further, goes, small}
 use Rattle.to_sheet.proofs.pass.Goals as goal
 

@@ -1,15 +1,11 @@
-use Rattle.to_sheet.proofs.Laws.{accepted-long, accepted-sound, refused-sheet, wrote-sheet}
-use borrow.Author.Rules.{rules}
+use Rattle.to_sheet.proofs.Laws.{accepted-long, accepted-sound, wrote-sheet}
 use Rattle.to_sheet.proofs.to_sheet.Goals as goal
 
-pub delims-d-requires : goal.delims-d-requires
-delims-d-requires c = search (accepted-long, rules)
+pub delims-requires : goal.delims-requires
+delims-requires c = accepted-long _ _ c.check.ensures _ c.in_ok-check.was
 
 pub write-requires : goal.write-requires
-write-requires c = search (accepted-sound, rules)
+write-requires c = accepted-sound _ _ c.check.ensures _ c.in_ok-check.was _ c.delims.ensures
 
-pub returns-in-Refused : goal.returns-in-Refused
-returns-in-Refused c = search (refused-sheet, rules)
-
-pub returns-in-Accepted : goal.returns-in-Accepted
-returns-in-Accepted c = search (wrote-sheet, rules)
+pub returns : goal.returns
+returns c = wrote-sheet _ _ c.check.ensures _ c.in_ok-check.was _ _ _ c.write.ensures

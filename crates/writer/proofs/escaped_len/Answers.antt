@@ -1,5 +1,4 @@
 use borrow.Author.Rules.{rules}
-use Prim.Native.Nat.{◌-◌}
 use Rattle.writer.proofs.Escapes.{measure-begins, simple-measured, measure-goes, measure-ends}
 use Rattle.writer.proofs.escaped_len.Goals as goal
 

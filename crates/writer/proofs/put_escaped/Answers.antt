@@ -1,5 +1,4 @@
 use borrow.Author.Rules.{rules}
-use Prim.Native.Nat.{◌-◌}
 use Rattle.writer.proofs.Escapes.{escape-begins, simple-room, simple-few, simple-goes, byte-room, stretch-room, escape-goes, escape-ends}
 use Rattle.writer.proofs.put_escaped.Goals as goal
 

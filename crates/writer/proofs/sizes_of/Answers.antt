@@ -1,16 +1,16 @@
-use Prim.Native.Nat.{◌-◌}
-use Rattle.writer.proofs.Weaving.{sizes_begin, sizes-end, sizes-few, sizes-go}
+use mathlib.Core.Path.{◌≡◌, ◌∙◌}
+use Prim.Native.Nat.{◌≤◌}
 use borrow.Author.Rules.{rules}
+use native.Mathlib.Omega.{arith}
+use lib.ListN.{length}
+use Rattle.std.specs.Prelude.{sum_by}
+use Rattle.std.proofs.iter.runs.Made.{chains}
+use Rattle.writer.proofs.Weaving.{sizes_sum}
 use Rattle.writer.proofs.sizes_of.Goals as goal
 
-pub loop-i-init : goal.loop-i-init
-loop-i-init c = search (sizes_begin, rules)
-
-pub overflow_add-n : goal.overflow_add-n
-overflow_add-n c = search (sizes-few, rules)
-
-pub loop-i-preserved : goal.loop-i-preserved
-loop-i-preserved c = search (sizes-go, rules)
+pub sum-requires-clause-fits : goal.sum-requires-clause-fits
+sum-requires-clause-fits c =
+    let w : sum_by (λ t. length t.now) c.args.texts.now ≤ 1000000 = omega (arith, sizes_sum c.args.texts.now) in search (rules, chains)
 
 pub returns : goal.returns
-returns c = search (sizes-end, rules)
+returns c = let w : c.sum.result ≡ sum_by (λ t. length t.now) c.args.texts.now = search rules in w ∙ sizes_sum c.args.texts.now

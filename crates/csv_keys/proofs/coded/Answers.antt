@@ -1,0 +1,15 @@
+use borrow.Author.Rules.{rules}
+use Rattle.csv_keys.proofs.Codes.{code-none, code-fits, code-met, code-other}
+use Rattle.csv_keys.proofs.coded.Goals as goal
+
+pub returns-then-equal : goal.returns-then-equal
+returns-then-equal c = search (code-met, rules)
+
+pub in_place-requires : goal.in_place-requires
+in_place-requires c = search (code-fits, rules)
+
+pub loop-code-preserved : goal.loop-code-preserved
+loop-code-preserved c = search (code-other, rules)
+
+pub returns : goal.returns
+returns c = search (code-none, rules)

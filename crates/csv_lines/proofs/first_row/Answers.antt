@@ -1,6 +1,0 @@
-use borrow.Author.Rules.{rules}
-use Rattle.csv_lines.proofs.Groups.{first-is}
-use Rattle.csv_lines.proofs.first_row.Goals as goal
-
-pub returns : goal.returns
-returns c = search (first-is, rules)

@@ -1,8 +1,0 @@
-use borrow.Author.Rules.{rules}
-use Rattle.rules.specs.Lists.{bytes}
-use Rattle.csv_lines.proofs.Groups.{observed-is}
-use Rattle.csv_lines.proofs.observed.Goals as goal
-
-pub returns : goal.returns
-unfolding bytes
-returns c = search (observed-is, rules)

@@ -1,6 +1,0 @@
-use borrow.Author.Rules.{rules}
-use Rattle.csv_lines.proofs.Groups.{result-is}
-use Rattle.csv_lines.proofs.result.Goals as goal
-
-pub returns : goal.returns
-returns c = search (result-is, rules)

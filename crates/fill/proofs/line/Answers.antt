@@ -1,6 +1,0 @@
-use borrow.Author.Rules.{rules}
-use Rattle.fill.proofs.Laws.{line-is}
-use Rattle.fill.proofs.line.Goals as goal
-
-pub returns : goal.returns
-returns c = record { lined = search (line-is, rules); within = search rules }

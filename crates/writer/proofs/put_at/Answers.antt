@@ -1,7 +1,0 @@
-use borrow.Author.Rules.{rules}
-use Rattle.writer.proofs.Laws.{back}
-use borrow.Author.Rules.{rules}
-use Rattle.writer.proofs.put_at.Goals as goal
-
-pub returns : goal.returns
-returns c = search (back, rules)
