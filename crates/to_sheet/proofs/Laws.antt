@@ -14,7 +14,7 @@ use Rattle.rules.specs.declared.Counts.{Counts}
 use Rattle.rules.specs.declared.Kind.TheVariants.{Room}
 use Rattle.rules.specs.declared.Refusal.{Refusal}
 use Rattle.rules.specs.Told.{gives, refused, told, Call}
-use Rattle.rules.specs.Lists.{split, all_but_last, ended}
+use Rattle.rules.specs.Lists.{ended}
 use Rattle.rules.specs.Shift.{met}
 use Rattle.rules.specs.Frame.{delims_of, segments, segments_ok, name_of}
 use Rattle.rules.specs.View.{view}
@@ -22,17 +22,14 @@ use Rattle.rules.specs.Row.{rows_of}
 use Rattle.rules.specs.Check.{check_told}
 use Rattle.rules.specs.Sheet.{sheet_of, sheet_told, to_sheet}
 use Rattle.rules.proofs.Logic.{both, not-given, told_cases, called-as, never-wrote}
-use Rattle.rules.proofs.Lists as Lists
-use Rattle.rules.proofs.Lists.{rest-is, rest-further}
 use Rattle.rules.proofs.Split.{ended-append}
 use Rattle.rules.proofs.Header.{header}
 use Rattle.rules.proofs.Where.{accepted-passes}
-use Rattle.plain_bytes.specs.Bytes.{until}
-use Rattle.plain_bytes.specs.Bytes as Bytes
 use Rattle.unescape.specs.Unescaped.{fill}
 use Rattle.frame.specs.Frame.{good_of, frame_of, Sound}
 use Rattle.frame.proofs.Rules.{check-refused, sound}
-use Rattle.frame.proofs.Laws.{segment-there, ends-inside, good-there}
+use Rattle.frame.specs.Taken.{Taken, Ended}
+use Rattle.frame.proofs.Taken.{taken-length, taken-segments, taken-ok, ended-segments}
 use Rattle.fill.specs.Fill.{Filled, fill_at, Lined, longest}
 use Rattle.sources.specs.Sources.{lines_of_body}
 use Rattle.to_sheet.specs.Sections.{sections}
@@ -40,20 +37,22 @@ use Rattle.fill.proofs.Laws.{fill-nil, lined_then}
 use Rattle.to_sheet.proofs.Sheet.{sheet-is}
 use Rattle.section.proofs.Laws.{fills, same_length}
 
--- ---- the pass: what is written when the segments before `at` are passed
-pub record Passing (d : Delims) (m out₀ : List ℕ) (at written : ℕ) (out : List ℕ) : Type 0 where
+-- ---- the pass: what is written when the rest r is still to be passed
+pub record Passing (d : Delims) (m out₀ : List ℕ) (written : ℕ) (out r : List ℕ) : Type 0 where
   pub done : List (List ℕ)
-  pub inside : at ≤ length m
+  pub at : ℕ
+  pub inside : at + length r ≡ length m
   pub few : written ≤ longest 10 * at
   pub same : length out ≡ length out₀
-  pub whole : segments_ok d.field (drop at m) ≡ true
-  pub left : sections d (segments m) ≡ ended 0x0A done ++ sections d (segments (drop at m))
+  pub whole : segments_ok d.field r ≡ true
+  pub left : sections d (segments m) ≡ ended 0x0A done ++ sections d (segments r)
   pub lined : Lined 0 out₀ done written out
 
-pub begins : (d : Delims) (m out : List ℕ) → Sound m d → Passing d m out 0 0 out
+pub begins : (d : Delims) (m out : List ℕ) → Sound m d → Passing d m out 0 out m
 unfolding ended fill_at fill
 begins d m out s = record {
   done = [];
+  at = 0;
   inside = omega arith;
   few = omega arith;
   same = refl;
@@ -66,61 +65,49 @@ section-cons : (d : Delims) (s : List ℕ) (ss : List (List ℕ)) → sections d
 unfolding sections
 section-cons d s ss = refl
 
--- a turn, at a segment of n bytes
-module _ (d : Delims) (m out₀ : List ℕ) (at written : ℕ) (out : List ℕ) (p : Passing d m out₀ at written out) (n : ℕ) (k : at < length m)
-    (en : n ≡ length (until (Bytes.is_byte 0x0D) (take (length m - at) (drop at m)))) (l : n ≤ length (take (length m - at) (drop at m))) where
-  short : n < length (drop at m)
-  short = ends-inside m at n en d.field p.whole k l
+module _ (d : Delims) (m out₀ : List ℕ) (written : ℕ) (out r : List ℕ) (p : Passing d m out₀ written out r) where
+  pub few-written : length m ≤ 32768 → written ≤ longest 10 * 32768
+  few-written h = omega (arith, p.few, p.inside)
 
-  pub further : at + (n + 1) ≤ length m
-  further = rest-further m at n short
+  -- a turn, at a segment s
+  module _ (s t : List ℕ) (k : Taken r s t) where
+    good : (good_of d.field s ≡ true) × (segments_ok d.field t ≡ true)
+    good = both (good_of d.field s) (segments_ok d.field t) (sym (taken-ok r s t k d.field) ∙ p.whole)
 
-  good : (good_of d.field (take n (drop at m)) ≡ true) × (segments_ok d.field (drop (at + (n + 1)) m) ≡ true)
-  good = good-there m at n en d.field p.whole k l
+    -- a segment of a message that is sound
+    pub small : length s ≤ 4096
+    small = leb-true (length s) 4096 (both (leb (length s) 4096) _ good.0).0
 
-  -- a segment of a message that is sound
-  pub small : length (take n (take (length m - at) (drop at m))) ≤ 4096
-  small =
-      let s : List ℕ = take n (drop at m) in
-      let e : length (take n (take (length m - at) (drop at m))) ≡ length s = ap (λ (t : List ℕ). length (take n t)) (rest-is m at) in
-      omega (arith, leb-true (length s) 4096 (both (leb (length s) 4096) _ good.0).0)
+    pub goes : (n : ℕ) (y : List ℕ) → Lined written out (lines_of_body d (name_of s) (met s)) n y → n ≤ written + longest 10 → Passing d m out₀ n y t
+    goes n y h b =
+        record {
+          done = p.done ++ ls;
+          at = p.at + (length s + 1);
+          inside = omega (arith, p.inside, taken-length r s t k);
+          few = omega (arith, p.few);
+          same = same_length out₀ y (p.done ++ ls) n (lined_then p.lined h);
+          whole = good.1;
+          left = p.left ∙ next;
+          lined = lined_then p.lined h;
+        }
+      where
+        ls : List (List ℕ)
+        ls = lines_of_body d (name_of s) (met s)
 
-  pub goes : (r : ℕ) (y : List ℕ)
-      → Lined written out (lines_of_body d (name_of (take n (take (length m - at) (drop at m)))) (met (take n (take (length m - at) (drop at m))))) r y
-      → r ≤ written + longest 10 → Passing d m out₀ (at + (n + 1)) r y
-  goes r y h b =
-      let s : List ℕ = take n (take (length m - at) (drop at m)) in
-      let ls : List (List ℕ) = lines_of_body d (name_of s) (met s) in
-      record {
-        done = p.done ++ ls;
-        inside = further;
-        few = omega (arith, p.few);
-        same = same_length out₀ y (p.done ++ ls) r (lined_then p.lined h);
-        whole = good.1;
-        left = p.left ∙ next;
-        lined = lined_then p.lined h;
-      }
+        next : ended 0x0A p.done ++ sections d (segments r) ≡ ended 0x0A (p.done ++ ls) ++ sections d (segments t)
+        unfolding ls
+        next =
+            let f : sections d (segments r) ≡ ended 0x0A ls ++ sections d (segments t) = ap (sections d) (taken-segments r s t k) ∙ section-cons d s (segments t) in
+            ap (λ (l : List ℕ). ended 0x0A p.done ++ l) f
+            ∙ sym (ap (λ (l : List ℕ). l ++ sections d (segments t)) (ended-append 0x0A p.done ls)
+            ∙ append_assoc (ended 0x0A p.done) (ended 0x0A ls) (sections d (segments t)))
+
+  pub ends : (t : List ℕ) → Ended r t → Filled written out (sections d (segments m)) out₀
+  ends t h =
+      rw (p.left ∙ ap (λ (l : List ℕ). ended 0x0A p.done ++ l) none_left ∙ append-nil (ended 0x0A p.done)) (fills out₀ out p.done written p.lined)
     where
-      next : ended 0x0A p.done ++ sections d (segments (drop at m))
-          ≡ ended 0x0A (p.done ++ lines_of_body d (name_of (take n (take (length m - at) (drop at m)))) (met (take n (take (length m - at) (drop at m))))) ++ sections d (segments (drop (at + (n + 1)) m))
-      next =
-          let s : List ℕ = take n (take (length m - at) (drop at m)) in
-          let ls : List (List ℕ) = lines_of_body d (name_of s) (met s) in
-          let e : segments (drop at m) ≡ s ∷ segments (drop (at + (n + 1)) m)
-          = segment-there m at n en short ∙ rw (rest-is m at) in
-          let f : sections d (segments (drop at m)) ≡ ended 0x0A ls ++ sections d (segments (drop (at + (n + 1)) m))
-          = ap (sections d) e ∙ section-cons d s (segments (drop (at + (n + 1)) m)) in
-          ap (λ (t : List ℕ). ended 0x0A p.done ++ t) f
-          ∙ sym (ap (λ (t : List ℕ). t ++ sections d (segments (drop (at + (n + 1)) m))) (ended-append 0x0A p.done ls)
-          ∙ append_assoc (ended 0x0A p.done) (ended 0x0A ls) (sections d (segments (drop (at + (n + 1)) m))))
-
-pub ends : (d : Delims) (m out₀ : List ℕ) (at written : ℕ) (out : List ℕ) → Passing d m out₀ at written out → length m ≤ at
-    → Filled written out (sections d (segments m)) out₀
-ends d m out₀ at written out p h =
-    rw (p.left ∙ ap (λ (t : List ℕ). ended 0x0A p.done ++ t) none_left ∙ append-nil (ended 0x0A p.done)) (fills out₀ out p.done written p.lined)
-  where
-    none_left : sections d (segments (drop at m)) ≡ []
-    none_left = rw (Lists.over m at h) (unfold segments split all_but_last sections in refl)
+      none_left : sections d (segments r) ≡ []
+      none_left = rw (ended-segments r h.whole) (unfold sections in refl)
 
 -- ---- 45, and the sheet
 -- a text that fits is written whole

@@ -11,6 +11,7 @@ ghost use Rattle.frame.specs.Frame.{Sound};
 ghost use Rattle.fill.specs.Fill.{Filled};
 ghost use Rattle.to_sheet.specs.Sections.{sections};
 
+use frame::segments::Segments;
 use rules::{Delims, Kind, Refusal};
 
 // The check's refusal first; "Message to sheet gives 45 last."
@@ -41,12 +42,7 @@ fn pass(out: &mut [u8], m: &[u8], d: Delims) -> usize
     ensures { Filled result out.new (sections d (segments m.now)) out.old }
 {
     let mut written = 0;
-    let mut at = 0;
-    while at < m.len() {
-        let rest = &m[at..];
-        let n = plain_bytes::before(rest, 0x0D);
-        let s = &rest[..n];
-        at += n + 1;
+    for s in (Segments { rest: m }) {
         written = section::put(out, written, s, d);
     }
     written

@@ -1,28 +1,15 @@
 use borrow.Author.Rules.{rules}
-use Rattle.rules.proofs.Lists.{part_length}
-use Rattle.to_sheet.proofs.Laws.{begins, ends, further, goes, small}
+use Rattle.to_sheet.proofs.Laws.{begins, ends, few-written, goes, small}
 use Rattle.to_sheet.proofs.pass.Goals as goal
 
-pub loop-at-init : goal.loop-at-init
-loop-at-init c = search (begins, rules)
-
-pub slice_bounds-s-end : goal.slice_bounds-s-end
-slice_bounds-s-end c = search (part_length, rules)
-
-pub overflow_add-at : goal.overflow_add-at
-overflow_add-at c = search (further, rules)
-
-pub overflow_add-at-in-loop-at : goal.overflow_add-at-in-loop-at
-overflow_add-at-in-loop-at c = search (further, rules)
+pub loop-s-init : goal.loop-s-init
+loop-s-init c = rw c.into_iter-s-iterator.ensures.into_iter_gives (begins _ _ _ c.requires)
 
 pub put-written-requires : goal.put-written-requires
-put-written-requires c = search (small, rules)
+put-written-requires c = search (small, few-written, c.in-Some.ensures.steps.1, rules)
 
-pub loop-at-smaller : goal.loop-at-smaller
-loop-at-smaller c = search (further, rules)
-
-pub loop-at-preserved : goal.loop-at-preserved
-loop-at-preserved c = search (goes, rules)
+pub loop-s-preserved : goal.loop-s-preserved
+loop-s-preserved c = goes _ _ _ _ _ _ c.loop-s.invariant _ _ c.in-Some.ensures.steps.1 _ _ c.put-written.ensures.lined c.put-written.ensures.within
 
 pub returns : goal.returns
-returns c = search (ends, rules)
+returns c = ends _ _ _ _ _ _ c.loop-s.invariant _ c.in-None.ensures.steps.1
