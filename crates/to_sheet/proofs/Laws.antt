@@ -80,6 +80,7 @@ module _ (d : Delims) (m out₀ : List ℕ) (written : ℕ) (out r : List ℕ) (
 
     pub goes : (n : ℕ) (y : List ℕ) → Lined written out (lines_of_body d (name_of s) (met s)) n y → n ≤ written + longest 10 → Passing d m out₀ n y t
     goes n y h b =
+        let ls : List (List ℕ) = lines_of_body d (name_of s) (met s) in
         record {
           done = p.done ++ ls;
           at = p.at + (length s + 1);
@@ -87,17 +88,13 @@ module _ (d : Delims) (m out₀ : List ℕ) (written : ℕ) (out r : List ℕ) (
           few = omega (arith, p.few);
           same = same_length out₀ y (p.done ++ ls) n (lined_then p.lined h);
           whole = good.1;
-          left = p.left ∙ next;
+          left = p.left ∙ next ls (ap (sections d) (taken-segments r s t k) ∙ section-cons d s (segments t));
           lined = lined_then p.lined h;
         }
       where
-        ls : List (List ℕ)
-        ls = lines_of_body d (name_of s) (met s)
-
-        next : ended 0x0A p.done ++ sections d (segments r) ≡ ended 0x0A (p.done ++ ls) ++ sections d (segments t)
-        unfolding ls
-        next =
-            let f : sections d (segments r) ≡ ended 0x0A ls ++ sections d (segments t) = ap (sections d) (taken-segments r s t k) ∙ section-cons d s (segments t) in
+        next : (ls : List (List ℕ)) → sections d (segments r) ≡ ended 0x0A ls ++ sections d (segments t)
+            → ended 0x0A p.done ++ sections d (segments r) ≡ ended 0x0A (p.done ++ ls) ++ sections d (segments t)
+        next ls f =
             ap (λ (l : List ℕ). ended 0x0A p.done ++ l) f
             ∙ sym (ap (λ (l : List ℕ). l ++ sections d (segments t)) (ended-append 0x0A p.done ls)
             ∙ append_assoc (ended 0x0A p.done) (ended 0x0A ls) (sections d (segments t)))
