@@ -2,7 +2,7 @@
 use mathlib.Core.Path.{◌≡◌, refl, sym, ap, ◌∙◌}
 use mathlib.Core.Bool.{Bool, true, false, not}
 use mathlib.Core.List.{List, ◌++◌, append_assoc, append-nil}
-use Prim.Native.Nat.{ℕ, ◌+◌, ◌-◌, ◌≤◌}
+use Prim.Native.Nat.{ℕ, ◌+◌, ◌-◌, ◌≤◌, min}
 use native.Mathlib.Numerals.{add-one}
 use native.Mathlib.Omega.{arith}
 use borrow.Author.Tests.{le-leb, leb-true}
@@ -92,21 +92,27 @@ module _ (d : Delims) (n : Numbers) (ts : List (List ℕ)) where
   one_only Other h = refl
 
   -- the first in what remains of x from the place from on: it has k bytes and leaves y there
-  module _ (g : Name) (x y : List ℕ) (at from k : ℕ) (h : from ≤ length x) (f : at ≤ length x → from ≡ at) (p : Fit k y (group_segment d n g 0 ts) (take (length x - from) (drop from x)))
+  module _ (g : Name) (x y : List ℕ) (at from k : ℕ) (l : from ≡ min at (length x)) (p : Fit k y (group_segment d n g 0 ts) (take (length x - from) (drop from x)))
       (q : Bool) (e : q ≡ is g Obr) where
     abbrev whole : List ℕ
     whole = take from x ++ (y ++ drop (length x - from) (drop from x))
 
+    h : from ≤ length x
+    h = omega (arith, l)
+
+    f : at ≤ length x → from ≡ at
+    f w = omega (arith, l)
+
     pub one-put : not q ≡ true → FitAt at x (group_text d n g ts) (at + k) whole
     one-put o = rw (one_only g (sym e ∙ not-true q o)) at (added x (group_segment d n g 0 ts) y at from k h f p)
 
-    pub order-put : not q ≡ false → (z : List ℕ) (behind m : ℕ) → behind ≤ length whole → (at + k ≤ length whole → behind ≡ at + k)
+    pub order-put : not q ≡ false → (z : List ℕ) (behind m : ℕ) → behind ≡ min (at + k) (length whole)
         → Fit m z (group_segment d zeros Obr 1 ts) (take (length whole - behind) (drop behind whole))
         → FitAt at x (group_text d n g ts) (at + k + m) (take behind whole ++ (z ++ drop (length whole - behind) (drop behind whole)))
-    order-put o z behind m l j r =
+    order-put o z behind m j r =
         let b : g ≡ Obr = name-is g Obr (sym e ∙ not-false q o) in
         let one : FitAt at x (group_segment d n Obr 0 ts) (at + k) whole = rw b at (added x (group_segment d n g 0 ts) y at from k h f p) in
-        rw (b, ← order-two) (both-put x whole _ (group_segment d n Obr 0 ts) (group_segment d zeros Obr 1 ts) at (at + k) (at + k + m) one (added whole (group_segment d zeros Obr 1 ts) z (at + k) behind m l j r))
+        rw (b, ← order-two) (both-put x whole _ (group_segment d n Obr 0 ts) (group_segment d zeros Obr 1 ts) at (at + k) (at + k + m) one (added whole (group_segment d zeros Obr 1 ts) z (at + k) behind m (omega (arith, j)) (λ w. omega (arith, j)) r))
 
 -- ---- counting
 module _ (x a g : Name) (n : ℕ) (p : Bool) (e : p ≡ is g x) where

@@ -1,8 +1,9 @@
 -- The text of a sheet's groups, and what a pass over a sheet tells and writes.
-use Rattle.std.specs.Prelude.{◌≡◌, List, map, ℕ, ◌+◌, ◌*◌, ◌≤◌, length}
+use Rattle.std.specs.Prelude.{◌≡◌, List, map, ℕ, ◌+◌, ◌*◌, ◌≤◌, length, Result}
 use Rattle.rules.specs.declared.Delims.{Delims}
 use Rattle.rules.specs.declared.Name.{Name}
-use Rattle.rules.specs.Told.{Told, gives, refusal, ◌>>=◌}
+use Rattle.rules.specs.declared.Refusal.{Refusal}
+use Rattle.rules.specs.Told.{Told, told, gives, ◌>>=◌}
 use Rattle.rules.specs.Lists.{ended}
 use Rattle.rules.specs.Row.{Row}
 use Rattle.rules.specs.Message.{Numbers, segment_text, written, message_of}
@@ -11,8 +12,6 @@ use Rattle.lines.specs.Lines.{longest_sheet}
 use Rattle.sheets.specs.Sheet.{rows_in}
 use Rattle.segments.specs.Segments.{group_pieces, longest_segment}
 use Rattle.compose.specs.declared.Size.{Size}
-use Rattle.compose.specs.declared.Passed.{Passed}
-use Rattle.compose.specs.declared.Passed.TheVariants.{All, Not}
 
 -- the text of the group g that the lines ts begin with, whose numbers are n
 unfoldable pub group_text : Delims → Numbers → Name → List (List ℕ) → List ℕ
@@ -31,11 +30,6 @@ longest_group = 2 * longest_segment
 abbrev pub farthest_end : ℕ
 farthest_end = longest_group * longest_sheet
 
--- what a pass answers
-abbrev pub told_size : Passed → Told Size
-told_size (All n) = gives n
-told_size (Not r) = refusal r
-
 abbrev pub size_of : Delims → List Row → Size
 size_of d rows = record { bytes = length (message_of d rows); segments = length (written d rows) }
 
@@ -49,6 +43,6 @@ pub record FaultFree (s : List ℕ) : Type 0 where
   pub told : rows_in s ≡ gives rows
 
 -- a pass over the sheet s: what it tells, and that where there is room for the message, it is written
-pub record Pass (d : Delims) (s x : List ℕ) (r : Passed) (y : List ℕ) : Type 0 where
-  pub told : told_size r ≡ size_told d s
+pub record Pass (d : Delims) (s x : List ℕ) (r : Result Size Refusal) (y : List ℕ) : Type 0 where
+  pub told : told r ≡ size_told d s
   pub wrote : (rows : List Row) → rows_in s ≡ gives rows → length (message_of d rows) ≤ length x → y ≡ over_front (message_of d rows) x

@@ -2,32 +2,25 @@
 // refused. They take any bytes, any ordinal and any place.
 #![tactic(auto)]
 
-ghost use Rattle.std.specs.Prelude.{◌≡◌, ◌<◌, length};
-ghost use Rattle.rules.specs.Told.{gives};
+ghost use Rattle.std.specs.Prelude.{◌≡◌, ◌<◌, length, Err};
 ghost use Rattle.csv_rules.specs.Answers.{SheetCall};
-ghost use Rattle.csv_rules.specs.Sheets.{csv_count, place_after};
+ghost use Rattle.csv_rules.specs.Sheets.{place_after};
+ghost use Rattle.csv_rules.specs.declared.NotMade.TheVariants.{Unfit};
 ghost use Rattle.csv_rules.specs.Promises.{SheetsCounted, LineTold, CsvSheetWritten, NextSheetWritten};
 ghost use Rattle.csv_rules.specs.Claims.{place_of};
 ghost use Rattle.csv_runs.specs.Sheet.{sheet_at};
 ghost use Rattle.csv_calls.specs.Calls.{Convertible, copied_told, made_told};
 
-use csv_check::FileVerdict;
-use csv_rules::{Counted, CsvSheets, FileFault, Made, Next};
+use csv_rules::{CsvSheets, FileFault, Next, NotMade};
 use rules::{Kind, Refusal};
 use sheets::SheetVerdict;
 
 // ---- the whole file
 // How many sheets a file holds, and where its first row stands; or 50 to 54.
-pub fn csv_count(file: &[u8]) -> Counted
+pub fn csv_count(file: &[u8]) -> Result<CsvSheets, FileFault>
     ensures { SheetsCounted file.now result }
 {
-    match csv_check::verdict_on(file) {
-        FileVerdict::Right(sheets) => Counted::Sheets(sheets),
-        FileVerdict::Wrong(blame) => {
-            let fault = blame.fault;
-            Counted::NotCounted(fault)
-        }
-    }
+    csv_check::verdict_on(file).map_err(|blame| blame.fault)
 }
 
 // The line where a file is refused, from 1; 0 where it isn't.
@@ -35,20 +28,20 @@ pub fn csv_spot(file: &[u8]) -> usize
     ensures { LineTold file.now result }
 {
     match csv_check::verdict_on(file) {
-        FileVerdict::Right(_) => 0,
-        FileVerdict::Wrong(blame) => blame.line,
+        Ok(_) => 0,
+        Err(blame) => blame.line,
     }
 }
 
 // ---- one sheet
-fn refused(kind: Kind) -> Made
-    ensures { result ≡ Made.Unfit (record { kind = kind; segment = 0; field = 0 }) }
+fn refused(kind: Kind) -> Result<usize, NotMade>
+    ensures { result ≡ Err (Unfit (record { kind = kind; segment = 0; field = 0 })) }
 {
-    Made::Unfit(Refusal {
+    Err(NotMade::Unfit(Refusal {
         kind,
         segment: 0,
         field: 0,
-    })
+    }))
 }
 
 // One byte past the limit of a sheet, so that a longer one gives 40.
@@ -59,27 +52,34 @@ fn room() -> [u8; 65537]
 }
 
 // A right sheet, copied where there is room: 45.
-fn copied(sheet: &[u8], out: &mut [u8]) -> Made
+fn copied(sheet: &[u8], out: &mut [u8]) -> Result<usize, NotMade>
     ensures { SheetCall (copied_told sheet.now (length out.old)) out.old result out.new }
 {
     if out.len() < sheet.len() {
         return refused(Kind::Room);
     }
-    Made::Sheet(writer::put(out, sheet))
+    Ok(writer::put(out, sheet))
 }
 
 // A sheet that was made is judged before it is copied: 40 to 43, 45.
-fn handed(sheet: &[u8], out: &mut [u8]) -> Made
+fn handed(sheet: &[u8], out: &mut [u8]) -> Result<usize, NotMade>
     ensures { SheetCall (made_told sheet.now (length out.old)) out.old result out.new }
 {
     match sheets::judge(sheet) {
-        SheetVerdict::Wrong(refusal) => Made::Unfit(refusal),
+        SheetVerdict::Wrong(refusal) => Err(NotMade::Unfit(refusal)),
         SheetVerdict::Right => copied(sheet, out),
     }
 }
 
 // A sheet that the small buffer can't hold, made once more in one that can: its rows convert.
-fn large(file: &[u8], at: usize, mode: &[u8], sent: &[u8], control: &[u8], out: &mut [u8]) -> Made
+fn large(
+    file: &[u8],
+    at: usize,
+    mode: &[u8],
+    sent: &[u8],
+    control: &[u8],
+    out: &mut [u8],
+) -> Result<usize, NotMade>
     requires { (at < length file.now) × Convertible file.now at }
     ensures { SheetCall (made_told (sheet_at file.now at (record { mode = mode.now; sent = sent.now; control = control.now })) (length out.old)) out.old result out.new }
 {
@@ -95,13 +95,12 @@ fn made_in(
     sent: &[u8],
     control: &[u8],
     out: &mut [u8],
-) -> Made
+) -> Result<usize, NotMade>
     requires { (length sheet.old ≡ 65537) × (at < length file.now) × Convertible file.now at }
     ensures { SheetCall (made_told (sheet_at file.now at (record { mode = mode.now; sent = sent.now; control = control.now })) (length out.old)) out.old result out.new }
 {
-    let put = csv_runs::put_sheet(sheet, file, at, mode, sent, control);
-    let end = put.end;
-    handed(&sheet[..end], out)
+    let put = csv_runs::put_sheet(sheet, file, at, mode, sent, control).unwrap();
+    handed(&sheet[..put.end], out)
 }
 
 // The sheet that begins at a place, and the place behind its rows: 50, 30; 52 and 53 of its rows; its own 40 to 43; 45. It is made in a buffer of
@@ -138,24 +137,23 @@ fn next_in(
     requires { at < length file.now }
     ensures { NextSheetWritten file.now at (record { mode = mode.now; sent = sent.now; control = control.now }) out.old result out.new }
 {
-    let put = csv_runs::put_sheet(sheet, file, at, mode, sent, control);
-    let run = put.run;
-    if run.bad {
+    let Some(put) = csv_runs::put_sheet(sheet, file, at, mode, sent, control) else {
         return Next {
-            made: Made::Faulty(FileFault::Quoting),
+            made: Err(NotMade::Faulty(FileFault::Quoting)),
             place: file.len(),
         };
-    }
+    };
+    let run = put.run;
     let place = at + run.size;
     if !run.good {
         return Next {
-            made: Made::Faulty(FileFault::Unconverted),
+            made: Err(NotMade::Faulty(FileFault::Unconverted)),
             place,
         };
     }
     if run.differs {
         return Next {
-            made: Made::Faulty(FileFault::HeaderDiffers),
+            made: Err(NotMade::Faulty(FileFault::HeaderDiffers)),
             place,
         };
     }
@@ -175,11 +173,10 @@ fn place_after(file: &[u8], at: usize) -> usize
     if file.len() <= at {
         return file.len();
     }
-    let run = csv_runs::run(file, at);
-    if run.bad {
-        return file.len();
+    match csv_runs::run(file, at) {
+        Some(run) => at + run.size,
+        None => file.len(),
     }
-    at + run.size
 }
 
 // The place behind n sheets.
@@ -187,10 +184,8 @@ fn place_behind(file: &[u8], first: usize, n: usize) -> usize
     ensures { result ≡ place_of file.now first n }
 {
     let mut at = first;
-    let mut left = n;
-    while 0 < left {
+    for _ in 0..n {
         at = place_after(file, at);
-        left -= 1;
     }
     at
 }
@@ -203,38 +198,13 @@ pub fn csv_sheet(
     sent: &[u8],
     control: &[u8],
     out: &mut [u8],
-) -> Made
+) -> Result<usize, NotMade>
     ensures { CsvSheetWritten file.now which (record { mode = mode.now; sent = sent.now; control = control.now }) out.old result out.new }
 {
-    match csv_check::verdict_on(file) {
-        FileVerdict::Wrong(blame) => {
-            let fault = blame.fault;
-            Made::Faulty(fault)
-        }
-        FileVerdict::Right(sheets) => sheet_of(file, sheets, which, mode, sent, control, out),
-    }
-}
-
-// The same of a file that is right.
-fn sheet_of(
-    file: &[u8],
-    sheets: CsvSheets,
-    which: usize,
-    mode: &[u8],
-    sent: &[u8],
-    control: &[u8],
-    out: &mut [u8],
-) -> Made
-    requires { csv_count file.now ≡ gives sheets }
-    ensures { CsvSheetWritten file.now which (record { mode = mode.now; sent = sent.now; control = control.now }) out.old result out.new }
-{
-    if which == 0 {
-        return refused(Kind::NoOrdinal);
-    }
-    if sheets.count < which {
+    let sheets = csv_count(file)?;
+    if (which == 0) | (sheets.count < which) {
         return refused(Kind::NoOrdinal);
     }
     let at = place_behind(file, sheets.first, which - 1);
-    let next = csv_next(file, at, mode, sent, control, out);
-    next.made
+    csv_next(file, at, mode, sent, control, out).made
 }

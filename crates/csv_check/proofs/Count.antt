@@ -4,9 +4,11 @@ use mathlib.Core.Bool.{Bool, true, false, not, and-false}
 use mathlib.Core.List.{List, [], ◌∷◌}
 use Prim.Native.Nat.{ℕ, ◌+◌, ◌-◌, ◌*◌, ◌≤◌, ◌<◌}
 use native.Mathlib.Omega.{arith}
-use borrow.Author.Tests.{lt-ltb, le-ltb, ltb-true, ltb-false, leb-true, le-leb, ne_eqb, not-true, not-false}
+use borrow.Author.Tests.{lt-ltb, le-ltb, ltb-true, ltb-false, leb-true, le-leb, lt-leb, ne_eqb, not-true, not-false}
 use lib.Dec.{eqb, ltb, leb}
 use lib.ListN.{length, get_or, drop}
+use Rattle.std.specs.Prelude.{None, Some}
+use Rattle.std.proofs.lemmas.Option.{none-some, same_Some}
 use Rattle.rules.specs.Lists.{empty, all}
 use Rattle.rules.specs.Frame.{digit}
 use Rattle.rules.proofs.Logic.{cases, never, both}
@@ -115,21 +117,29 @@ pub count-starts : (s : List ℕ) → Counting s 0 0
 count-starts s = record { place = omega arith; digits = refl; value = refl }
 
 module _ (s : List ℕ) (i n : ℕ) (p : Counting s i n) where
-  pub count-over : length s ≤ i → ColumnsAre (halved false s) (leb 7 n) n
+  count-over : length s ≤ i → (counts (halved false s) ≡ leb 7 n) × (capped n ≡ capped (numeral 0 (halved false s)))
   unfolding all numeral
   count-over h =
       let d : all digit s ≡ true = p.digits ∙ ap (all digit) (over s i h) in
       let v : capped (numeral 0 s) ≡ capped n = p.value ∙ ap (λ (t : List ℕ). capped (numeral n t)) (over s i h) in
       let e = digits-halved s d in
-      record { is = rw e (same-seven n (numeral 0 s) (sym v) ∙ sym (counts-digits s d)); value = λ g. rw e (sym v) }
+      (rw e (counts-digits s d ∙ sym (same-seven n (numeral 0 s) (sym v))), rw e (sym v))
+
+  pub count-seven : length s ≤ i → 7 ≤ n → ColumnsAre (halved false s) (Some n)
+  count-seven h k =
+      let q = count-over h in
+      record { is = sym (q.0 ∙ le-leb 7 n k); value = λ m e. let z : m ≡ n = sym (same_Some n m e) in ap capped z ∙ q.1 }
+
+  pub count-few : length s ≤ i → n < 7 → ColumnsAre (halved false s) None
+  count-few h k = record { is = sym ((count-over h).0 ∙ lt-leb 7 n k); value = λ m e. absurd (none-some m e) }
 
   module _ (h : i < length s) (d : Bool) (e : d ≡ digit (get_or s i 0)) where
-    pub count-not : not d ≡ true → ColumnsAre (halved false s) false 0
+    pub count-not : not d ≡ true → ColumnsAre (halved false s) None
     unfolding all
     count-not g =
         let k : digit (get_or s i 0) ≡ false = sym e ∙ not-true d g in
         let a : all digit s ≡ false = p.digits ∙ ap (all digit) (here 0 s i h) ∙ rw (k, all) in
-        record { is = sym (counts-others (halved false s) (others-halved s a)); value = λ z. never (sym z) }
+        record { is = sym (counts-others (halved false s) (others-halved s a)); value = λ m z. absurd (none-some m z) }
 
     pub count-digit : not d ≡ false → digit (get_or s i 0) ≡ true
     count-digit g = sym e ∙ not-false d g

@@ -8,6 +8,8 @@ use native.Mathlib.Numerals.{add-one}
 use borrow.Author.Tests.{lt-ltb, le-ltb, ltb-true, ltb-false, ne_eqb}
 use lib.Dec.{eqb, ltb}
 use lib.ListN.{length, take, drop}
+use Rattle.std.specs.Prelude.{Option, None, Some, is_some, unwrap_or}
+use Rattle.std.proofs.lemmas.Option.{none-some}
 use Rattle.rules.specs.Lists.{empty, onto, nth, all}
 use Rattle.rules.proofs.Logic.{cases, never}
 use Rattle.csv_rules.specs.Quote.{Lines, end, broken, line, more, Stand, Begins, Comma, Inside, Quote, Cr, lines_at, cut, is_broken, FileLine, lines_in}
@@ -16,8 +18,9 @@ use Rattle.csv_rules.specs.Kanji.{convertible}
 use Rattle.csv_rules.specs.Sheets.{row_converts, bytes_in, first_row}
 use Rattle.csv_rules.specs.Spot.{first_not, count_line}
 use Rattle.csv_rules.specs.Written.{halved}
-use Rattle.csv_rows.specs.Rows.{item_bytes, item_at, RowIs}
-use Rattle.csv_rows.proofs.Laws.{row-lines, row-unbroken, row-broken, rows_end}
+use Rattle.csv_rows.specs.declared.RowItems.{RowItems}
+use Rattle.csv_rows.specs.Rows.{raw_items, RowIs}
+use Rattle.csv_rows.proofs.Laws.{item-half, row-lines, row-unbroken, row-broken, rows_end}
 use Rattle.csv_check.specs.Walk.{capped, first_found, count_spot, ColumnsAre, column_item, WalkIs}
 use Rattle.csv_check.specs.Looked.{LookedIs}
 use Rattle.csv_check.proofs.Count.{same_count}
@@ -47,15 +50,15 @@ few-item end h = tt
 few-item broken h = tt
 few-item (line is n ls) h = omega arith
 
-unfoldable read : Stand → ℕ
-read Begins = 0
-read Comma = 0
-read Inside = 1
-read Quote = 2
-read Cr = 3
+unfoldable quotes_read : Stand → ℕ
+quotes_read Begins = 0
+quotes_read Comma = 0
+quotes_read Inside = 1
+quotes_read Quote = 2
+quotes_read Cr = 3
 
-lines-few : (a : Stand) (s : List ℕ) → Few (read a) (lines_at a s)
-unfolding lines_at read Few
+lines-few : (a : Stand) (s : List ℕ) → Few (quotes_read a) (lines_at a s)
+unfolding lines_at quotes_read Few
 lines-few Begins [] = tt
 lines-few Comma [] = tt
 lines-few Inside [] = tt
@@ -175,10 +178,10 @@ module _ (f : List ℕ) (number at lines miscounted unconverted first : ℕ) (p 
   pub walk-line : at < length f → length f < 18446744073709551616 → lines + 1 < 18446744073709551616
   walk-line h k = omega (arith, p.few)
 
-  module _ (spans : List ℕ) (size count : ℕ) (good bad : Bool) (t : RowIs f at false spans size count good bad) where
-    pub walk-broken : bad ≡ true → WalkIs f number true lines miscounted unconverted first
-    walk-broken h = let e = row-broken f at false spans size count good bad t h in walk_ends e.0 true e.1
+  pub walk-broken : cut (drop at f) ≡ broken → WalkIs f number true lines miscounted unconverted first
+  walk-broken h = let e = row-broken f at h in walk_ends e.0 true e.1
 
+  module _ (read : RowItems) (size count : ℕ) (good : Bool) (t : RowIs f at false read size count good) where
     pub walk-place : length f < 18446744073709551616 → at + size < 18446744073709551616
     walk-place k = omega (arith, t.place)
 
@@ -188,86 +191,84 @@ module _ (f : List ℕ) (number at lines miscounted unconverted first : ℕ) (p 
     pub walk_first : length f < 18446744073709551616 → (x : ℕ) → x ≡ cond (ltb (lines + 1) 3) size 0 → first + x < 18446744073709551616
     walk_first k x w = omega (arith, t.place, p.before, head-size x w)
 
-    module _ (h : bad ≡ false) where
-      pub walk-less : at < length f → length f - (at + size) < length f - at
-      walk-less k = let m : 0 < size + 0 = rw h at t.moves in omega (arith, t.place)
+    pub walk-less : at < length f → length f - (at + size) < length f - at
+    walk-less k = omega (arith, t.place, t.moves)
 
-      row-few : length f < 18446744073709551616 → count < 10000000000000000000
-      unfolding Few read cut
-      row-few k =
-          let c : lines_at Begins (drop at f) ≡ line t.items size (cut (drop (at + size) f)) =
-          t.is ∙ ap (λ (b : Bool). cond b broken (line t.items size (cut (drop (at + size) f)))) h in
-          let n : length t.items + length t.items ≤ size + 0 = rw c at (lines-few Begins (drop at f)) in
-          omega (arith, t.counted, t.place)
+    row-few : length f < 18446744073709551616 → count < 10000000000000000000
+    unfolding Few quotes_read cut
+    row-few k =
+        let c : lines_at Begins (drop at f) ≡ line t.items size (cut (drop (at + size) f)) = t.is in
+        let n : length t.items + length t.items ≤ size + 0 = rw c at (lines-few Begins (drop at f)) in
+        omega (arith, t.counted, t.place)
 
-      abbrev row : FileLine
-      row = record { items = t.items; size = size }
+    abbrev row : FileLine
+    row = record { items = t.items; size = size }
 
-      row_next : from f at ≡ row ∷ from f (at + size)
-      row_next = row-lines f at false spans size count good bad t h
+    row_next : from f at ≡ row ∷ from f (at + size)
+    row_next = row-lines f at false read size count good t
 
-      module _ (x m u : ℕ) (a : m ≡ first_found miscounted (lines + 1) (ltb (lines + 1) 3 || eqb count number))
-          (b : u ≡ first_found unconverted (lines + 1) good) (w : x ≡ cond (ltb (lines + 1) 3) size 0) where
-        more_rows : bytes_in (take 2 (lines_in (cut f))) ≡ (first + x) + bytes_in (take (2 - (lines + 1)) (from f (at + size)))
-        unfolding bytes_in
-        more_rows =
-            cases (ltb (lines + 1) 3)
-            (λ e.
-            let k : 2 - lines ≡ suc (2 - (lines + 1)) = omega (arith, ltb-true (lines + 1) 3 e) in
-            let z : bytes_in (take (2 - lines) (from f at)) ≡ size + bytes_in (take (2 - (lines + 1)) (from f (at + size))) =
-            ap (λ (n : ℕ). bytes_in (take n (from f at))) k ∙ ap (λ (ls : List FileLine). bytes_in (take (suc (2 - (lines + 1))) ls)) row_next in
-            let y : x ≡ size = w ∙ rw e in
-            omega (arith, p.rows))
-            (λ e.
-            let k : 2 - lines ≡ 0 = omega (arith, ltb-false (lines + 1) 3 e) in
-            let n : 2 - (lines + 1) ≡ 0 = omega (arith, ltb-false (lines + 1) 3 e) in
-            let z : bytes_in (take (2 - lines) (from f at)) ≡ 0 = ap (λ (n : ℕ). bytes_in (take n (from f at))) k in
-            let o : bytes_in (take (2 - (lines + 1)) (from f (at + size))) ≡ 0 = ap (λ (n : ℕ). bytes_in (take n (from f (at + size)))) n in
-            let y : x ≡ 0 = w ∙ rw e in
-            omega (arith, p.rows))
+    module _ (x m u : ℕ) (a : m ≡ first_found miscounted (lines + 1) (ltb (lines + 1) 3 || eqb count number))
+        (b : u ≡ first_found unconverted (lines + 1) good) (w : x ≡ cond (ltb (lines + 1) 3) size 0) where
+      more_rows : bytes_in (take 2 (lines_in (cut f))) ≡ (first + x) + bytes_in (take (2 - (lines + 1)) (from f (at + size)))
+      unfolding bytes_in
+      more_rows =
+          cases (ltb (lines + 1) 3)
+          (λ e.
+          let k : 2 - lines ≡ suc (2 - (lines + 1)) = omega (arith, ltb-true (lines + 1) 3 e) in
+          let z : bytes_in (take (2 - lines) (from f at)) ≡ size + bytes_in (take (2 - (lines + 1)) (from f (at + size))) =
+          ap (λ (n : ℕ). bytes_in (take n (from f at))) k ∙ ap (λ (ls : List FileLine). bytes_in (take (suc (2 - (lines + 1))) ls)) row_next in
+          let y : x ≡ size = w ∙ rw e in
+          omega (arith, p.rows))
+          (λ e.
+          let k : 2 - lines ≡ 0 = omega (arith, ltb-false (lines + 1) 3 e) in
+          let n : 2 - (lines + 1) ≡ 0 = omega (arith, ltb-false (lines + 1) 3 e) in
+          let z : bytes_in (take (2 - lines) (from f at)) ≡ 0 = ap (λ (n : ℕ). bytes_in (take n (from f at))) k in
+          let o : bytes_in (take (2 - (lines + 1)) (from f (at + size))) ≡ 0 = ap (λ (n : ℕ). bytes_in (take n (from f (at + size)))) n in
+          let y : x ≡ 0 = w ∙ rw e in
+          omega (arith, p.rows))
 
-        pub walk-on : at < length f → length f < 18446744073709551616 → Walking f number (at + size) (lines + 1) m u (first + x)
-        unfolding first_off first_not
-        walk-on l k = record {
-          quoting = p.quoting ∙ row-unbroken f at false spans size count good bad t h;
-          counts = let e : length (from f at) ≡ suc (length (from f (at + size))) = ap length row_next in omega (arith, p.counts);
-          counted = λ n e.
-              let q : eqb count number ≡ eqb (length t.items) n = same_count number n count e (row-few k) ∙ ap (λ (c : ℕ). eqb c n) t.counted in
-              p.counted n e
-              ∙ ap (λ (ls : List FileLine). or_else miscounted (first_off n (suc lines) ls)) row_next
-              ∙ found-on miscounted lines (first_off n (suc (suc lines)) (from f (at + size))) (ltb (suc lines) 3 || eqb (length t.items) n)
-              ∙ rw (a, add-one, q);
-          converted =
-              p.converted
-              ∙ ap (λ (ls : List FileLine). or_else unconverted (first_not row_converts (suc lines) ls)) row_next
-              ∙ found-on unconverted lines (first_not row_converts (suc (suc lines)) (from f (at + size))) (all convertible t.items)
-              ∙ rw (b, add-one, t.converts);
-          rows = more_rows;
-          place = t.place;
-          few = let n : 0 < size + 0 = rw h at t.moves in omega (arith, p.few);
-          before = omega (arith, p.before, head-size x w);
-        }
+      pub walk-on : at < length f → length f < 18446744073709551616 → Walking f number (at + size) (lines + 1) m u (first + x)
+      unfolding first_off first_not
+      walk-on l k = record {
+        quoting = p.quoting ∙ row-unbroken f at false read size count good t;
+        counts = let e : length (from f at) ≡ suc (length (from f (at + size))) = ap length row_next in omega (arith, p.counts);
+        counted = λ n e.
+            let q : eqb count number ≡ eqb (length t.items) n = same_count number n count e (row-few k) ∙ ap (λ (c : ℕ). eqb c n) t.counted in
+            p.counted n e
+            ∙ ap (λ (ls : List FileLine). or_else miscounted (first_off n (suc lines) ls)) row_next
+            ∙ found-on miscounted lines (first_off n (suc (suc lines)) (from f (at + size))) (ltb (suc lines) 3 || eqb (length t.items) n)
+            ∙ rw (a, add-one, q);
+        converted =
+            p.converted
+            ∙ ap (λ (ls : List FileLine). or_else unconverted (first_not row_converts (suc lines) ls)) row_next
+            ∙ found-on unconverted lines (first_not row_converts (suc (suc lines)) (from f (at + size))) (all convertible t.items)
+            ∙ rw (b, add-one, t.converts);
+        rows = more_rows;
+        place = t.place;
+        few = omega (arith, p.few, t.moves);
+        before = omega (arith, p.before, head-size x w);
+      }
 
 -- ---- the column count of a file
-no-columns : ColumnsAre [] false 0
+no-columns : ColumnsAre [] None
 unfolding counts empty
-no-columns = record { is = refl; value = λ e. never (sym e) }
+no-columns = record { is = refl; value = λ n e. absurd (none-some n e) }
 
-pub columns-none : (f : List ℕ) → length f ≡ 0 → ColumnsAre (column_item (lines_in (cut f))) false 0
+pub columns-none : (f : List ℕ) → length f ≡ 0 → ColumnsAre (column_item (lines_in (cut f))) None
 unfolding column_item
 columns-none f h = let e = (rows_end f 0 (omega arith)).0 in rw e no-columns
 
-module _ (f : List ℕ) (known : Bool) (spans : List ℕ) (size count : ℕ) (good bad : Bool) (t : RowIs f 0 known spans size count good bad) where
-  pub columns-broken : bad ≡ true → ColumnsAre (column_item (lines_in (cut f))) false 0
-  unfolding column_item
-  columns-broken h = let e = (row-broken f 0 known spans size count good bad t h).0 in rw e no-columns
+pub columns-broken : (f : List ℕ) → cut (drop 0 f) ≡ broken → ColumnsAre (column_item (lines_in (cut f))) None
+unfolding column_item
+columns-broken f h = let e = (row-broken f 0 h).0 in rw e no-columns
 
-  pub columns-read : bad ≡ false → (raw : List ℕ) → raw ≡ item_bytes f spans 1 → (g : Bool) (n : ℕ) → ColumnsAre (halved false raw) g n → ColumnsAre (column_item (lines_in (cut f))) g n
-  unfolding column_item item_at
-  columns-read h raw e g n c =
-      let v : halved false raw ≡ nth t.items 1 = ap (halved false) e ∙ t.lies.each 1 (omega arith) in
-      let w : column_item (lines_in (cut f)) ≡ nth t.items 1 = ap column_item (row-lines f 0 known spans size count good bad t h) in
-      rw (w, ← v) c
+pub columns-read : (f : List ℕ) (known : Bool) (read : RowItems) (size count : ℕ) (good : Bool) → RowIs f 0 known read size count good
+    → (raw : List ℕ) → raw ≡ nth (raw_items read) 1 → (n : Option ℕ) → ColumnsAre (halved false raw) n → ColumnsAre (column_item (lines_in (cut f))) n
+unfolding column_item
+columns-read f known read size count good t raw e n c =
+    let v : halved false raw ≡ nth t.items 1 = ap (halved false) e ∙ sym (item-half read 1) ∙ t.lies.each 1 (omega arith) in
+    let w : column_item (lines_in (cut f)) ≡ nth t.items 1 = ap column_item (row-lines f 0 known read size count good t) in
+    rw (w, ← v) c
 
 -- ---- 51 of the whole file
 module _ (lines : ℕ) (good : Bool) (miscounted : ℕ) where
@@ -288,27 +289,31 @@ module _ (lines : ℕ) (good : Bool) (miscounted : ℕ) where
     unfolding count_spot
     spot-columns h = rw (ne_eqb lines 0 a, ne_eqb lines 1 b, h)
 
-spot-line : (ls : List FileLine) (good : Bool) (number lines miscounted : ℕ) → ColumnsAre (column_item ls) good number → lines ≡ length ls
-    → ((m : ℕ) → capped number ≡ capped m → miscounted ≡ first_not (λ (r : FileLine). eqb (length r.items) m) 3 (drop 2 ls))
-    → count_spot lines good miscounted ≡ count_line ls
+columns-value : (n : Option ℕ) (v : List ℕ) → ColumnsAre v n → is_some n ≡ true → capped (unwrap_or n 0) ≡ capped (numeral 0 v)
+columns-value None v c e = never (sym e)
+columns-value (Some k) v c e = c.value k refl
+
+spot-line : (ls : List FileLine) (number : Option ℕ) (lines miscounted : ℕ) → ColumnsAre (column_item ls) number → lines ≡ length ls
+    → ((m : ℕ) → capped (unwrap_or number 0) ≡ capped m → miscounted ≡ first_not (λ (r : FileLine). eqb (length r.items) m) 3 (drop 2 ls))
+    → count_spot lines (is_some number) miscounted ≡ count_line ls
 unfolding count_spot count_line column_item
-spot-line [] good number lines miscounted c n h = rw n
-spot-line (v ∷ []) good number lines miscounted c n h = rw n
-spot-line (v ∷ (w ∷ ls)) good number lines miscounted c n h =
+spot-line [] number lines miscounted c n h = rw n
+spot-line (v ∷ []) number lines miscounted c n h = rw n
+spot-line (v ∷ (w ∷ ls)) number lines miscounted c n h =
     let y : eqb lines 0 ≡ false = ne_eqb lines 0 (λ e. absurd (omega arith)) in
     let z : eqb lines 1 ≡ false = ne_eqb lines 1 (λ e. absurd (omega arith)) in
-    cases good
-    (λ e. rw (y, z, e, ← c.is, e) (h (numeral 0 (nth v.items 1)) (c.value e)))
+    cases (is_some number)
+    (λ e. rw (y, z, e, ← c.is, e) (h (numeral 0 (nth v.items 1)) (columns-value number (nth v.items 1) c e)))
     (λ e. rw (y, z, e, ← c.is, e))
 
-pub look-all : (f : List ℕ) (good : Bool) (number : ℕ) → ColumnsAre (column_item (lines_in (cut f))) good number
-    → (b : Bool) (lines miscounted unconverted first : ℕ) → WalkIs f number b lines miscounted unconverted first
-    → (r : ℕ) → r ≡ count_spot lines good miscounted → LookedIs f b lines r unconverted first
+pub look-all : (f : List ℕ) (number : Option ℕ) → ColumnsAre (column_item (lines_in (cut f))) number
+    → (b : Bool) (lines miscounted unconverted first m : ℕ) → m ≡ unwrap_or number 0 → WalkIs f m b lines miscounted unconverted first
+    → (r : ℕ) → r ≡ count_spot lines (is_some number) miscounted → LookedIs f b lines r unconverted first
 unfolding first_row
-look-all f good number c b lines miscounted unconverted first w r e = record {
+look-all f number c b lines miscounted unconverted first m u w r e = record {
   quoting = w.quoting;
   counts = w.counts;
-  counted = e ∙ spot-line (lines_in (cut f)) good number lines miscounted c w.counts w.counted;
+  counted = e ∙ spot-line (lines_in (cut f)) number lines miscounted c w.counts (λ n k. w.counted n (ap capped u ∙ k));
   converted = w.converted;
   rows = w.rows;
 }

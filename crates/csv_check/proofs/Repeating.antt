@@ -6,48 +6,42 @@ use Prim.Native.Nat.{ℕ, ◌+◌, ◌≤◌, ◌<◌}
 use native.Mathlib.Omega.{arith}
 use borrow.Author.Tests.{ltb-true, ltb-false, leb-true, le-leb, eqb-true, eqb-false, lt-ltb, le-ltb, lt-leb}
 use lib.Dec.{eqb, leb, ltb}
-use lib.ListN.{length, replicate}
+use lib.ListN.{length}
 use Rattle.rules.proofs.Logic.{cases, both, never, and-false}
 use Rattle.csv_rules.specs.Sheets.{row_converts}
-use Rattle.csv_rows.specs.Rows.{Inside, RowIs}
+use Rattle.csv_rules.specs.Quote.{Items}
+use Rattle.csv_rows.specs.declared.RowItems.{RowItems}
+use Rattle.csv_rows.specs.Rows.{items_of, RowIs}
 use Rattle.csv_rows.proofs.Laws.{rows_end}
 use Rattle.csv_places.specs.Places.{Places}
 use Rattle.csv_places.specs.Slots.{Nothing}
 use Rattle.csv_repeats.specs.Looks.{WithRow}
 use Rattle.csv_repeats.specs.Rounds.{Partly}
-use Rattle.csv_repeats.proofs.Laws.{nowhere}
 use Rattle.csv_repeats.proofs.Going.{Going, going-starts, going-places, going-ends, going-runs, going-met, going_on, with-few}
 use Rattle.csv_check.specs.Walk.{first_found}
 use Rattle.csv_check.specs.Repeats.{WalkedRows, RepeatsAre, Askable, WithRowIf}
 
 -- ---- where 53 and 54 are still looked for
-module _ (f : List ℕ) (at : ℕ) (before spans places : List ℕ) (count : ℕ) (asked : Bool) (A : Askable f at before spans places count asked) where
+module _ (f : List ℕ) (at : ℕ) (places : List ℕ) (count : ℕ) (asked : Bool) (A : Askable f at places count asked) where
   pub ask-few : count ≤ at
   ask-few = A.few
 
   pub ask-place : at < length f
   ask-place = A.place
 
-  pub ask-before : Inside f before
-  ask-before = A.lies
-
-  pub ask-row : Inside f spans
-  ask-row = A.row
-
   pub ask-table : asked ≡ true → Places f places
   ask-table = A.table
 
-module _ (f : List ℕ) (first at : ℕ) (before spans places : List ℕ) (unkept line k differs returns count : ℕ) (asked : Bool) where
-  pub if-asked : asked ≡ true → (o m d r n : ℕ) (after : List ℕ) → WithRow f first at before spans places unkept line k returns count o m d r n after
-      → WithRowIf f first at before spans places unkept line k differs returns count asked o m d r n after
+module _ (f : List ℕ) (first at : ℕ) (before row : Items) (places : List ℕ) (unkept line k differs returns count : ℕ) (asked : Bool) where
+  pub if-asked : asked ≡ true → (o m d r n : ℕ) (after : List ℕ) → WithRow f first at before row places unkept line k returns count o m d r n after
+      → WithRowIf f first at before row places unkept line k differs returns count asked o m d r n after
   if-asked h o m d r n after R = record { with = λ e. R; kept = λ e. never (sym h ∙ e) }
 
-  pub if-not : asked ≡ false → WithRowIf f first at before spans places unkept line k differs returns count asked unkept line differs returns count places
+  pub if-not : asked ≡ false → WithRowIf f first at before row places unkept line k differs returns count asked unkept line differs returns count places
   if-not h = record { with = λ e. never (sym e ∙ h); kept = λ e. (refl, refl, refl, refl, refl, refl) }
 
 -- ---- the walk: 53 and 54 are looked for behind the heading line, as long as every line converts and no row differs
-pub record Repeating (f places before : List ℕ) (at lines unconverted first unkept line differs returns count : ℕ) : Type 0 where
-  pub lies : Inside f before
+pub record Repeating (f places : List ℕ) (before : Items) (at lines unconverted first unkept line differs returns count : ℕ) : Type 0 where
   pub place : at ≤ length f
   pub few : count ≤ at
   pub lines-few : lines ≤ at
@@ -57,9 +51,8 @@ pub record Repeating (f places before : List ℕ) (at lines unconverted first un
   pub going : 2 ≤ lines → unconverted ≡ 0 → differs ≡ 0 → Going f first 3 places before at unkept line (lines + 1) returns count
   pub met : 2 ≤ lines → unconverted ≡ 0 → (differs ≡ 0 → ⊥) → Partly f first 3 differs returns unkept line
 
-pub rep-starts : (f places before : List ℕ) → length places ≡ 65536 → Nothing places → before ≡ replicate 90 0 → Repeating f places before 0 0 0 0 0 0 0 0 0
-rep-starts f places before m n e = record {
-  lies = nowhere f before e;
+pub rep-starts : (f places : List ℕ) (before : Items) → length places ≡ 65536 → Nothing places → Repeating f places before 0 0 0 0 0 0 0 0 0
+rep-starts f places before m n = record {
   place = omega arith;
   few = omega arith;
   lines-few = omega arith;
@@ -73,7 +66,7 @@ rep-starts f places before m n e = record {
 pub rep-broken : (f : List ℕ) (lines unconverted first differs returns count unkept line : ℕ) → RepeatsAre f true lines unconverted first differs returns count unkept line
 rep-broken f lines unconverted first differs returns count unkept line = record { rows = λ h. never h }
 
-module _ (f places before : List ℕ) (at lines unconverted first unkept line differs returns count : ℕ)
+module _ (f places : List ℕ) (before : Items) (at lines unconverted first unkept line differs returns count : ℕ)
     (P : Repeating f places before at lines unconverted first unkept line differs returns count) where
   over_none : 2 ≤ lines → unconverted ≡ 0 → length f ≤ at → differs ≡ 0 → WalkedRows f first differs returns count unkept line
   over_none l u h d =
@@ -92,7 +85,7 @@ module _ (f places before : List ℕ) (at lines unconverted first unkept line di
         (λ z. let d = eqb-false differs 0 z in record { partly = P.met l u d; runs = λ y. absurd (d y); heads = P.heads l });
   }
 
-  module _ (spans : List ℕ) (size n : ℕ) (good bad : Bool) (T : RowIs f at false spans size n good bad) (b : bad ≡ false)
+  module _ (read : RowItems) (size n : ℕ) (good : Bool) (T : RowIs f at false read size n good)
       (x u : ℕ) (w : x ≡ cond (ltb (lines + 1) 3) size 0) (i : u ≡ first_found unconverted (lines + 1) good) where
     abbrev asked : Bool
     asked = leb 3 (lines + 1) && eqb u 0 && eqb differs 0
@@ -115,12 +108,10 @@ module _ (f places before : List ℕ) (at lines unconverted first unkept line di
         let l = leb-true 3 (lines + 1) q.0 in
         (omega arith, eqb-true u 0 q.1, eqb-true differs 0 p.1)
 
-    pub rep-ask : at < length f → Askable f at before spans places count asked
+    pub rep-ask : at < length f → Askable f at places count asked
     rep-ask h = record {
       few = P.few;
       place = h;
-      lies = P.lies;
-      row = T.lies.inside;
       table = λ h.
           let a = asked_of h in
           going-places f first 3 places before at unkept line (lines + 1) returns count (P.going a.0 (so_far a.1).0 a.2);
@@ -135,7 +126,7 @@ module _ (f places before : List ℕ) (at lines unconverted first unkept line di
     rows-asked : 2 ≤ lines → u ≡ 0 → eqb differs 0 ≡ true → asked ≡ true
     rows-asked l y z = rw (le-leb 3 (lines + 1) (omega arith), y, z)
 
-    module _ (o m d p c : ℕ) (after : List ℕ) (R : WithRowIf f (first + x) at before spans places unkept line (lines + 1) differs returns count asked o m d p c after) where
+    module _ (o m d p c : ℕ) (after : List ℕ) (R : WithRowIf f (first + x) at before (items_of read) places unkept line (lines + 1) differs returns count asked o m d p c after) where
       -- the version line and the heading line
       module _ (l : lines < 2) where
         head-on : (first + x ≡ at + size) × (o ≡ 0) × (d ≡ 0) × (p ≡ 0) × (c ≡ 0)
@@ -148,16 +139,16 @@ module _ (f places before : List ℕ) (at lines unconverted first unkept line di
         head-none : (length after ≡ 65536) × Nothing after
         head-none = rw (R.kept (head-unasked l)).5 (P.none l)
 
-        head-going : 2 ≤ lines + 1 → Going f (first + x) 3 after spans (at + size) o m ((lines + 1) + 1) p c
+        head-going : 2 ≤ lines + 1 → Going f (first + x) 3 after (items_of read) (at + size) o m ((lines + 1) + 1) p c
         head-going h =
             let z : (lines + 1) + 1 ≡ 3 = omega arith in
             let q = head-on in
-            rw (q.0, q.1, q.3, q.4, z) (going-starts f (at + size) 3 after spans m (omega arith) head-none.0 head-none.1)
+            rw (q.0, q.1, q.3, q.4, z) (going-starts f (at + size) 3 after (items_of read) m (omega arith) head-none.0 head-none.1)
 
       -- a row
       module _ (l : 2 ≤ lines) (y : u ≡ 0) where
         module _ (z : eqb differs 0 ≡ true) where
-          with : WithRow f first at before spans places unkept line (lines + 1) returns count o m d p c after
+          with : WithRow f first at before (items_of read) places unkept line (lines + 1) returns count o m d p c after
           with = rw (stays l) at (R.with (rows-asked l y z))
 
           going : Going f first 3 places before at unkept line (lines + 1) returns count
@@ -169,13 +160,13 @@ module _ (f places before : List ℕ) (at lines unconverted first unkept line di
           not_first : at ≡ 0 → ⊥
           not_first k = omega (arith, P.lines-few)
 
-          with-on : d ≡ 0 → Going f first 3 after spans (at + size) o m ((lines + 1) + 1) p c
-          with-on = going_on f first 3 places before at (lines + 1) returns count false spans size n good bad T b unkept line going converts not_first o m d p c after with
+          with-on : d ≡ 0 → Going f first 3 after (items_of read) (at + size) o m ((lines + 1) + 1) p c
+          with-on = going_on f first 3 places before at (lines + 1) returns count false read size n good T unkept line going converts not_first o m d p c after with
 
           with-met : (d ≡ 0 → ⊥) → Partly f first 3 d p o m
-          with-met = going-met f first 3 places before at (lines + 1) returns count false spans size n good bad T b unkept line going converts not_first o m d p c after with
+          with-met = going-met f first 3 places before at (lines + 1) returns count false read size n good T unkept line going converts not_first o m d p c after with
 
-        row-going : d ≡ 0 → Going f (first + x) 3 after spans (at + size) o m ((lines + 1) + 1) p c
+        row-going : d ≡ 0 → Going f (first + x) 3 after (items_of read) (at + size) o m ((lines + 1) + 1) p c
         row-going h =
             cases (eqb differs 0)
             (λ z. rw (stays l) (with-on z h))
@@ -191,12 +182,11 @@ module _ (f places before : List ℕ) (at lines unconverted first unkept line di
       few-more : c ≤ count + 1
       few-more =
           cases asked
-          (λ h. with-few f (first + x) 3 places before at (lines + 1) returns count false spans size n good bad T b unkept line o m d p c after (R.with h))
+          (λ h. with-few f (first + x) 3 places before at (lines + 1) returns count false read size n good T unkept line o m d p c after (R.with h))
           (λ h. omega (arith, (R.kept h).2))
 
-      pub rep-on : Repeating f after spans (at + size) (lines + 1) u (first + x) o m d p c
-      rep-on = let y : 0 < size + 0 = rw b at T.moves in record {
-        lies = T.lies.inside;
+      pub rep-on : Repeating f after (items_of read) (at + size) (lines + 1) u (first + x) o m d p c
+      rep-on = let y = T.moves in record {
         place = T.place;
         few = omega (arith, P.few, few-more);
         lines-few = omega (arith, P.lines-few);

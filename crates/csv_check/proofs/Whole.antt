@@ -8,6 +8,7 @@ use native.Mathlib.Omega.{arith}
 use borrow.Author.Tests.{ne_eqb}
 use lib.Dec.{eqb}
 use lib.ListN.{length, take, drop, take-append-drop}
+use Rattle.std.specs.Prelude.{Result, Ok, Err}
 use Rattle.rules.specs.Told.{gives}
 use Rattle.rules.specs.Lists.{nth, all}
 use Rattle.rules.proofs.Logic.{cases}
@@ -25,8 +26,7 @@ use Rattle.csv_rounds.specs.Settled.{Unsettled, Settled}
 use Rattle.csv_check.specs.Looked.{LookedIs}
 use Rattle.csv_check.specs.Repeats.{WalkedRows, RepeatsAre}
 use Rattle.csv_check.proofs.Tells.{clash-told, back-told}
-use Rattle.csv_check.specs.declared.FileVerdict.{FileVerdict}
-use Rattle.csv_check.specs.declared.FileVerdict.TheVariants.{Right, Wrong}
+use Rattle.csv_check.specs.declared.Blame.{Blame}
 use Rattle.csv_check.specs.Verdicts.{told_verdict, line_of}
 
 -- ---- a test of all lines, by the first that it refuses
@@ -50,8 +50,8 @@ two-lines (version ∷ []) h = absurd (omega arith)
 two-lines (version ∷ (heading ∷ rows)) h = omega arith
 
 -- ---- each refusal in its turn
-abbrev wrong : FileFault → ℕ → FileVerdict
-wrong f k = Wrong (record { fault = f; line = k })
+abbrev wrong : FileFault → ℕ → Result CsvSheets Blame
+wrong f k = Err (record { fault = f; line = k })
 
 -- the line of a fault is some line
 some-line : (k : ℕ) → (k ≡ 0 → ⊥) → eqb k 0 ≡ false
@@ -61,11 +61,11 @@ module _ {f : List ℕ} {broken : Bool} {lines miscounted unconverted first : �
   abbrev ls : List FileLine
   ls = lines_in (cut f)
 
-  pub quoting-told : (v : FileVerdict) → broken ≡ true → v ≡ wrong Quoting (lines + 1) → told_verdict v ≡ csv_count f
+  pub quoting-told : (v : Result CsvSheets Blame) → broken ≡ true → v ≡ wrong Quoting (lines + 1) → told_verdict v ≡ csv_count f
   unfolding csv_count csv_told
   quoting-told v h e = rw (e, sym L.quoting ∙ h)
 
-  pub quoting-line : (v : FileVerdict) → broken ≡ true → v ≡ wrong Quoting (lines + 1) → line_of v ≡ csv_spot f
+  pub quoting-line : (v : Result CsvSheets Blame) → broken ≡ true → v ≡ wrong Quoting (lines + 1) → line_of v ≡ csv_spot f
   unfolding csv_spot
   quoting-line v h e = rw (e, sym L.quoting ∙ h, ← L.counts) (add-one lines)
 
@@ -73,11 +73,11 @@ module _ {f : List ℕ} {broken : Bool} {lines miscounted unconverted first : �
     quoted : is_broken (cut f) ≡ false
     quoted = sym L.quoting ∙ h
 
-    pub columns-told : (v : FileVerdict) → (miscounted ≡ 0 → ⊥) → v ≡ wrong Columns miscounted → told_verdict v ≡ csv_count f
+    pub columns-told : (v : Result CsvSheets Blame) → (miscounted ≡ 0 → ⊥) → v ≡ wrong Columns miscounted → told_verdict v ≡ csv_count f
     unfolding csv_count csv_told
     columns-told v k e = rw (e, quoted, count-tells ls, ← L.counted, some-line miscounted k)
 
-    pub columns-line : (v : FileVerdict) → (miscounted ≡ 0 → ⊥) → v ≡ wrong Columns miscounted → line_of v ≡ csv_spot f
+    pub columns-line : (v : Result CsvSheets Blame) → (miscounted ≡ 0 → ⊥) → v ≡ wrong Columns miscounted → line_of v ≡ csv_spot f
     unfolding csv_spot
     columns-line v k e = rw (e, quoted, ← L.counted, some-line miscounted k)
 
@@ -85,11 +85,11 @@ module _ {f : List ℕ} {broken : Bool} {lines miscounted unconverted first : �
       zero-count : count_line ls ≡ 0
       zero-count = sym L.counted ∙ m
 
-      pub unconverted-told : (v : FileVerdict) → (unconverted ≡ 0 → ⊥) → v ≡ wrong Unconverted unconverted → told_verdict v ≡ csv_count f
+      pub unconverted-told : (v : Result CsvSheets Blame) → (unconverted ≡ 0 → ⊥) → v ≡ wrong Unconverted unconverted → told_verdict v ≡ csv_count f
       unfolding csv_count csv_told
       unconverted-told v k e = rw (e, quoted, count-tells ls, zero-count, all-tells row_converts 0 ls, ← L.converted, some-line unconverted k)
 
-      pub unconverted-line : (v : FileVerdict) → (unconverted ≡ 0 → ⊥) → v ≡ wrong Unconverted unconverted → line_of v ≡ csv_spot f
+      pub unconverted-line : (v : Result CsvSheets Blame) → (unconverted ≡ 0 → ⊥) → v ≡ wrong Unconverted unconverted → line_of v ≡ csv_spot f
       unfolding csv_spot
       unconverted-line v k e = rw (e, quoted, zero-count, ← L.converted, some-line unconverted k)
 
@@ -128,11 +128,11 @@ module _ {f : List ℕ} {broken : Bool} {lines miscounted unconverted first : �
           differs-told : differ (drop 2 ls) ≡ not (eqb differs 0)
           differs-told = clash-told (drop 2 ls) ∙ ap (λ (n : ℕ). not (eqb n 0)) first-clash
 
-          pub header-told : (v : FileVerdict) → (differs ≡ 0 → ⊥) → v ≡ wrong HeaderDiffers differs → told_verdict v ≡ csv_count f
+          pub header-told : (v : Result CsvSheets Blame) → (differs ≡ 0 → ⊥) → v ≡ wrong HeaderDiffers differs → told_verdict v ≡ csv_count f
           unfolding csv_count csv_told
           header-told v k e = rw (e, quoted, good-count, good-lines, differs-told, some-line differs k)
 
-          pub header-line : (v : FileVerdict) → (differs ≡ 0 → ⊥) → v ≡ wrong HeaderDiffers differs → line_of v ≡ csv_spot f
+          pub header-line : (v : Result CsvSheets Blame) → (differs ≡ 0 → ⊥) → v ≡ wrong HeaderDiffers differs → line_of v ≡ csv_spot f
           unfolding csv_spot
           header-line v k e = rw (e, quoted, zero-count, zero-unconverted, first-clash, some-line differs k)
 
@@ -149,16 +149,16 @@ module _ {f : List ℕ} {broken : Bool} {lines miscounted unconverted first : �
             back_is : returns (runs (drop 2 ls)) ≡ not (eqb returned 0)
             back_is = back-told (drop 2 ls) ∙ ap (λ (n : ℕ). not (eqb n 0)) first_back
 
-            pub returns-told : (v : FileVerdict) → (returned ≡ 0 → ⊥) → v ≡ wrong Returns returned → told_verdict v ≡ csv_count f
+            pub returns-told : (v : Result CsvSheets Blame) → (returned ≡ 0 → ⊥) → v ≡ wrong Returns returned → told_verdict v ≡ csv_count f
             unfolding csv_count csv_told
             returns-told v k e = rw (e, quoted, good-count, good-lines, no-clash, back_is, some-line returned k)
 
-            pub returns-line : (v : FileVerdict) → (returned ≡ 0 → ⊥) → v ≡ wrong Returns returned → line_of v ≡ csv_spot f
+            pub returns-line : (v : Result CsvSheets Blame) → (returned ≡ 0 → ⊥) → v ≡ wrong Returns returned → line_of v ≡ csv_spot f
             unfolding csv_spot
             returns-line v k e = rw (e, quoted, zero-count, zero-unconverted, first-clash, d, first_back)
 
             module _ (b : returned ≡ 0) where
-              pub right-told : (c : CsvSheets) → c ≡ record { count = count; first = first } → told_verdict (Right c) ≡ csv_count f
+              pub right-told : (c : CsvSheets) → c ≡ record { count = count; first = first } → told_verdict (Ok c) ≡ csv_count f
               unfolding csv_count csv_told
               right-told c e =
                   rw (e, quoted, good-count, good-lines, no-clash, back_is, b)

@@ -1,5 +1,5 @@
 -- What the parts of the walk find.
-use Rattle.std.specs.Prelude.{◌≡◌, Bool, true, cond, not, ◌&&◌, List, [], ◌∷◌, ℕ, ◌+◌, ◌-◌, ◌*◌, eqb, ltb, length, take, drop}
+use Rattle.std.specs.Prelude.{◌≡◌, Bool, cond, not, ◌&&◌, List, [], ◌∷◌, ℕ, ◌+◌, ◌-◌, ◌*◌, eqb, ltb, length, take, drop, Option, Some, is_some}
 use Rattle.rules.specs.Lists.{nth}
 use Rattle.csv_rules.specs.Quote.{cut, is_broken, FileLine, lines_in}
 use Rattle.csv_rules.specs.Count.{numeral, counts}
@@ -16,9 +16,9 @@ unfoldable pub with_digit : ℕ → ℕ → ℕ
 with_digit n b = cond (ltb n 1000000000000000000) (10 * n + (b - 48)) 10000000000000000000
 
 -- of an item v
-pub record ColumnsAre (v : List ℕ) (good : Bool) (number : ℕ) : Type 0 where
-  pub is : good ≡ counts v
-  pub value : good ≡ true → capped number ≡ capped (numeral 0 v)
+pub record ColumnsAre (v : List ℕ) (number : Option ℕ) : Type 0 where
+  pub is : is_some number ≡ counts v
+  pub value : (n : ℕ) → number ≡ Some n → capped n ≡ capped (numeral 0 v)
 
 -- the item that holds it; empty where there is no version line
 unfoldable pub column_item : List FileLine → List ℕ

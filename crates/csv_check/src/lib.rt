@@ -2,8 +2,9 @@
 // whose numbers the table of that walk could not keep.
 #![tactic(auto)]
 
-ghost use Rattle.std.specs.Prelude.{◌≡◌, true, false, cond, ltb};
+ghost use Rattle.std.specs.Prelude.{◌≡◌, true, false, cond, ltb, is_some, Err};
 ghost use Rattle.rules.specs.Frame.{digit};
+ghost use Rattle.csv_rows.specs.Rows.{items_of};
 ghost use Rattle.csv_rules.specs.Quote.{cut, lines_in};
 ghost use Rattle.csv_rules.specs.Sheets.{csv_count};
 ghost use Rattle.csv_rules.specs.Spot.{csv_spot};
@@ -14,6 +15,7 @@ ghost use Rattle.csv_check.specs.Looked.{LookedIs};
 ghost use Rattle.csv_check.specs.Verdicts.{told_verdict, line_of};
 
 use csv_repeats::Repeated;
+use csv_rows::RowItems;
 use csv_rules::{CsvSheets, FileFault};
 
 // Whether the quoting is broken; the lines before the end, or before the one that breaks it; where 51 and 52 are met, by line, 0 where they aren't;
@@ -28,14 +30,7 @@ struct Looked {
     first: usize,
 }
 
-// The column count: whether it is a number from 7 up; the number, and 10,000,000,000,000,000,000 for it and all above: no row has so many items.
-#[derive(Clone, Copy)]
-struct Columns {
-    counts: bool,
-    number: usize,
-}
-
-// A number with one more digit.
+// A number with one more digit; 10,000,000,000,000,000,000 for it and all above: no row has so many items.
 fn one_more(n: usize, b: u8) -> usize
     requires { digit b ≡ true }
     ensures { result ≡ with_digit n b }
@@ -47,26 +42,17 @@ fn one_more(n: usize, b: u8) -> usize
 }
 
 // The column count, by its bytes as they lie in the file: digits, one at least, meaning 7 or more.
-fn column_count(raw: &[u8]) -> Columns
-    ensures { ColumnsAre (halved false raw.now) result.counts result.number }
+fn column_count(raw: &[u8]) -> Option<usize>
+    ensures { ColumnsAre (halved false raw.now) result }
 {
     let mut number = 0;
-    let mut i = 0;
-    while i < raw.len() {
-        let b = raw[i];
+    for &b in raw {
         if !plain_bytes::is_digit(b) {
-            return Columns {
-                counts: false,
-                number: 0,
-            };
+            return None;
         }
         number = one_more(number, b);
-        i += 1;
     }
-    Columns {
-        counts: 7 <= number,
-        number,
-    }
+    if 7 <= number { Some(number) } else { None }
 }
 
 // The first line that a test refuses: the one found before, else this one, where it doesn't pass.
@@ -90,8 +76,8 @@ fn before_rows(line: usize, size: usize) -> usize
 }
 
 // 51: "no version or heading line, a column count there that isn't a number from 7 up, or a row with another count".
-fn count_spot(lines: usize, counts: bool, miscounted: usize) -> usize
-    ensures { result ≡ count_spot lines counts miscounted }
+fn count_spot(lines: usize, columns: Option<usize>, miscounted: usize) -> usize
+    ensures { result ≡ count_spot lines (is_some columns) miscounted }
 {
     if lines == 0 {
         return 1;
@@ -99,30 +85,21 @@ fn count_spot(lines: usize, counts: bool, miscounted: usize) -> usize
     if lines == 1 {
         return 2;
     }
-    if counts {
+    if columns.is_some() {
         return miscounted;
     }
     1
 }
 
 // The column count of a file: the second item of its version line.
-fn columns_of(file: &[u8]) -> Columns
-    ensures { ColumnsAre (column_item (lines_in (cut file.now))) result.counts result.number }
+fn columns_of(file: &[u8]) -> Option<usize>
+    ensures { ColumnsAre (column_item (lines_in (cut file.now))) result }
 {
-    if file.len() == 0 {
-        return Columns {
-            counts: false,
-            number: 0,
-        };
+    if file.is_empty() {
+        return None;
     }
-    let version = csv_rows::row(file, 0, true);
-    if version.bad {
-        return Columns {
-            counts: false,
-            number: 0,
-        };
-    }
-    column_count(csv_rows::item(file, &version.spans, 1))
+    let version = csv_rows::row(file, 0, true)?;
+    column_count(version.items.item(1))
 }
 
 // 53 and 54 with a row more, where they are still looked for.
@@ -133,15 +110,15 @@ fn with_row_if(
     file: &[u8],
     first: usize,
     at: usize,
-    before: &[usize; 90],
-    spans: &[usize; 90],
+    before: &RowItems,
+    row: &RowItems,
     places: &mut [u32; 65536],
 ) -> Repeated
-    requires { Askable file.now at before.now spans.now places.old met.count asked }
-    ensures { WithRowIf file.now first at before.now spans.now places.old met.unkept met.line k met.differs met.returns met.count asked result.unkept result.line result.differs result.returns result.count places.new }
+    requires { Askable file.now at places.old met.count asked }
+    ensures { WithRowIf file.now first at (items_of before.now) (items_of row.now) places.old met.unkept met.line k met.differs met.returns met.count asked result.unkept result.line result.differs result.returns result.count places.new }
 {
     if asked {
-        return csv_repeats::with_row(met, k, file, first, at, before, spans, places);
+        return csv_repeats::with_row(met, k, file, first, at, before, row, places);
     }
     met
 }
@@ -153,7 +130,7 @@ fn walked(file: &[u8], number: usize) -> Looked
     ensures rows { RepeatsAre file.now result.broken result.lines result.unconverted result.first result.repeats.differs result.repeats.returns result.repeats.count result.repeats.unkept result.repeats.line }
 {
     let mut places = csv_places::empty();
-    let mut before = [0usize; 90];
+    let mut before = RowItems::none();
     let mut at = 0;
     let mut lines = 0;
     let mut miscounted = 0;
@@ -167,8 +144,7 @@ fn walked(file: &[u8], number: usize) -> Looked
     };
     let mut first = 0;
     while at < file.len() {
-        let row = csv_rows::row(file, at, false);
-        if row.bad {
+        let Some(row) = csv_rows::row(file, at, false) else {
             return Looked {
                 broken: true,
                 lines,
@@ -177,15 +153,13 @@ fn walked(file: &[u8], number: usize) -> Looked
                 repeats,
                 first,
             };
-        }
-        let spans = row.spans;
-        let behind = at + row.size;
+        };
         lines += 1;
         miscounted = first_found(miscounted, lines, (lines < 3) | (row.count == number));
         unconverted = first_found(unconverted, lines, row.good);
         first += before_rows(lines, row.size);
         let asked = (3 <= lines) & (unconverted == 0) & (repeats.differs == 0);
-        let next = with_row_if(
+        repeats = with_row_if(
             asked,
             repeats,
             lines,
@@ -193,12 +167,11 @@ fn walked(file: &[u8], number: usize) -> Looked
             first,
             at,
             &before,
-            &spans,
+            &row.items,
             &mut places,
         );
-        repeats = next;
-        before = spans;
-        at = behind;
+        before = row.items;
+        at += row.size;
     }
     Looked {
         broken: false,
@@ -216,12 +189,12 @@ fn look(file: &[u8]) -> Looked
     ensures rows { RepeatsAre file.now result.broken result.lines result.unconverted result.first result.repeats.differs result.repeats.returns result.repeats.count result.repeats.unkept result.repeats.line }
 {
     let columns = columns_of(file);
-    let w = walked(file, columns.number);
+    let w = walked(file, columns.unwrap_or(0));
     let repeats = w.repeats;
     Looked {
         broken: w.broken,
         lines: w.lines,
-        miscounted: count_spot(w.lines, columns.counts, w.miscounted),
+        miscounted: count_spot(w.lines, columns, w.miscounted),
         unconverted: w.unconverted,
         repeats,
         first: w.first,
@@ -235,21 +208,14 @@ pub struct Blame {
     pub line: usize,
 }
 
-// What is told of a file: its sheets, or its fault.
-#[derive(Clone, Copy)]
-pub enum FileVerdict {
-    Right(CsvSheets),
-    Wrong(Blame),
-}
-
-fn wrong(fault: FileFault, line: usize) -> FileVerdict
-    ensures { result ≡ FileVerdict.Wrong (record { fault = fault; line = line }) }
+fn wrong(fault: FileFault, line: usize) -> Result<CsvSheets, Blame>
+    ensures { result ≡ Err (record { fault = fault; line = line }) }
 {
-    FileVerdict::Wrong(Blame { fault, line })
+    Err(Blame { fault, line })
 }
 
 // 50 to 54, "in that order, each over the whole file".
-pub fn verdict_on(file: &[u8]) -> FileVerdict
+pub fn verdict_on(file: &[u8]) -> Result<CsvSheets, Blame>
     ensures result_value { told_verdict result ≡ csv_count file.now }
     ensures line { line_of result ≡ csv_spot file.now }
 {
@@ -271,7 +237,7 @@ pub fn verdict_on(file: &[u8]) -> FileVerdict
     if repeats.returns != 0 {
         return wrong(FileFault::Returns, repeats.returns);
     }
-    FileVerdict::Right(CsvSheets {
+    Ok(CsvSheets {
         count: walked.count,
         first: found.first,
     })

@@ -9,14 +9,16 @@ use borrow.Author.Tests.{ltb-true, ltb-false, eqb-true, eqb-false, eq-eqb, ne_eq
 use lib.Dec.{eqb, ltb}
 use lib.ListN.{length, get_or, drop, set, replicate, length-set}
 use lib.Seq.{get_or-set_same, get_or-set_other}
-use Rattle.rules.specs.Lists.{same, any}
+use Rattle.std.specs.Prelude.{Option, None, Some, MatchOption, IsSome}
+use Rattle.rules.specs.Lists.{nth, same, any}
 use Rattle.rules.proofs.Logic.{cases, never}
 use Rattle.rules.proofs.Lists.{here, over, any-nil, same-eq}
-use Rattle.csv_rules.specs.Quote.{Items}
+use Rattle.csv_rules.specs.Quote.{Items, broken, cut}
 use Rattle.csv_rules.specs.Written.{halved}
 use Rattle.csv_rules.specs.Columns.{number_of}
-use Rattle.csv_rows.specs.Rows.{item_at, items_from, item_bytes, row_at, RowIs}
-use Rattle.csv_rows.proofs.Laws.{row-lines, row-broken, rows_end}
+use Rattle.csv_rows.specs.declared.RowItems.{RowItems}
+use Rattle.csv_rows.specs.Rows.{raw_items, items_of, RowIs}
+use Rattle.csv_rows.proofs.Laws.{item-half, row-lines, row-broken, rows_end}
 use Rattle.csv_rows.proofs.Tied.{tied-number}
 use Rattle.csv_places.specs.declared.Slot.{Slot}
 use Rattle.csv_places.specs.declared.Slot.TheVariants.{Held, Free, Crowded}
@@ -153,16 +155,18 @@ row_inside f p T =
     (λ e. absurd (omega (arith, ap length (sym (rows_end f p (ltb-false p (length f) e)).0 ∙ T.is))))
 
 -- the row that is read there
-module _ (f : List ℕ) (p : ℕ) (q : List ℕ) (size n : ℕ) (good bad : Bool) (T : RowThere f p) (R : RowIs f p true q size n good bad) where
-  row-good : bad ≡ false
-  row-good = cases bad (λ z. absurd (omega (arith, ap length (sym (row-broken f p true q size n good bad R z).0 ∙ T.is)))) (λ z. z)
+module _ (f : List ℕ) (p : ℕ) (T : RowThere f p) where
+  pub row-some : {A : Type 0} (o : Option A) (Q : A → Type 0) → MatchOption o (cut (drop p f) ≡ broken) Q → IsSome o
+  row-some None Q z = absurd (omega (arith, ap length (sym (row-broken f p z).0 ∙ T.is)))
+  row-some (Some x) Q z = refl
 
-  row-items : items_at f p ≡ R.items
-  unfolding items_at
-  row-items = rw (row-lines f p true q size n good bad R row-good, items_at)
+  module _ (q : RowItems) (size n : ℕ) (good : Bool) (R : RowIs f p true q size n good) where
+    row-items : items_at f p ≡ R.items
+    unfolding items_at
+    row-items = rw (row-lines f p true q size n good R, items_at)
 
-  pub number_is_lem : (r : Items) (t : Bool) → t ≡ same (number_of r) (number_of (row_at f q)) → t ≡ number_at f r p
-  number_is_lem r t e = e ∙ ap (same (number_of r)) (tied-number f q R.items R.lies ∙ sym (ap number_of row-items))
+    pub number_is_lem : (r : Items) (t : Bool) → t ≡ same (number_of r) (number_of (items_of q)) → t ≡ number_at f r p
+    number_is_lem r t e = e ∙ ap (same (number_of r)) (tied-number q R.items R.lies ∙ sym (ap number_of row-items))
 
 -- ---- the table, empty and with a place more
 nothing-in : (n i : ℕ) → get_or {A = ℕ} (replicate n 0) i 0 ≡ 0
@@ -189,9 +193,9 @@ pub record Looking (f T : List ℕ) (r : Items) (slot left : ℕ) : Type 0 where
   pub first : left ≡ 256 → slot ≡ slot_of (number_of r)
   pub taken : left < 256 → place_in T (slot_of (number_of r)) ≡ 0 → ⊥
 
-pub hash-here : (f spans raw : List ℕ) (h : ℕ) → raw ≡ item_bytes f spans 6 → h ≡ hash_of (halved false raw) → h ≡ hash_of (number_of (row_at f spans))
-unfolding number_of row_at items_from item_at
-hash-here f spans raw h e k = k ∙ ap (λ (x : List ℕ). hash_of (halved false x)) e
+pub hash-here : (r : RowItems) (raw : List ℕ) (h : ℕ) → raw ≡ nth (raw_items r) 6 → h ≡ hash_of (halved false raw) → h ≡ hash_of (number_of (items_of r))
+unfolding number_of
+hash-here r raw h e k = k ∙ ap (λ (x : List ℕ). hash_of (halved false x)) e ∙ ap hash_of (sym (item-half r 6))
 
 pub slot_small : (h : ℕ) → h % 32768 < 32768
 slot_small h = mod-lt h (omega arith)
@@ -212,12 +216,18 @@ module _ (f T : List ℕ) (slot p : ℕ) (is : p ≡ place_in T slot) (P : Place
   pub place-mark : (m : ℕ) → m ≡ mark_in T slot → m ≡ hash_of (number_of (items_at f p))
   place-mark m e = e ∙ P.marks slot (λ z. some (is ∙ z)) ∙ ap (λ (n : ℕ). hash_of (number_of (items_at f n))) (sym is)
 
-module _ (f T : List ℕ) (r : Items) (slot left : ℕ) (L : Looking f T r slot left) where
-  pub look-ends : left ≤ 0 → SlotIs f T r Crowded
+module _ (f T : List ℕ) (r : Items) (slot seen : ℕ) (L : Looking f T r slot (256 - seen)) where
+  abbrev left : ℕ
+  left = 256 - seen
+
+  pub look-ends : 256 ≤ seen → SlotIs f T r Crowded
   unfolding SlotIs kept any
   look-ends h = let e : left ≡ 0 = omega arith in record { unknown = L.same ∙ rw e; taken = L.taken (omega arith) }
 
-  module _ (h : 0 < left) (p : ℕ) (is : p ≡ place_in T slot) where
+  module _ (b : seen < 256) (p : ℕ) (is : p ≡ place_in T slot) where
+    h : 0 < left
+    h = omega arith
+
     pub look-free : Places f T → slot < 32768 → p ≡ 0 → SlotIs f T r (Free slot)
     unfolding SlotIs
     look-free P l o =
@@ -254,8 +264,8 @@ module _ (f T : List ℕ) (r : Items) (slot left : ℕ) (L : Looking f T r slot 
           knows = look_one ∙ any_here (number_at f r) p (kept T (slot_after slot) (left - 1)) (sym e ∙ w);
         }
 
-        pub look-on : t ≡ false → (k : ℕ) → k ≡ slot_after slot → Looking f T r k (left - 1)
-        look-on w k q = record {
+        one_less : t ≡ false → (k : ℕ) → k ≡ slot_after slot → Looking f T r k (left - 1)
+        one_less w k q = record {
           same = look_one ∙ any-past (number_at f r) p (kept T (slot_after slot) (left - 1)) (sym e ∙ w) ∙ rw q;
           then = λ i x m z a.
               L.then i x m z
@@ -266,6 +276,9 @@ module _ (f T : List ℕ) (r : Items) (slot left : ℕ) (L : Looking f T r slot 
           first = λ z. absurd (omega (arith, L.few));
           taken = λ z. cases (eqb left 256) (λ y. rw (← L.first (eqb-true left 256 y)) taken_here) (λ y. L.taken (omega (arith, L.few, eqb-false left 256 y)));
         }
+
+        pub look-on : t ≡ false → (k : ℕ) → k ≡ slot_after slot → Looking f T r k (256 - (seen + 1))
+        look-on w k q = let z : 256 - (seen + 1) ≡ left - 1 = omega arith in rw z (one_less w k q)
 
 -- ---- a place kept
 pub slot-inside : (f places : List ℕ) (r : Items) (s : Slot) → SlotIs f places r s → free_slot s < 32768

@@ -5,9 +5,11 @@
 ghost use Rattle.std.specs.Prelude.{◌≡◌, false, cond, ◌<◌, length};
 ghost use Rattle.csv_rules.specs.Written.{halved};
 ghost use Rattle.csv_rules.specs.Columns.{number_of};
-ghost use Rattle.csv_rows.specs.Rows.{Inside, row_at};
+ghost use Rattle.csv_rows.specs.Rows.{items_of};
 ghost use Rattle.csv_places.specs.Places.{items_at, stirred, hash_of, slot_filled, slot_after, number_at, RowThere, Places, SlotIs, keeps_place, with_place};
 ghost use Rattle.csv_places.specs.Slots.{Nothing, free_slot};
+
+use csv_rows::RowItems;
 
 // What is kept of a number.
 #[derive(Clone, Copy)]
@@ -35,14 +37,7 @@ fn with_byte(h: usize, b: u8, second: bool) -> usize
     if second {
         return h;
     }
-    ((h + wide(b)) * 2654435769) % 4294967296
-}
-
-fn wide(b: u8) -> usize
-    ensures value { result ≡ b }
-    ensures byte { result < 256 }
-{
-    b as usize
+    ((h + usize::from(b)) * 2654435769) % 4294967296
 }
 
 // The hash of an item, from how it lies in the file.
@@ -52,23 +47,19 @@ fn hash(raw: &[u8]) -> usize
 {
     let mut h = 0;
     let mut second = false;
-    let mut i = 0;
-    while i < raw.len() {
-        let b = raw[i];
+    for &b in raw {
         h = with_byte(h, b, second);
         second = !second & (b == 0x22);
-        i += 1;
     }
     h
 }
 
 // The hash of a row's number.
-pub fn hash_of(file: &[u8], spans: &[usize; 90]) -> usize
-    requires { Inside file.now spans.now }
-    ensures value { result ≡ hash_of (number_of (row_at file.now spans.now)) }
+pub fn hash_of(row: &RowItems) -> usize
+    ensures value { result ≡ hash_of (number_of (items_of row.now)) }
     ensures small { result < 4294967296 }
 {
-    hash(csv_rows::item(file, spans, 6))
+    hash(row.item(6))
 }
 
 // The slot behind one, the first behind the last.
@@ -83,52 +74,42 @@ fn slot_after(slot: usize) -> usize
     slot + 1
 }
 
-// An entry of the table.
-fn widened(entry: u32) -> usize
-    ensures { result ≡ entry }
-{
-    entry as usize
-}
-
 // Whether the row that begins at a place has the number of a row.
-fn number_there(file: &[u8], p: usize, spans: &[usize; 90]) -> bool
-    requires { RowThere file.now p × Inside file.now spans.now }
-    ensures { result ≡ number_at file.now (row_at file.now spans.now) p }
+fn number_there(file: &[u8], p: usize, row: &RowItems) -> bool
+    requires { RowThere file.now p }
+    ensures { result ≡ number_at file.now (items_of row.now) p }
 {
-    let t = csv_rows::row(file, p, true);
-    let q = t.spans;
-    csv_keys::same_number(file, spans, &q)
+    let there = csv_rows::row(file, p, true).unwrap();
+    csv_keys::same_number(row, &there.items)
 }
 
 // The same, where the hashes of both numbers are known: the row is read only where they are alike.
-fn number_marked(file: &[u8], p: usize, mark: usize, spans: &[usize; 90], hash: usize) -> bool
-    requires { RowThere file.now p × Inside file.now spans.now × (mark ≡ hash_of (number_of (items_at file.now p))) × (hash ≡ hash_of (number_of (row_at file.now spans.now))) }
-    ensures { result ≡ number_at file.now (row_at file.now spans.now) p }
+fn number_marked(file: &[u8], p: usize, mark: usize, row: &RowItems, hash: usize) -> bool
+    requires { RowThere file.now p × (mark ≡ hash_of (number_of (items_at file.now p))) × (hash ≡ hash_of (number_of (items_of row.now))) }
+    ensures { result ≡ number_at file.now (items_of row.now) p }
 {
     if mark == hash {
-        return number_there(file, p, spans);
+        return number_there(file, p, row);
     }
     false
 }
 
 // What is kept of the number of a row, whose hash is given: looked for from the slot of its hash on.
-pub fn look_up(file: &[u8], places: &[u32; 65536], spans: &[usize; 90], hash: usize) -> Slot
-    requires { Places file.now places.now × Inside file.now spans.now × (hash ≡ hash_of (number_of (row_at file.now spans.now))) }
-    ensures { SlotIs file.now places.now (row_at file.now spans.now) result }
+pub fn look_up(file: &[u8], places: &[u32; 65536], row: &RowItems, hash: usize) -> Slot
+    requires { Places file.now places.now × (hash ≡ hash_of (number_of (items_of row.now))) }
+    ensures { SlotIs file.now places.now (items_of row.now) result }
 {
     let mut slot = hash % 32768;
-    let mut left = 256usize;
-    while 0 < left {
-        let p = widened(places[2 * slot]);
+    for _ in 0..256usize {
+        let p = places[2 * slot] as usize;
         if p == 0 {
             return Slot::Free(slot);
         }
-        let mark = widened(places[2 * slot + 1]);
-        if number_marked(file, p, mark, spans, hash) {
+        let mark = places[2 * slot + 1] as usize;
+        if number_marked(file, p, mark, row, hash) {
             return Slot::Held(p);
         }
         slot = slot_after(slot);
-        left -= 1;
     }
     Slot::Crowded
 }

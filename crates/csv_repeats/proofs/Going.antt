@@ -11,12 +11,13 @@ use lib.ListN.{length, length-append}
 use Rattle.rules.specs.Lists.{any, all}
 use Rattle.rules.proofs.Logic.{cases, never, and-false, or-false, not-true}
 use Rattle.rules.proofs.Lists.{all_cons, all_first}
-use Rattle.csv_rules.specs.Quote.{FileLine}
+use Rattle.csv_rules.specs.Quote.{Items, FileLine}
 use Rattle.csv_rules.specs.Sheets.{clash, differ, row_converts, runs, bytes_in}
 use Rattle.csv_rules.specs.Spot.{first_after, clashes, comes_back}
 use Rattle.csv_rules.proofs.Behind.{among, new-agrees}
 use Rattle.csv_rules.proofs.Order.{all-parts}
-use Rattle.csv_rows.specs.Rows.{lines_from, RowIs}
+use Rattle.csv_rows.specs.declared.RowItems.{RowItems}
+use Rattle.csv_rows.specs.Rows.{lines_from, items_of, RowIs}
 use Rattle.csv_rows.proofs.Laws.{row-lines}
 use Rattle.csv_places.specs.Places.{Places}
 use Rattle.csv_places.specs.Slots.{Nothing}
@@ -31,7 +32,7 @@ use Rattle.csv_repeats.proofs.Kept.{Kept, Near, kept-starts, kept-places, stands
 use Rattle.csv_repeats.proofs.Firsts.{least-none, least-early, first-late, Alone, alone-ends, alone-met}
 
 -- ---- as long as every number is kept
-pub record Keeping (f : List ℕ) (first k : ℕ) (places before : List ℕ) (at line returns count : ℕ) : Type 0 where
+pub record Keeping (f : List ℕ) (first k : ℕ) (places : List ℕ) (before : Items) (at line returns count : ℕ) : Type 0 where
   pub seen : List FileLine
   pub lines : lines_from f first ≡ back seen (lines_from f at)
   pub place : at ≡ first + bytes_in seen
@@ -44,10 +45,10 @@ pub record Keeping (f : List ℕ) (first k : ℕ) (places before : List ℕ) (at
   pub back-before : returns < line
   pub runs-are : length (runs (lines_from f first)) ≡ count + begun_after seen (lines_from f at)
   pub kept-are : Kept f seen places
-  pub near : Near f before seen
+  pub near : Near before seen
 
 -- ---- once a number isn't: the rows that are kept, and the late ones, from unkept on, which is the start-th line
-pub record Leaving (f : List ℕ) (first k : ℕ) (places before : List ℕ) (at unkept start line returns count : ℕ) : Type 0 where
+pub record Leaving (f : List ℕ) (first k : ℕ) (places : List ℕ) (before : Items) (at unkept start line returns count : ℕ) : Type 0 where
   pub kept : List FileLine
   pub late : List FileLine
   pub lines : lines_from f first ≡ back kept (lines_from f unkept)
@@ -69,14 +70,14 @@ pub record Leaving (f : List ℕ) (first k : ℕ) (places before : List ℕ) (at
   pub back-met : (returns ≡ 0 → ⊥) → first_after comes_back k [] (lines_from f first) ≡ first_line returns (first_after comes_back start [] (lines_from f unkept))
   pub runs-are : length (runs (lines_from f first)) ≡ count + begun_after (late ++ kept) (lines_from f at)
   pub kept-are : Kept f kept places
-  pub near : Near f before (late ++ kept)
+  pub near : Near before (late ++ kept)
 
-pub record Going (f : List ℕ) (first k : ℕ) (places before : List ℕ) (at unkept start line returns count : ℕ) : Type 0 where
+pub record Going (f : List ℕ) (first k : ℕ) (places : List ℕ) (before : Items) (at unkept start line returns count : ℕ) : Type 0 where
   pub keeping : unkept ≡ 0 → Keeping f first k places before at line returns count
   pub leaving : (unkept ≡ 0 → ⊥) → Leaving f first k places before at unkept start line returns count
   pub counted : 0 < k
 
-pub going-starts : (f : List ℕ) (first k : ℕ) (places before : List ℕ) (start : ℕ) → 0 < k → length places ≡ 65536 → Nothing places
+pub going-starts : (f : List ℕ) (first k : ℕ) (places : List ℕ) (before : Items) (start : ℕ) → 0 < k → length places ≡ 65536 → Nothing places
     → Going f first k places before first 0 start k 0 0
 unfolding back bytes_in all differ Near
 going-starts f first k places before start h m n = record {
@@ -133,7 +134,7 @@ some-sizes [] h k = absurd (h refl)
 some-sizes (l ∷ s) h k = omega (arith, ltb-true 0 l.size (all_first sized l s k).0)
 
 -- a row is left at least
-module _ (f : List ℕ) (first k : ℕ) (places before : List ℕ) (at unkept start line returns count : ℕ) (z : unkept ≡ 0 → ⊥)
+module _ (f : List ℕ) (first k : ℕ) (places : List ℕ) (before : Items) (at unkept start line returns count : ℕ) (z : unkept ≡ 0 → ⊥)
     (G : Leaving f first k places before at unkept start line returns count) where
   some_left : (differs told : ℕ) → first_after clashes k [] (lines_from f first) ≡ first_line differs (first_after clashes start [] (lines_from f unkept))
       → (differs ≡ 0 → first_after comes_back k [] (lines_from f first) ≡ first_line told (first_after comes_back start [] (lines_from f unkept)))
@@ -152,7 +153,7 @@ module _ (f : List ℕ) (first k : ℕ) (places before : List ℕ) (at unkept st
       }
 
 -- ---- the table, and the rows to come
-module _ (f : List ℕ) (first k : ℕ) (places before : List ℕ) (at unkept start line returns count : ℕ) (G : Going f first k places before at unkept start line returns count) where
+module _ (f : List ℕ) (first k : ℕ) (places : List ℕ) (before : Items) (at unkept start line returns count : ℕ) (G : Going f first k places before at unkept start line returns count) where
   pub going-places : Places f places
   going-places =
       cases (eqb unkept 0)
@@ -171,7 +172,7 @@ module _ (f : List ℕ) (first k : ℕ) (places before : List ℕ) (at unkept st
       behind seen ls rest e h = (all-parts row_converts (back seen []) rest (rw (e, back-append seen rest) at h)).1
 
 -- ---- the end
-module _ (f : List ℕ) (first k : ℕ) (places before : List ℕ) (at unkept start line returns count : ℕ) (G : Going f first k places before at unkept start line returns count)
+module _ (f : List ℕ) (first k : ℕ) (places : List ℕ) (before : Items) (at unkept start line returns count : ℕ) (G : Going f first k places before at unkept start line returns count)
     (e : lines_from f at ≡ []) where
   keeping-ends : Keeping f first k places before at line returns count → Partly f first k 0 returns 0 start
   unfolding first_after
@@ -216,30 +217,30 @@ few-begun Back = omega arith
 few-begun Differs = omega arith
 
 -- ---- a row more, which converts
-module _ (f : List ℕ) (first k : ℕ) (places before : List ℕ) (at line returns count : ℕ) (known : Bool)
-    (spans : List ℕ) (size n : ℕ) (good bad : Bool) (T : RowIs f at known spans size n good bad) (b : bad ≡ false) where
+module _ (f : List ℕ) (first k : ℕ) (places : List ℕ) (before : Items) (at line returns count : ℕ) (known : Bool)
+    (read : RowItems) (size n : ℕ) (good : Bool) (T : RowIs f at known read size n good) where
   abbrev row : FileLine
   row = record { items = T.items; size = size }
 
   rows : lines_from f at ≡ row ∷ lines_from f (at + size)
-  rows = row-lines f at known spans size n good bad T b
+  rows = row-lines f at known read size n good T
 
   row-some : 0 < size
-  row-some = let m : 0 < size + 0 = rw b at T.moves in omega arith
+  row-some = T.moves
 
   -- as long as every number is kept
   module _ (K : Keeping f first k places before at line returns count) (c : row_converts row ≡ true) (z : at ≡ 0 → ⊥)
-      (s : Standing) (o : ℕ) (after : List ℕ) (R : Stands f first at before spans places 0 s o after) where
+      (s : Standing) (o : ℕ) (after : List ℕ) (R : Stands f first at before (items_of read) places 0 s o after) where
     keep-says : Says K.seen [] row s
     unfolding all
     keep-says =
-        stands-says f first at before spans places 0 K.seen [] K.kept-are row K.place K.near K.sizes-are (row-alike f spans T.items T.lies) s o after R
+        stands-says f first at before (items_of read) places 0 K.seen [] K.kept-are row K.place K.near K.sizes-are (row-alike read T.items T.lies) s o after R
         c K.converts K.agree refl
 
     keep-cases : {P : Type 0} → (o ≡ 0 → Kept f (row ∷ K.seen) after → P)
         → (o ≡ at → after ≡ places → among K.seen row ≡ false → (at < 4294967296 → K.seen ≡ [] → ⊥) → P) → P
     keep-cases =
-        stands-kept f first at before spans places K.seen K.kept-are row K.place K.near K.sizes-are (row-alike f spans T.items T.lies) s o after R rows z
+        stands-kept f first at before (items_of read) places K.seen K.kept-are row K.place K.near K.sizes-are (row-alike read T.items T.lies) s o after R rows z
 
     -- 53
     keep-differs : (told start : ℕ) → 0 < line → is_differs s ≡ true → Partly f first k line told o start
@@ -261,7 +262,7 @@ module _ (f : List ℕ) (first k : ℕ) (places before : List ℕ) (at line retu
 
       -- it is kept, too
       keep-on : (p : ℕ) → p ≡ cond (eqb returns 0 && is_back s) line returns → Kept f (row ∷ K.seen) after
-          → Keeping f first k after spans (at + size) (line + 1) p (count + begun s)
+          → Keeping f first k after (items_of read) (at + size) (line + 1) p (count + begun s)
       unfolding back bytes_in all differ Near first_after begun_after comes_back
       keep-on p q w = record {
         seen = row ∷ K.seen;
@@ -279,7 +280,7 @@ module _ (f : List ℕ) (first k : ℕ) (places before : List ℕ) (at line retu
             ap (begun_after K.seen) rows in
             omega (arith, K.runs-are, y, begins);
         kept-are = w;
-        near = T.lies;
+        near = row-alike read T.items T.lies;
       }
         where
           told : is_back s ≡ comes_back K.seen row
@@ -301,7 +302,7 @@ module _ (f : List ℕ) (first k : ℕ) (places before : List ℕ) (at line retu
 
       -- it is the first that isn't
       keep-leaves : (p : ℕ) → p ≡ cond (eqb returns 0 && is_back s) line returns → after ≡ places → among K.seen row ≡ false → (at < 4294967296 → K.seen ≡ [] → ⊥)
-          → Leaving f first k after spans (at + size) at line (line + 1) p (count + begun s)
+          → Leaving f first k after (items_of read) (at + size) at line (line + 1) p (count + begun s)
       unfolding back bytes_in all Near begun_after Alone
       keep-leaves p q t m y = record {
         kept = K.seen;
@@ -333,7 +334,7 @@ module _ (f : List ℕ) (first k : ℕ) (places before : List ℕ) (at line retu
             ap (begun_after K.seen) rows in
             omega (arith, K.runs-are, y, begins);
         kept-are = rw t K.kept-are;
-        near = T.lies;
+        near = row-alike read T.items T.lies;
       }
         where
           quiet : is_back s ≡ false
@@ -344,15 +345,15 @@ module _ (f : List ℕ) (first k : ℕ) (places before : List ℕ) (at line retu
 
   -- once a number isn't
   module _ (unkept start : ℕ) (L : Leaving f first k places before at unkept start line returns count) (counted : 0 < k) (y : unkept ≡ 0 → ⊥) (c : row_converts row ≡ true)
-      (s : Standing) (o : ℕ) (after : List ℕ) (R : Stands f first at before spans places unkept s o after) where
+      (s : Standing) (o : ℕ) (after : List ℕ) (R : Stands f first at before (items_of read) places unkept s o after) where
     leave-says : Says L.kept L.late row s
     leave-says =
-        stands-says f first at before spans places unkept L.kept L.late L.kept-are row L.place L.near L.sizes-are (row-alike f spans T.items T.lies) s o after R
+        stands-says f first at before (items_of read) places unkept L.kept L.late L.kept-are row L.place L.near L.sizes-are (row-alike read T.items T.lies) s o after R
         c L.converts L.agree L.apart
 
     leave-stays : (o ≡ unkept) × (after ≡ places)
     leave-stays =
-        stands-left f first at before spans places unkept L.kept L.late L.kept-are row L.place L.near L.sizes-are (row-alike f spans T.items T.lies) s o after R y
+        stands-left f first at before (items_of read) places unkept L.kept L.late L.kept-are row L.place L.near L.sizes-are (row-alike read T.items T.lies) s o after R y
 
     start-some : 0 < start
     start-some = omega (arith, L.start_is)
@@ -378,7 +379,7 @@ module _ (f : List ℕ) (first k : ℕ) (places before : List ℕ) (at line retu
 
     module _ (h : is_differs s ≡ false) where
       leave-on : (p : ℕ) → p ≡ cond (eqb returns 0 && is_back s) line returns
-          → Leaving f first k after spans (at + size) unkept start (line + 1) p (count + begun s)
+          → Leaving f first k after (items_of read) (at + size) unkept start (line + 1) p (count + begun s)
       unfolding back bytes_in Near begun_after Alone
       leave-on p q = record {
         kept = L.kept;
@@ -414,7 +415,7 @@ module _ (f : List ℕ) (first k : ℕ) (places before : List ℕ) (at line retu
             ap (begun_after (L.late ++ L.kept)) rows in
             omega (arith, L.runs-are, v, leave-says.begins h);
         kept-are = rw leave-stays.1 L.kept-are;
-        near = T.lies;
+        near = row-alike read T.items T.lies;
       }
         where
           none_yet : p ≡ 0 → (returns ≡ 0) × (is_back s ≡ false)
@@ -424,12 +425,12 @@ module _ (f : List ℕ) (first k : ℕ) (places before : List ℕ) (at line retu
               (λ u. absurd (eqb-false returns 0 u (let l : p ≡ returns = q ∙ rw u in sym l ∙ e)))
 
   -- a row begins one run at most
-  pub with-few : (unkept start : ℕ) (o m d p r : ℕ) (after : List ℕ) → WithRow f first at before spans places unkept start line returns count o m d p r after → r ≤ count + 1
+  pub with-few : (unkept start : ℕ) (o m d p r : ℕ) (after : List ℕ) → WithRow f first at before (items_of read) places unkept start line returns count o m d p r after → r ≤ count + 1
   with-few unkept start o m d p r after W = omega (arith, W.runs, few-begun W.standing)
 
   -- ---- either
   module _ (unkept start : ℕ) (G : Going f first k places before at unkept start line returns count) (c : row_converts row ≡ true) (z : at ≡ 0 → ⊥)
-      (o m d p r : ℕ) (after : List ℕ) (W : WithRow f first at before spans places unkept start line returns count o m d p r after) where
+      (o m d p r : ℕ) (after : List ℕ) (W : WithRow f first at before (items_of read) places unkept start line returns count o m d p r after) where
     line-some : 0 < line
     line-some =
         cases (eqb unkept 0)
@@ -455,10 +456,10 @@ module _ (f : List ℕ) (first k : ℕ) (places before : List ℕ) (at line retu
       alike : is_differs W.standing ≡ false
       alike = cases (is_differs W.standing) (λ q. absurd (let e : d ≡ line = W.differs ∙ rw q in omega (arith, line-some))) (λ q. q)
 
-      from-keeping : unkept ≡ 0 → Going f first k after spans (at + size) o m (line + 1) p (count + begun W.standing)
+      from-keeping : unkept ≡ 0 → Going f first k after (items_of read) (at + size) o m (line + 1) p (count + begun W.standing)
       from-keeping u =
           let K = G.keeping u in
-          let R : Stands f first at before spans places 0 W.standing o after = rw u at W.stands in
+          let R : Stands f first at before (items_of read) places 0 W.standing o after = rw u at W.stands in
           keep-cases K c z W.standing o after R
           (λ q w. record {
             keeping = λ v. keep-on K c z W.standing o after R alike p W.back w;
@@ -473,7 +474,7 @@ module _ (f : List ℕ) (first k : ℕ) (places before : List ℕ) (at line retu
             counted = G.counted;
           })
 
-      from-leaving : (unkept ≡ 0 → ⊥) → Going f first k after spans (at + size) o m (line + 1) p (count + begun W.standing)
+      from-leaving : (unkept ≡ 0 → ⊥) → Going f first k after (items_of read) (at + size) o m (line + 1) p (count + begun W.standing)
       from-leaving u =
           let L = G.leaving u in
           let v = leave-stays unkept start L G.counted u c W.standing o after W.stands in
@@ -484,7 +485,7 @@ module _ (f : List ℕ) (first k : ℕ) (places before : List ℕ) (at line retu
             counted = G.counted;
           }
 
-      pub going_on : Going f first k after spans (at + size) o m (line + 1) p r
+      pub going_on : Going f first k after (items_of read) (at + size) o m (line + 1) p r
       going_on =
           rw W.runs
           (cases (eqb unkept 0)

@@ -15,7 +15,7 @@ use Rattle.csv_rules.specs.Columns.{number_of}
 use Rattle.csv_rules.specs.Sheets.{same_number, clash, differ, row_converts, bytes_in}
 use Rattle.csv_rules.proofs.Behind.{among, clash-self}
 use Rattle.csv_rules.proofs.Order.{all-parts}
-use Rattle.csv_rows.specs.Rows.{lines_from, row_at, Spans}
+use Rattle.csv_rows.specs.Rows.{lines_from}
 use Rattle.csv_places.specs.declared.Slot.{Slot}
 use Rattle.csv_places.specs.declared.Slot.TheVariants.{Held, Free, Crowded}
 use Rattle.csv_places.specs.Places.{items_at, number_at, hash_of, place_in, mark_in, slot_filled, slot_of, known_number, RowThere, Places, HeldAt, FreeAt, CrowdedAt, SlotIs, keeps_place, with_place}
@@ -26,7 +26,6 @@ use Rattle.csv_repeats.specs.declared.Standing.{Standing}
 use Rattle.csv_repeats.specs.declared.Standing.TheVariants.{Same, New, Back, Differs}
 use Rattle.csv_repeats.proofs.Seen.{sized, In, in-here, in-there, in-cases, not_in, same_run}
 use Rattle.csv_repeats.proofs.Standings.{Alike, Says, away, says-new, says_back, says_same, none-among}
-use Rattle.csv_repeats.proofs.Laws.{row-alike}
 
 -- ---- what is kept of a number, by cases
 slot_cases : {P : Type 0} (x : Slot) → ((p : ℕ) → x ≡ Held p → P) → ((i : ℕ) → x ≡ Free i → P) → (x ≡ Crowded → P) → P
@@ -172,22 +171,22 @@ module _ (f : List ℕ) (kept : List FileLine) (places : List ℕ) (K : Kept f k
           left_out b a (unknown-new row r e C.unknown) (λ k m. none-taken m (slot_of (number_of r)) C.taken))
 
 -- ---- how a row stands to those before it
--- the row before lies where the code remembers it
-unfoldable pub Near : List ℕ → List ℕ → List FileLine → Type 0
-Near f before [] = Unit {0}
-Near f before (q ∷ seen) = Spans f before q.items
+-- the code remembers the row before
+unfoldable pub Near : Items → List FileLine → Type 0
+Near before [] = Unit {0}
+Near before (q ∷ seen) = Alike before q.items
 
-run_is : (f : List ℕ) (first at : ℕ) (before : List ℕ) (seen : List FileLine) (l : FileLine) (r : Items) → at ≡ first + bytes_in seen → Near f before seen → all sized seen ≡ true
-    → Alike r l.items → (ltb first at && same_number (row_at f before) r) ≡ same_run seen l
+run_is : (first at : ℕ) (before : Items) (seen : List FileLine) (l : FileLine) (r : Items) → at ≡ first + bytes_in seen → Near before seen → all sized seen ≡ true
+    → Alike r l.items → (ltb first at && same_number before r) ≡ same_run seen l
 unfolding Near bytes_in same_run
-run_is f first at before [] l r e n z a = rw (le-ltb first at (omega arith))
-run_is f first at before (q ∷ seen) l r e n z a =
+run_is first at before [] l r e n z a = rw (le-ltb first at (omega arith))
+run_is first at before (q ∷ seen) l r e n z a =
     let w = ltb-true 0 q.size (all_first sized q seen z).0 in
-    rw (lt-ltb first at (omega arith), (row-alike f before q.items n).number, a.number)
+    rw (lt-ltb first at (omega arith), n.number, a.number)
 
-module _ (f spans places : List ℕ) (kept late : List FileLine) (K : Kept f kept places) (row : FileLine) (a : Alike (row_at f spans) row.items)
+module _ (f : List ℕ) (r : Items) (places : List ℕ) (kept late : List FileLine) (K : Kept f kept places) (row : FileLine) (a : Alike r row.items)
     (lc : row_converts row ≡ true) (sc : all row_converts kept ≡ true) (d : differ kept ≡ false) (g : same_run (late ++ kept) row ≡ false) where
-  held-says : (p : ℕ) → HeldAt f places (row_at f spans) p → Says kept late row (cond (same_header (row_at f spans) (items_at f p)) Back Differs)
+  held-says : (p : ℕ) → HeldAt f places r p → Says kept late row (cond (same_header r (items_at f p)) Back Differs)
   held-says p H =
       let S : KeptAt f kept p = rw H.is at (K.rows H.slot (λ z. H.some (sym H.is ∙ z))) in
       let w = S.there.row in
@@ -195,16 +194,16 @@ module _ (f spans places : List ℕ) (kept late : List FileLine) (K : Kept f kep
       let n : same_number row.items w.items ≡ true = rw (i, a.number) at H.number in
       rw (i, a.pid, a.pv1) (says_back kept row lc sc d late w S.one n g)
 
-  new-says : known_number f places (row_at f spans) ≡ false → Says kept late row New
-  new-says u = says-new kept late row (unknown-new f kept places K row (row_at f spans) a.number u) g
+  new-says : known_number f places r ≡ false → Says kept late row New
+  new-says u = says-new kept late row (unknown-new f kept places K row r a.number u) g
 
-  looked-says : (at unkept : ℕ) (s : Standing) (o : ℕ) (after : List ℕ) → Looked f at (row_at f spans) places unkept s o after → Says kept late row s
+  looked-says : (at unkept : ℕ) (s : Standing) (o : ℕ) (after : List ℕ) → Looked f at r places unkept s o after → Says kept late row s
   unfolding looked_for SlotIs
   looked-says at unkept s o after L =
       slot_cases L.slot
-      (λ p h. let H : HeldAt f places (row_at f spans) p = rw h at L.slot_is in rw (L.is, h) (held-says p H))
-      (λ i h. let F : FreeAt f places (row_at f spans) i = rw h at L.slot_is in rw (L.is, h) (new-says F.unknown))
-      (λ h. let C : CrowdedAt f places (row_at f spans) = rw h at L.slot_is in rw (L.is, h) (new-says C.unknown))
+      (λ p h. let H : HeldAt f places r p = rw h at L.slot_is in rw (L.is, h) (held-says p H))
+      (λ i h. let F : FreeAt f places r i = rw h at L.slot_is in rw (L.is, h) (new-says F.unknown))
+      (λ h. let C : CrowdedAt f places r = rw h at L.slot_is in rw (L.is, h) (new-says C.unknown))
 
 -- the row before differs from none that is kept
 near-away : (kept late : List FileLine) (q : FileLine) (seen : List FileLine) → late ++ kept ≡ q ∷ seen → differ kept ≡ false → all (away kept) late ≡ true
@@ -218,30 +217,29 @@ near-away kept (x ∷ late) q seen e d h =
     let k : away kept q ≡ true = rw o at (all_first (away kept) x late h).0 in
     not-true (any (clash q.items) kept) k
 
-module _ (f : List ℕ) (first at : ℕ) (before spans places : List ℕ) (unkept : ℕ) (kept late : List FileLine) (K : Kept f kept places) (row : FileLine)
-    (place : at ≡ first + bytes_in (late ++ kept)) (near : Near f before (late ++ kept)) (some : all sized (late ++ kept) ≡ true) (a : Alike (row_at f spans) row.items)
-    (s : Standing) (o : ℕ) (after : List ℕ) (S : Stands f first at before spans places unkept s o after) where
-  run : (ltb first at && same_number (row_at f before) (row_at f spans)) ≡ same_run (late ++ kept) row
-  run = run_is f first at before (late ++ kept) row (row_at f spans) place near some a
+module _ (f : List ℕ) (first at : ℕ) (before r : Items) (places : List ℕ) (unkept : ℕ) (kept late : List FileLine) (K : Kept f kept places) (row : FileLine)
+    (place : at ≡ first + bytes_in (late ++ kept)) (near : Near before (late ++ kept)) (some : all sized (late ++ kept) ≡ true) (a : Alike r row.items)
+    (s : Standing) (o : ℕ) (after : List ℕ) (S : Stands f first at before r places unkept s o after) where
+  run : (ltb first at && same_number before r) ≡ same_run (late ++ kept) row
+  run = run_is first at before (late ++ kept) row r place near some a
 
   module _ (lc : row_converts row ≡ true) (sc : all row_converts (late ++ kept) ≡ true) (d : differ kept ≡ false) (w : all (away kept) late ≡ true) where
-    same-says : same_run (late ++ kept) row ≡ true → Says kept late row (cond (same_header (row_at f spans) (row_at f before)) Same Differs)
+    same-says : same_run (late ++ kept) row ≡ true → Says kept late row (cond (same_header r before) Same Differs)
     unfolding same_run Near
     same-says g =
         list_cases (late ++ kept)
         (λ e. never (sym g ∙ ap (λ (x : List FileLine). same_run x row) e))
         (λ q seen e.
         let n : same_number q.items row.items ≡ true = rw e at g in
-        let y : Spans f before q.items = rw e at near in
+        let b : Alike before q.items = rw e at near in
         let c : all row_converts (q ∷ seen) ≡ true = rw e at sc in
-        let b = row-alike f before q.items y in
         rw (a.pid, a.pv1, b.pid, b.pv1) (says_same kept late q row seen e lc (all_first row_converts q seen c).0 (near-away kept late q seen e d w) n))
 
     pub stands-says : Says kept late row s
     stands-says =
         cases (same_run (late ++ kept) row)
         (λ g. rw (S.same (run ∙ g)).0 (same-says g))
-        (λ g. looked-says f spans places kept late K row a lc (all-parts row_converts late kept sc).1 d g at unkept s o after (S.other (run ∙ g)))
+        (λ g. looked-says f r places kept late K row a lc (all-parts row_converts late kept sc).1 d g at unkept s o after (S.other (run ∙ g)))
 
   -- from the first row on that isn't kept, the table stays
   pub stands-left : (unkept ≡ 0 → ⊥) → (o ≡ unkept) × (after ≡ places)
@@ -259,14 +257,14 @@ same_kept f places [] K row g = never (sym g)
 same_kept f places (q ∷ kept) K row g = kept_same f (q ∷ kept) places K row q (in-here q kept) g
 
 -- a row is kept with the others, or is the first that isn't
-pub stands-kept : {P : Type 0} (f : List ℕ) (first at : ℕ) (before spans places : List ℕ) (kept : List FileLine) → Kept f kept places → (row : FileLine)
-    → at ≡ first + bytes_in kept → Near f before kept → all sized kept ≡ true → Alike (row_at f spans) row.items
-    → (s : Standing) (o : ℕ) (after : List ℕ) → Stands f first at before spans places 0 s o after
+pub stands-kept : {P : Type 0} (f : List ℕ) (first at : ℕ) (before r : Items) (places : List ℕ) (kept : List FileLine) → Kept f kept places → (row : FileLine)
+    → at ≡ first + bytes_in kept → Near before kept → all sized kept ≡ true → Alike r row.items
+    → (s : Standing) (o : ℕ) (after : List ℕ) → Stands f first at before r places 0 s o after
     → lines_from f at ≡ row ∷ lines_from f (at + row.size) → (at ≡ 0 → ⊥)
     → (o ≡ 0 → Kept f (row ∷ kept) after → P)
     → (o ≡ at → after ≡ places → among kept row ≡ false → (at < 4294967296 → kept ≡ [] → ⊥) → P) → P
-stands-kept f first at before spans places kept K row place near some a s o after S rows z with_it left_out =
-    let r = run f first at before spans places 0 kept [] K row place near some a s o after S in
+stands-kept f first at before r places kept K row place near some a s o after S rows z with_it left_out =
+    let q = run f first at before r places 0 kept [] K row place near some a s o after S in
     cases (same_run kept row)
-    (λ g. let q = S.same (r ∙ g) in with_it q.1 (rw q.2 (same_kept f places kept K row g)))
-    (λ g. kept-looked f kept places K row at rows z (row_at f spans) a.number s o after (S.other (r ∙ g)) with_it left_out)
+    (λ g. let w = S.same (q ∙ g) in with_it w.1 (rw w.2 (same_kept f places kept K row g)))
+    (λ g. kept-looked f kept places K row at rows z r a.number s o after (S.other (q ∙ g)) with_it left_out)

@@ -2,19 +2,18 @@
 use mathlib.Core.Path.{◌≡◌, refl, sym, ap, ◌∙◌}
 use mathlib.Core.Bool.{Bool, true, false, cond, ◌&&◌}
 use mathlib.Core.List.{List, ◌∷◌}
-use Prim.Native.Nat.{ℕ, ◌+◌, ◌*◌, ◌≤◌, ◌<◌}
-use native.Mathlib.Omega.{arith}
+use Prim.Native.Nat.{ℕ, ◌+◌, ◌<◌}
 use borrow.Author.Tests.{eq-eqb, ne_eqb}
 use lib.Dec.{eqb, ltb}
-use lib.ListN.{length, get_or, replicate, get_or-replicate}
+use lib.ListN.{length}
 use Rattle.rules.specs.declared.Name.TheVariants.{Pid, Pv1}
-use Rattle.rules.specs.Lists.{same}
-use Rattle.rules.proofs.Logic.{cases, never}
+use Rattle.rules.proofs.Logic.{never}
 use Rattle.csv_rules.specs.Quote.{Items, FileLine}
 use Rattle.csv_rules.specs.Columns.{number_of}
 use Rattle.csv_rules.specs.Sheets.{same_number}
-use Rattle.csv_rows.specs.Rows.{lines_from, row_at, Inside, Spans, RowIs}
-use Rattle.csv_rows.proofs.Laws.{row-lines, row-broken}
+use Rattle.csv_rows.specs.declared.RowItems.{RowItems}
+use Rattle.csv_rows.specs.Rows.{lines_from, items_of, Firsts, RowIs}
+use Rattle.csv_rows.proofs.Laws.{row-lines}
 use Rattle.csv_rows.proofs.Tied.{tied-raw, tied-number}
 use Rattle.csv_repeats.specs.declared.Standing.{Standing}
 use Rattle.csv_repeats.specs.declared.Standing.TheVariants.{Same, New, Back, Differs}
@@ -33,33 +32,25 @@ pub back-kept : (returns at : ℕ) (s : Standing) (t : Bool) → t ≡ is_back s
 back-kept returns at s t e h = rw (← e, h)
 
 -- ---- a row as it lies in the file
-pub row-alike : (f spans : List ℕ) (items : Items) → Spans f spans items → Alike (row_at f spans) items
-row-alike f spans items P = record {
-  number = tied-number f spans items P;
-  pid = tied-raw f spans items P Pid;
-  pv1 = tied-raw f spans items P Pv1;
+pub row-alike : (r : RowItems) (items : Items) → Firsts r items → Alike (items_of r) items
+row-alike r items P = record {
+  number = tied-number r items P;
+  pid = tied-raw r items P Pid;
+  pv1 = tied-raw r items P Pv1;
 }
-
--- no row yet
-nothing-there : (f : List ℕ) (n : ℕ) → n < 45 → get_or (replicate 90 0) (2 * n) 0 + get_or (replicate 90 0) (2 * n + 1) 0 ≤ length f
-nothing-there f n h = omega (arith, get_or-replicate {A = ℕ} 90 (2 * n) 0 0 (omega arith), get_or-replicate {A = ℕ} 90 (2 * n + 1) 0 0 (omega arith))
-
-pub nowhere : (f before : List ℕ) → before ≡ replicate 90 0 → Inside f before
-nowhere f before e = rw e (record { size = refl; inside = nothing-there f })
 
 -- ---- a row that is kept of a number
 module _ (f : List ℕ) (p : ℕ) (T : RowThere f p) where
   pub there-inside : p < length f
   there-inside = row_inside f p T
 
-  pub there-found : (q : List ℕ) (size n : ℕ) (good bad : Bool) → RowIs f p true q size n good bad → (r : Items) (g : Bool) → g ≡ same_header r (row_at f q)
+  pub there-found : (q : RowItems) (size n : ℕ) (good : Bool) → RowIs f p true q size n good → (r : Items) (g : Bool) → g ≡ same_header r (items_of q)
       → (s : Standing) → s ≡ cond g Back Differs → s ≡ cond (same_header r (items_at f p)) Back Differs
-  there-found q size n good bad R r g e s k =
-      let b : bad ≡ false = cases bad (λ z. absurd (omega (arith, ap length (sym (row-broken f p true q size n good bad R z).0 ∙ T.is)))) (λ z. z) in
-      let w : record { items = R.items; size = size } ∷ lines_from f (p + size) ≡ T.row ∷ T.others = sym (row-lines f p true q size n good bad R b) ∙ T.is in
+  there-found q size n good R r g e s k =
+      let w : record { items = R.items; size = size } ∷ lines_from f (p + size) ≡ T.row ∷ T.others = sym (row-lines f p true q size n good R) ∙ T.is in
       let o : record { items = R.items; size = size } ≡ T.row = cc in
       let i : R.items ≡ items_at f p = ap (λ (l : FileLine). l.items) o ∙ sym (items-there f p T) in
-      let a = row-alike f q R.items R.lies in
+      let a = row-alike q R.items R.lies in
       k ∙ rw (e, a.pid, a.pv1, i)
 
 pub held-there : (f places : List ℕ) (r : Items) (s : Slot) → Places f places → SlotIs f places r s → HeldThere f s
@@ -94,16 +85,16 @@ module _ (f : List ℕ) (at : ℕ) (r : Items) (places : List ℕ) (unkept : ℕ
   pub looked-left : (unkept ≡ 0 → ⊥) → Looked f at r places unkept s unkept places
   looked-left z = let y = ne_eqb unkept 0 z in record { slot = slot; slot_is = S; is = e; table = rw y; unkept-is = rw y }
 
-module _ (f : List ℕ) (first at : ℕ) (before spans places : List ℕ) (unkept : ℕ) (t : Bool) (e : t ≡ same_number (row_at f before) (row_at f spans)) where
-  pub stands_same : (ltb first at && t) ≡ true → (g : Bool) → g ≡ same_header (row_at f spans) (row_at f before) → (s : Standing) → s ≡ cond g Same Differs
-      → Stands f first at before spans places unkept s unkept places
+module _ (f : List ℕ) (first at : ℕ) (before row : Items) (places : List ℕ) (unkept : ℕ) (t : Bool) (e : t ≡ same_number before row) where
+  pub stands_same : (ltb first at && t) ≡ true → (g : Bool) → g ≡ same_header row before → (s : Standing) → s ≡ cond g Same Differs
+      → Stands f first at before row places unkept s unkept places
   stands_same w g o s p = record {
     same = λ h. (p ∙ rw o, refl, refl);
     other = λ h. never (sym (rw e at w) ∙ h);
   }
 
-  pub stands-other : (ltb first at && t) ≡ false → (s : Standing) (o : ℕ) (after : List ℕ) → Looked f at (row_at f spans) places unkept s o after
-      → Stands f first at before spans places unkept s o after
+  pub stands-other : (ltb first at && t) ≡ false → (s : Standing) (o : ℕ) (after : List ℕ) → Looked f at row places unkept s o after
+      → Stands f first at before row places unkept s o after
   stands-other w s o after L = record { same = λ h. never (sym h ∙ rw e at w); other = λ h. L }
 
 -- ---- 53 and 54 with a row more
@@ -113,9 +104,9 @@ line_stays unkept after line k h = rw (eq-eqb after unkept h)
 pub line-here : (unkept after line k : ℕ) → (after ≡ unkept → ⊥) → k ≡ cond (eqb after unkept) line k
 line-here unkept after line k h = rw (ne_eqb after unkept h)
 
-pub with-is : (f : List ℕ) (first at : ℕ) (before spans places : List ℕ) (unkept line k returns count : ℕ) (s : Standing) (o : ℕ) (after : List ℕ)
-    → Stands f first at before spans places unkept s o after
+pub with-is : (f : List ℕ) (first at : ℕ) (before row : Items) (places : List ℕ) (unkept line k returns count : ℕ) (s : Standing) (o : ℕ) (after : List ℕ)
+    → Stands f first at before row places unkept s o after
     → (d r n m : ℕ) → d ≡ cond (is_differs s) k 0 → r ≡ cond (eqb returns 0 && is_back s) k returns → n ≡ begun s → m ≡ cond (eqb o unkept) line k
-    → WithRow f first at before spans places unkept line k returns count o m d r (count + n) after
-with-is f first at before spans places unkept line k returns count s o after S d r n m e b u w =
+    → WithRow f first at before row places unkept line k returns count o m d r (count + n) after
+with-is f first at before row places unkept line k returns count s o after S d r n m e b u w =
     record { standing = s; stands = S; differs = e; back = b; runs = ap (λ (x : ℕ). count + x) u; line-is = w }

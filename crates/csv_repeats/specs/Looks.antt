@@ -5,7 +5,6 @@ use Rattle.csv_rules.specs.Quote.{Items}
 use Rattle.csv_rules.specs.Columns.{number_of}
 use Rattle.csv_rules.specs.Sheets.{same_number}
 use Rattle.csv_rules.specs.Raw.{raw_agree}
-use Rattle.csv_rows.specs.Rows.{row_at}
 use Rattle.csv_places.specs.declared.Slot.{Slot}
 use Rattle.csv_places.specs.declared.Slot.TheVariants.{Held, Free, Crowded}
 use Rattle.csv_places.specs.Places.{items_at, hash_of, RowThere, SlotIs, keeps_place, with_place}
@@ -37,10 +36,10 @@ pub record Looked (f : List ℕ) (at : ℕ) (r : Items) (places : List ℕ) (unk
   pub unkept-is : o ≡ cond (eqb unkept 0) (cond (keeps_place slot at) 0 at) unkept
 
 -- the row at a place
-pub record Stands (f : List ℕ) (first at : ℕ) (before spans places : List ℕ) (unkept : ℕ) (s : Standing) (o : ℕ) (after : List ℕ) : Type 0 where
-  pub same : (ltb first at && same_number (row_at f before) (row_at f spans)) ≡ true
-      → (s ≡ cond (same_header (row_at f spans) (row_at f before)) Same Differs) × (o ≡ unkept) × (after ≡ places)
-  pub other : (ltb first at && same_number (row_at f before) (row_at f spans)) ≡ false → Looked f at (row_at f spans) places unkept s o after
+pub record Stands (f : List ℕ) (first at : ℕ) (before row : Items) (places : List ℕ) (unkept : ℕ) (s : Standing) (o : ℕ) (after : List ℕ) : Type 0 where
+  pub same : (ltb first at && same_number before row) ≡ true
+      → (s ≡ cond (same_header row before) Same Differs) × (o ≡ unkept) × (after ≡ places)
+  pub other : (ltb first at && same_number before row) ≡ false → Looked f at row places unkept s o after
 
 -- ---- what a standing says
 abbrev pub is_differs : Standing → Bool
@@ -64,9 +63,9 @@ begun Differs = 0
 
 -- 53 and 54 with the row at a place, which is the k-th line, where none before it is found to differ; line is that of the first row whose number isn't
 -- kept
-pub record WithRow (f : List ℕ) (first at : ℕ) (before spans places : List ℕ) (unkept line k returns count : ℕ) (o m d r n : ℕ) (after : List ℕ) : Type 0 where
+pub record WithRow (f : List ℕ) (first at : ℕ) (before row : Items) (places : List ℕ) (unkept line k returns count : ℕ) (o m d r n : ℕ) (after : List ℕ) : Type 0 where
   pub standing : Standing
-  pub stands : Stands f first at before spans places unkept standing o after
+  pub stands : Stands f first at before row places unkept standing o after
   pub differs : d ≡ cond (is_differs standing) k 0
   pub back : r ≡ cond (eqb returns 0 && is_back standing) k returns
   pub runs : n ≡ count + begun standing

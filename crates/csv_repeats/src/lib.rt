@@ -2,12 +2,13 @@
 #![tactic(auto)]
 
 ghost use Rattle.std.specs.Prelude.{◌≡◌, false, cond, ◌&&◌, ◌≤◌, ◌<◌, eqb, length};
-ghost use Rattle.csv_rows.specs.Rows.{Inside, row_at};
+ghost use Rattle.csv_rows.specs.Rows.{items_of};
 ghost use Rattle.csv_repeats.specs.declared.Standing.TheVariants.{Same, Back, Differs};
 ghost use Rattle.csv_places.specs.Places.{items_at, RowThere, Places};
 ghost use Rattle.csv_repeats.specs.Looks.{same_header, looked_for, HeldThere, Looked, Stands, WithRow, is_differs, is_back, begun};
 
 use csv_places::Slot;
+use csv_rows::RowItems;
 
 // Where 53 and 54 are met so far, by line, 0 where they aren't; how many runs there are; where the first row begins whose number isn't kept, and
 // its line, 0 where every number is. From that row on no more numbers are kept.
@@ -29,23 +30,11 @@ pub enum Standing {
     Differs, // 53: a row before with its number has another header key
 }
 
-// A row that goes on with its number, or that returns, by whether its header keys agree.
-fn going_on(agrees: bool) -> Standing
-    ensures { result ≡ cond agrees Same Differs }
+// How a row stands that goes on with its number, or that returns, by whether its header keys agree.
+fn by_header(agrees: bool, standing: Standing) -> Standing
+    ensures { result ≡ cond agrees standing Differs }
 {
-    if agrees {
-        return Standing::Same;
-    }
-    Standing::Differs
-}
-
-fn coming_back(agrees: bool) -> Standing
-    ensures { result ≡ cond agrees Back Differs }
-{
-    if agrees {
-        return Standing::Back;
-    }
-    Standing::Differs
+    if agrees { standing } else { Standing::Differs }
 }
 
 // 53, where a row stands so: its line.
@@ -96,22 +85,21 @@ fn first_back(returns: usize, s: Standing, line: usize) -> usize
 }
 
 // How a row stands to one with its number that begins at a place.
-fn found_at(file: &[u8], p: usize, spans: &[usize; 90]) -> Standing
-    requires { RowThere file.now p × Inside file.now spans.now }
-    ensures { result ≡ cond (same_header (row_at file.now spans.now) (items_at file.now p)) Back Differs }
+fn found_at(file: &[u8], p: usize, row: &RowItems) -> Standing
+    requires { RowThere file.now p }
+    ensures { result ≡ cond (same_header (items_of row.now) (items_at file.now p)) Back Differs }
 {
-    let t = csv_rows::row(file, p, true);
-    let q = t.spans;
-    coming_back(csv_keys::same_header(file, spans, &q))
+    let there = csv_rows::row(file, p, true).unwrap();
+    by_header(csv_keys::same_header(row, &there.items), Standing::Back)
 }
 
 // How a row stands whose number isn't that of the row before, by what is kept of it.
-fn looked_for(file: &[u8], spans: &[usize; 90], slot: Slot) -> Standing
-    requires { Inside file.now spans.now × HeldThere file.now slot }
-    ensures { result ≡ looked_for file.now (row_at file.now spans.now) slot }
+fn looked_for(file: &[u8], row: &RowItems, slot: Slot) -> Standing
+    requires { HeldThere file.now slot }
+    ensures { result ≡ looked_for file.now (items_of row.now) slot }
 {
     match slot {
-        Slot::Held(p) => found_at(file, p, spans),
+        Slot::Held(p) => found_at(file, p, row),
         Slot::Free(_) => Standing::New,
         Slot::Crowded => Standing::New,
     }
@@ -135,19 +123,13 @@ struct Stood {
 }
 
 // A row whose number isn't that of the row before. Its place is kept, where it can be, as long as every number is.
-fn looked(
-    file: &[u8],
-    at: usize,
-    spans: &[usize; 90],
-    unkept: usize,
-    places: &mut [u32; 65536],
-) -> Stood
-    requires { Places file.now places.old × Inside file.now spans.now }
-    ensures { Looked file.now at (row_at file.now spans.now) places.old unkept result.standing result.unkept places.new }
+fn looked(file: &[u8], at: usize, row: &RowItems, unkept: usize, places: &mut [u32; 65536]) -> Stood
+    requires { Places file.now places.old }
+    ensures { Looked file.now at (items_of row.now) places.old unkept result.standing result.unkept places.new }
 {
-    let hash = csv_places::hash_of(file, spans);
-    let slot = csv_places::look_up(file, places, spans, hash);
-    let standing = looked_for(file, spans, slot);
+    let hash = csv_places::hash_of(row);
+    let slot = csv_places::look_up(file, places, row, hash);
+    let standing = looked_for(file, row, slot);
     if unkept == 0 {
         let kept = csv_places::keep(places, slot, at, hash);
         return Stood {
@@ -163,21 +145,21 @@ fn stands(
     file: &[u8],
     first: usize,
     at: usize,
-    before: &[usize; 90],
-    spans: &[usize; 90],
+    before: &RowItems,
+    row: &RowItems,
     unkept: usize,
     places: &mut [u32; 65536],
 ) -> Stood
-    requires { Places file.now places.old × Inside file.now before.now × Inside file.now spans.now }
-    ensures { Stands file.now first at before.now spans.now places.old unkept result.standing result.unkept places.new }
+    requires { Places file.now places.old }
+    ensures { Stands file.now first at (items_of before.now) (items_of row.now) places.old unkept result.standing result.unkept places.new }
 {
-    if (first < at) & csv_keys::same_number(file, before, spans) {
+    if (first < at) & csv_keys::same_number(before, row) {
         return Stood {
-            standing: going_on(csv_keys::same_header(file, spans, before)),
+            standing: by_header(csv_keys::same_header(row, before), Standing::Same),
             unkept,
         };
     }
-    looked(file, at, spans, unkept, places)
+    looked(file, at, row, unkept, places)
 }
 
 // The line of the first row whose number isn't kept, with the row of the k-th line.
@@ -197,14 +179,14 @@ pub fn with_row(
     file: &[u8],
     first: usize,
     at: usize,
-    before: &[usize; 90],
-    spans: &[usize; 90],
+    before: &RowItems,
+    row: &RowItems,
     places: &mut [u32; 65536],
 ) -> Repeated
-    requires { (met.count ≤ at) × (at < length file.now) × Places file.now places.old × Inside file.now before.now × Inside file.now spans.now }
-    ensures { WithRow file.now first at before.now spans.now places.old met.unkept met.line k met.returns met.count result.unkept result.line result.differs result.returns result.count places.new }
+    requires { (met.count ≤ at) × (at < length file.now) × Places file.now places.old }
+    ensures { WithRow file.now first at (items_of before.now) (items_of row.now) places.old met.unkept met.line k met.returns met.count result.unkept result.line result.differs result.returns result.count places.new }
 {
-    let t = stands(file, first, at, before, spans, met.unkept, places);
+    let t = stands(file, first, at, before, row, met.unkept, places);
     let s = t.standing;
     Repeated {
         differs: differs_at(s, k),

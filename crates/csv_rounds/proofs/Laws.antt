@@ -6,22 +6,22 @@ use Prim.Native.Nat.{ℕ, ◌+◌, ◌-◌, ◌≤◌, ◌<◌}
 use native.Mathlib.Omega.{arith}
 use borrow.Author.Tests.{eqb-true, eqb-false, eq-eqb, ne_eqb, ltb-true, ltb-false}
 use lib.Dec.{eqb, ltb}
-use lib.ListN.{length, drop, length-drop, replicate}
+use lib.ListN.{length, drop, length-drop}
 use lib.Seq.{drop-drop}
 use Rattle.rules.specs.Lists.{all}
 use Rattle.rules.proofs.Logic.{cases, both, never}
 use Rattle.rules.proofs.Lists.{all_first}
-use Rattle.csv_rules.specs.Quote.{cut, FileLine, lines_in}
+use Rattle.csv_rules.specs.Quote.{Items, broken, cut, FileLine, lines_in}
 use Rattle.csv_rules.specs.Sheets.{row_converts}
 use Rattle.csv_rules.specs.Spot.{first_after, clashes, comes_back}
 use Rattle.csv_rules.proofs.Order.{all-parts}
-use Rattle.csv_rows.specs.Rows.{lines_from, Inside, RowIs}
+use Rattle.csv_rows.specs.declared.RowItems.{RowItems}
+use Rattle.csv_rows.specs.Rows.{lines_from, items_of, RowIs}
 use Rattle.csv_rows.proofs.Laws.{row-lines, row-broken, rows_end}
 use Rattle.csv_places.specs.Places.{Places}
 use Rattle.csv_places.specs.Slots.{Nothing}
 use Rattle.csv_repeats.specs.Looks.{WithRow}
 use Rattle.csv_repeats.specs.Rounds.{first_line, left, Partly}
-use Rattle.csv_repeats.proofs.Laws.{nowhere}
 use Rattle.csv_repeats.proofs.Firsts.{least-none, least_zero, least-over}
 use Rattle.csv_repeats.proofs.Going.{Going, going-starts, going-places, going-converts, going-ends, going-met, going_on, with-few}
 use Rattle.csv_rounds.specs.Settled.{Unsettled, Settled}
@@ -53,20 +53,18 @@ pub behind-some : (n at : ℕ) → (at ≡ 0 → ⊥) → n + at ≡ cond (eqb a
 behind-some n at h = rw (ne_eqb at 0 h)
 
 -- ---- one round
-pub record Rounding (f : List ℕ) (k : ℕ) (places before : List ℕ) (at passed unkept start differs returns count : ℕ) : Type 0 where
-  pub lies : Inside f before
+pub record Rounding (f : List ℕ) (k : ℕ) (places : List ℕ) (before : Items) (at passed unkept start differs returns count : ℕ) : Type 0 where
   pub one : 1 ≤ at
   pub few : count ≤ at
   pub passed-few : passed + 2 ≤ k + at
   pub going : differs ≡ 0 → Going f 1 k places before at unkept start (passed + 1) returns count
   pub met : (differs ≡ 0 → ⊥) → Partly f 1 k differs returns unkept start
 
-pub round-starts : (f : List ℕ) (k : ℕ) (places before : List ℕ) → 0 < k → length places ≡ 65536 → Nothing places → before ≡ replicate 90 0
+pub round-starts : (f : List ℕ) (k : ℕ) (places : List ℕ) (before : Items) → 0 < k → length places ≡ 65536 → Nothing places
     → Rounding f k places before 1 (k - 1) 0 0 0 0 0
-round-starts f k places before h m n e =
+round-starts f k places before h m n =
     let z : (k - 1) + 1 ≡ k = omega arith in
     record {
-      lies = nowhere f before e;
       one = omega arith;
       few = omega arith;
       passed-few = omega arith;
@@ -74,7 +72,7 @@ round-starts f k places before h m n e =
       met = λ y. absurd (y refl);
     }
 
-module _ (f : List ℕ) (k : ℕ) (places before : List ℕ) (at passed unkept start differs returns count : ℕ)
+module _ (f : List ℕ) (k : ℕ) (places : List ℕ) (before : Items) (at passed unkept start differs returns count : ℕ)
     (P : Rounding f k places before at passed unkept start differs returns count) where
   -- the rows end, or a line that is badly quoted ends them
   ended : lines_from f at ≡ [] → Partly f 1 k differs returns unkept start
@@ -105,40 +103,32 @@ module _ (f : List ℕ) (k : ℕ) (places before : List ℕ) (at passed unkept s
     pub round-few : count ≤ at
     round-few = P.few
 
-    pub round-before : Inside f before
-    round-before = P.lies
+    pub round-broken : cut (drop at f) ≡ broken → Partly f 1 k differs returns unkept start
+    round-broken b = ended (row-broken f at b).0
 
-    module _ (spans : List ℕ) (size n : ℕ) (good bad : Bool) (T : RowIs f at true spans size n good bad) where
-      pub round-broken : bad ≡ true → Partly f 1 k differs returns unkept start
-      round-broken b = ended (row-broken f at true spans size n good bad T b).0
-
+    module _ (read : RowItems) (size n : ℕ) (good : Bool) (T : RowIs f at true read size n good) where
       pub round-place : at + size ≤ length f
       round-place = T.place
 
-      pub round-row : Inside f spans
-      round-row = T.lies.inside
+      pub round-less : length f - (at + size) < length f - at
+      round-less = omega (arith, T.place, T.moves)
 
-      module _ (b : bad ≡ false) where
-        pub round-less : length f - (at + size) < length f - at
-        round-less = let m : 0 < size + 0 = rw b at T.moves in omega (arith, T.place)
-
-        pub round-on : all row_converts (lines_from f 1) ≡ true → (o m d p c : ℕ) (after : List ℕ)
-            → WithRow f 1 at before spans places unkept start (passed + 1) returns count o m d p c after
-            → Rounding f k after spans (at + size) (passed + 1) o m d p c
-        round-on v o m d p c after W =
-            let G = P.going none in
-            let y : 0 < size + 0 = rw b at T.moves in
-            let ls = going-converts f 1 k places before at unkept start (passed + 1) returns count G v in
-            let w = (all_first row_converts (record { items = T.items; size = size }) (lines_from f (at + size)) (rw (row-lines f at true spans size n good bad T b) at ls)).0 in
-            let z : at ≡ 0 → ⊥ = λ e. omega (arith, P.one) in
-            record {
-              lies = T.lies.inside;
-              one = omega (arith, P.one);
-              few = omega (arith, P.few, with-few f 1 k places before at (passed + 1) returns count true spans size n good bad T b unkept start o m d p c after W);
-              passed-few = omega (arith, P.passed-few);
-              going = λ e. going_on f 1 k places before at (passed + 1) returns count true spans size n good bad T b unkept start G w z o m d p c after W e;
-              met = λ e. going-met f 1 k places before at (passed + 1) returns count true spans size n good bad T b unkept start G w z o m d p c after W e;
-            }
+      pub round-on : all row_converts (lines_from f 1) ≡ true → (o m d p c : ℕ) (after : List ℕ)
+          → WithRow f 1 at before (items_of read) places unkept start (passed + 1) returns count o m d p c after
+          → Rounding f k after (items_of read) (at + size) (passed + 1) o m d p c
+      round-on v o m d p c after W =
+          let G = P.going none in
+          let y = T.moves in
+          let ls = going-converts f 1 k places before at unkept start (passed + 1) returns count G v in
+          let w = (all_first row_converts (record { items = T.items; size = size }) (lines_from f (at + size)) (rw (row-lines f at true read size n good T) at ls)).0 in
+          let z : at ≡ 0 → ⊥ = λ e. omega (arith, P.one) in
+          record {
+            one = omega (arith, P.one);
+            few = omega (arith, P.few, with-few f 1 k places before at (passed + 1) returns count true read size n good T unkept start o m d p c after W);
+            passed-few = omega (arith, P.passed-few);
+            going = λ e. going_on f 1 k places before at (passed + 1) returns count true read size n good T unkept start G w z o m d p c after W e;
+            met = λ e. going-met f 1 k places before at (passed + 1) returns count true read size n good T unkept start G w z o m d p c after W e;
+          }
 
 -- ---- round after round
 -- the file from a place on

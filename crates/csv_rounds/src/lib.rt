@@ -10,6 +10,7 @@ ghost use Rattle.csv_repeats.specs.Rounds.{first_line, Partly};
 ghost use Rattle.csv_rounds.specs.Settled.{Unsettled, Settled};
 
 use csv_repeats::Repeated;
+use csv_rows::RowItems;
 
 // Where 53 and 54 are met, by line, 0 where they aren't.
 #[derive(Clone, Copy)]
@@ -49,7 +50,7 @@ fn round(rows: &[u8], line: usize) -> Repeated
     ensures { Partly rows.now 1 line result.differs result.returns result.unkept result.line }
 {
     let mut places = csv_places::empty();
-    let mut before = [0usize; 90];
+    let mut before = RowItems::none();
     let mut at = 1usize;
     let mut passed = line - 1;
     let mut met = Repeated {
@@ -60,15 +61,12 @@ fn round(rows: &[u8], line: usize) -> Repeated
         line: 0,
     };
     while (at < rows.len()) & (met.differs == 0) {
-        let row = csv_rows::row(rows, at, true);
-        if row.bad {
+        let Some(row) = csv_rows::row(rows, at, true) else {
             return met;
-        }
-        let spans = row.spans;
+        };
         passed += 1;
-        let next = csv_repeats::with_row(met, passed, rows, 1, at, &before, &spans, &mut places);
-        met = next;
-        before = spans;
+        met = csv_repeats::with_row(met, passed, rows, 1, at, &before, &row.items, &mut places);
+        before = row.items;
         at += row.size;
     }
     met

@@ -6,6 +6,7 @@ use Prim.Native.Nat.{ℕ, ◌≤◌}
 use native.Mathlib.Omega.{arith}
 use lib.Dec.{eqb}
 use lib.ListN.{length}
+use Rattle.std.specs.Prelude.{Result, Ok, Err}
 use Rattle.rules.specs.declared.Kind.{Kind}
 use Rattle.rules.specs.declared.Kind.TheVariants.{TooLong, Header, Bytes, Segment, TooMany, Order, Missing, Null, Repeated, Escape, Long, Value, Status, Differs, NoOrdinal, Zero, SheetTooLong, SheetBytes, Key, LineValue, Overflow, Room}
 use Rattle.rules.specs.declared.Refusal.{Refusal}
@@ -15,10 +16,9 @@ use Rattle.rules.proofs.Logic.{not-given}
 use Rattle.rules.proofs.Unique.{refusal-unique}
 use Rattle.csv_rules.specs.declared.FileFault.{FileFault}
 use Rattle.csv_rules.specs.declared.FileFault.TheVariants.{Quoting, Columns, Unconverted, HeaderDiffers, Returns}
-use Rattle.csv_rules.specs.declared.Counted.{Counted}
-use Rattle.csv_rules.specs.declared.Counted.TheVariants.{Sheets, NotCounted}
-use Rattle.csv_rules.specs.declared.Made.{Made}
-use Rattle.csv_rules.specs.declared.Made.TheVariants.{Sheet, Unfit, Faulty}
+use Rattle.csv_rules.specs.declared.CsvSheets.{CsvSheets}
+use Rattle.csv_rules.specs.declared.NotMade.{NotMade}
+use Rattle.csv_rules.specs.declared.NotMade.TheVariants.{Unfit, Faulty}
 use Rattle.csv_rules.specs.declared.Next.{Next}
 use Rattle.csv_rules.specs.Answers.{fault_number, told_count, told_made, SheetCall}
 use Rattle.csv_rules.specs.Sheets.{csv_sheet, csv_next}
@@ -86,33 +86,33 @@ high Returns = omega arith
 apart : {P : Type 0} (r : Refusal) (f : FileFault) → number r.kind ≡ fault_number f → P
 apart r f e = absurd (omega (arith, low r.kind, high f, e))
 
-count-once : (a b : Counted) → told_count a ≡ told_count b → a ≡ b
-count-once (Sheets c) (Sheets d) h = cc
-count-once (Sheets c) (NotCounted f) h = cc
-count-once (NotCounted f) (Sheets c) h = cc
-count-once (NotCounted f) (NotCounted g) h = ap NotCounted (fault-unique f g (cc))
+count-once : (a b : Result CsvSheets FileFault) → told_count a ≡ told_count b → a ≡ b
+count-once (Ok c) (Ok d) h = cc
+count-once (Ok c) (Err f) h = cc
+count-once (Err f) (Ok c) h = cc
+count-once (Err f) (Err g) h = ap Err (fault-unique f g (cc))
 
 pub counted-once : CountedOnce
 counted-once file a b p q = count-once a b (p ∙ sym q)
 
-pub made-once : (a b : Made) → told_made a ≡ told_made b → a ≡ b
-made-once (Sheet n) (Sheet m) h = cc
-made-once (Sheet n) (Unfit s) h = cc
-made-once (Sheet n) (Faulty g) h = cc
-made-once (Unfit r) (Sheet m) h = cc
-made-once (Unfit r) (Unfit s) h = ap Unfit (refusal-unique _ r s h)
-made-once (Unfit r) (Faulty g) h = apart r g (cc)
-made-once (Faulty f) (Sheet m) h = cc
-made-once (Faulty f) (Unfit s) h = apart s f (cc)
-made-once (Faulty f) (Faulty g) h = ap Faulty (fault-unique f g (cc))
+pub made-once : (a b : Result ℕ NotMade) → told_made a ≡ told_made b → a ≡ b
+made-once (Ok n) (Ok m) h = cc
+made-once (Ok n) (Err (Unfit s)) h = cc
+made-once (Ok n) (Err (Faulty g)) h = cc
+made-once (Err (Unfit r)) (Ok m) h = cc
+made-once (Err (Unfit r)) (Err (Unfit s)) h = ap (λ (x : Refusal). Err (Unfit x)) (refusal-unique _ r s h)
+made-once (Err (Unfit r)) (Err (Faulty g)) h = apart r g (cc)
+made-once (Err (Faulty f)) (Ok m) h = cc
+made-once (Err (Faulty f)) (Err (Unfit s)) h = apart s f (cc)
+made-once (Err (Faulty f)) (Err (Faulty g)) h = ap (λ (x : FileFault). Err (Faulty x)) (fault-unique f g (cc))
 
-call-once : (t : Told (List ℕ)) (before x y : List ℕ) (a b : Made) → SheetCall t before a x → SheetCall t before b y → (a ≡ b) × (x ≡ y)
+call-once : (t : Told (List ℕ)) (before x y : List ℕ) (a b : Result ℕ NotMade) → SheetCall t before a x → SheetCall t before b y → (a ≡ b) × (x ≡ y)
 call-once t before x y a b C D = (made-once a b (C.told ∙ sym D.told), C.buffer ∙ sym D.buffer)
 
 pub sheet-once : SheetOnce
 sheet-once file which g before x y a b C D = call-once (csv_sheet file which g (length before)) before x y a b C D
 
-abbrev next : Made → ℕ → Next
+abbrev next : Result ℕ NotMade → ℕ → Next
 next w n = record { made = w; place = n }
 
 pub next-once : NextOnce
@@ -121,10 +121,10 @@ next-once file at g before x y a b C D =
     (ap (λ z. next z a.place) w.0 ∙ ap (next b.made) (C.place ∙ sym D.place), w.1)
 
 -- ---- what is no sheet leaves the buffer
-call-leaves : (t : Told (List ℕ)) (before after : List ℕ) (r : Made) → ((n : ℕ) → r ≡ Sheet n → ⊥) → SheetCall t before r after → after ≡ before
-call-leaves (gives w) before after (Sheet n) h C = absurd (h n refl)
-call-leaves (gives w) before after (Unfit k) h C = not-given C.told
-call-leaves (gives w) before after (Faulty f) h C = not-given C.told
+call-leaves : (t : Told (List ℕ)) (before after : List ℕ) (r : Result ℕ NotMade) → ((n : ℕ) → r ≡ Ok n → ⊥) → SheetCall t before r after → after ≡ before
+call-leaves (gives w) before after (Ok n) h C = absurd (h n refl)
+call-leaves (gives w) before after (Err (Unfit k)) h C = not-given C.told
+call-leaves (gives w) before after (Err (Faulty f)) h C = not-given C.told
 call-leaves (refused n s f) before after r h C = C.buffer
 
 pub sheet-leaves : SheetLeaves

@@ -1,5 +1,5 @@
 -- What is claimed of a commercial centre's file; proofs/ proves each claim, and nothing is assumed but what stands here.
-use Rattle.std.specs.Prelude.{◌≡◌, Bool, true, false, cond, ◌&&◌, ◌||◌, List, [], ◌∷◌, ◌++◌, map, ℕ, zero, suc, eqb}
+use Rattle.std.specs.Prelude.{◌≡◌, Bool, true, false, cond, ◌&&◌, ◌||◌, List, [], ◌∷◌, ◌++◌, map, ℕ, zero, suc, eqb, Result, Ok}
 use Prim.Native.String.{String}
 use Rattle.rules.specs.declared.Name.{Name}
 use Rattle.rules.specs.declared.Name.TheVariants.{Pid, Pv1, Spm, Obr, Obx}
@@ -9,9 +9,9 @@ use Rattle.rules.specs.Row.{Line, lines}
 use Rattle.rules.specs.Shift.{within, keeps}
 use Rattle.rules.specs.Message.{to_message}
 use Rattle.returns.specs.Demand2.{Only44Or45, Returned}
-use Rattle.csv_rules.specs.declared.Counted.{Counted}
-use Rattle.csv_rules.specs.declared.Made.{Made}
-use Rattle.csv_rules.specs.declared.Made.TheVariants.{Sheet}
+use Rattle.csv_rules.specs.declared.FileFault.{FileFault}
+use Rattle.csv_rules.specs.declared.CsvSheets.{CsvSheets}
+use Rattle.csv_rules.specs.declared.NotMade.{NotMade}
 use Rattle.csv_rules.specs.declared.Next.{Next}
 use Rattle.csv_rules.specs.Promises.{SheetsCounted, CsvSheetWritten, NextSheetWritten}
 use Rattle.csv_rules.specs.Quote.{Items, Lines, cut, is_broken, lines_in}
@@ -96,10 +96,10 @@ NextGoesOn = (file : List ℕ) (at : ℕ) (g : Given) (room : ℕ) (s : List ℕ
 
 -- ---- the answers are told apart: two that keep one promise are the same, with the same bytes in the buffer
 abbrev pub CountedOnce : Type 0
-CountedOnce = (file : List ℕ) (a b : Counted) → SheetsCounted file a → SheetsCounted file b → a ≡ b
+CountedOnce = (file : List ℕ) (a b : Result CsvSheets FileFault) → SheetsCounted file a → SheetsCounted file b → a ≡ b
 
 abbrev pub SheetOnce : Type 0
-SheetOnce = (file : List ℕ) (which : ℕ) (g : Given) (before x y : List ℕ) (a b : Made)
+SheetOnce = (file : List ℕ) (which : ℕ) (g : Given) (before x y : List ℕ) (a b : Result ℕ NotMade)
     → CsvSheetWritten file which g before a x → CsvSheetWritten file which g before b y → (a ≡ b) × (x ≡ y)
 
 abbrev pub NextOnce : Type 0
@@ -108,11 +108,11 @@ NextOnce = (file : List ℕ) (at : ℕ) (g : Given) (before x y : List ℕ) (a b
 
 -- and one that gives no sheet leaves the buffer exactly as lent
 abbrev pub SheetLeaves : Type 0
-SheetLeaves = (file : List ℕ) (which : ℕ) (g : Given) (before after : List ℕ) (r : Made) → ((n : ℕ) → r ≡ Sheet n → ⊥)
+SheetLeaves = (file : List ℕ) (which : ℕ) (g : Given) (before after : List ℕ) (r : Result ℕ NotMade) → ((n : ℕ) → r ≡ Ok n → ⊥)
     → CsvSheetWritten file which g before r after → after ≡ before
 
 abbrev pub NextLeaves : Type 0
-NextLeaves = (file : List ℕ) (at : ℕ) (g : Given) (before after : List ℕ) (r : Next) → ((n : ℕ) → r.made ≡ Sheet n → ⊥)
+NextLeaves = (file : List ℕ) (at : ℕ) (g : Given) (before after : List ℕ) (r : Next) → ((n : ℕ) → r.made ≡ Ok n → ⊥)
     → NextSheetWritten file at g before r after → after ≡ before
 
 -- ---- sheet after sheet: from the first row on, the calls give the sheets of the file in order, whatever the caller gives for each, and then 30

@@ -3,6 +3,7 @@
 
 ghost use Rattle.std.specs.Prelude.{◌≡◌};
 ghost use Rattle.csv_rules.specs.Answers.{fault_number};
+ghost use Rattle.csv_rules.specs.declared.NotMade.TheVariants.{Unfit, Faulty};
 
 use rules::Refusal;
 
@@ -23,24 +24,33 @@ pub struct CsvSheets {
     pub first: usize,
 }
 
+// Why no sheet comes out of a file: the file's refusal; or another: no such sheet, the sheet's own, a buffer too short.
 #[derive(Clone, Copy)]
-pub enum Counted {
-    Sheets(CsvSheets),
-    NotCounted(FileFault),
-}
-
-// A sheet out of a file, by its length; the file's refusal; or another: no such sheet, the sheet's own, a buffer too short.
-#[derive(Clone, Copy)]
-pub enum Made {
-    Sheet(usize),
+pub enum NotMade {
     Unfit(Refusal),
     Faulty(FileFault),
 }
 
-// A sheet of a file that is gone through sheet by sheet, and the place behind its rows.
+impl From<Refusal> for NotMade {
+    ghost from_gives = { λ r e. e ≡ Unfit r };
+
+    fn from(refusal: Refusal) -> NotMade {
+        NotMade::Unfit(refusal)
+    }
+}
+
+impl From<FileFault> for NotMade {
+    ghost from_gives = { λ f e. e ≡ Faulty f };
+
+    fn from(fault: FileFault) -> NotMade {
+        NotMade::Faulty(fault)
+    }
+}
+
+// A sheet of a file that is gone through sheet by sheet: its length, or why there is none; and the place behind its rows.
 #[derive(Clone, Copy)]
 pub struct Next {
-    pub made: Made,
+    pub made: Result<usize, NotMade>,
     pub place: usize,
 }
 

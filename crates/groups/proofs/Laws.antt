@@ -1,5 +1,6 @@
 -- The laws of each group's lines: one for each way through their code. Assumes nothing.
 use mathlib.Core.Path.{◌≡◌, refl, sym, subst, ap, ◌∙◌}
+use mathlib.Core.Logic.{◌⊎◌, inl, inr}
 use mathlib.Core.Bool.{Bool, true, false, not, ◌&&◌, ◌||◌}
 use mathlib.Core.List.{List, [], ◌∷◌, ◌++◌}
 use Prim.Native.Nat.{ℕ, ◌≤◌}
@@ -8,7 +9,7 @@ use borrow.Author.Tests.{eq-eqb, eqb-true}
 use lib.Dec.{eqb}
 use lib.ListN.{length, take, drop}
 use Rattle.rules.specs.declared.Name.{Name}
-use Rattle.rules.specs.declared.Name.TheVariants.{Msh, Pid, Pv1, Spm, Obr, Obx}
+use Rattle.rules.specs.declared.Name.TheVariants.{Msh, Pid, Pv1, Spm, Obr, Orc, Obx, Other}
 use Rattle.rules.specs.Lists.{bytes, empty, filled, nth, same, split, is_one_of, any, onto}
 use Rattle.rules.specs.Value.{Rule, fault, fits, holds, too_long, words, text}
 use Rattle.rules.specs.Places.{Four, value_rules, entry_of, entry_in, places}
@@ -21,13 +22,14 @@ use Rattle.rules.proofs.Names.{in_names}
 use Rattle.value.specs.declared.Words.TheVariants.{Modes, Sexes, Classes, Types, Flags, Statuses}
 use Rattle.value.specs.declared.Place.TheVariants.{Must, May}
 use Rattle.value.specs.declared.Rule.TheVariants.{Time, Date, Text, Digits, Capitals, OneOf}
-use Rattle.value.specs.declared.Parts.{Parts}
+use Rattle.value.specs.declared.Parts.{Parts as Rules}
 use Rattle.value.specs.Rules.{rule_of, rules_of, text_of}
-use Rattle.lines.specs.declared.Verdict.{Verdict}
-use Rattle.lines.specs.declared.Verdict.TheVariants.{Fine}
-use Rattle.lines.specs.Lines.{and_then, line_as, line_at}
+use Rattle.std.specs.Prelude.{Ok, Err}
+use Rattle.lines.specs.declared.LineFault.{LineFault}
+use Rattle.lines.specs.Lines.{Verdict, and_then, line_as, line_at}
+use Rattle.groups.specs.declared.Obx5.{Obx5}
 use Rattle.groups.specs.Groups.{values_from, four_of, parts_of, status_of, VerdictOn}
-use Rattle.groups.proofs.Reading.{on_none, on-more}
+use Rattle.groups.proofs.Reading.{on_none, on-more, on-wrong}
 
 -- ---- "version is 1"
 version-one : (fits true (text 1) (49 ∷ []) && same (49 ∷ []) (49 ∷ [])) ≡ fits true (words "1") (49 ∷ [])
@@ -53,17 +55,17 @@ pub kana-fits : (a b : List ℕ) → (not (eqb (length a) 0) || eqb (length b) 0
 kana-fits a b = rw (blank a, blank b)
 
 -- the four parts of OBX-5, by which are filled
-module _ (c v j s : List ℕ) (q : Bool)
-    (e : (k : Four (List ℕ)) → not (eqb (length c) 0) ≡ filled k.compare → not (eqb (length j) 0) ≡ filled k.join → not (eqb (length s) 0) ≡ filled k.second → q ≡ beside k) where
-  beside-is : q ≡ beside (four_of c v j s)
-  beside-is = e (four_of c v j s) (ap not (blank c)) (ap not (blank j)) (ap not (blank s))
+module _ (p : Obx5) where
+  pub beside-is : (q : Bool) → ((k : Four (List ℕ)) → not (eqb (length p.compare.now) 0) ≡ filled k.compare → not (eqb (length p.join.now) 0) ≡ filled k.join → not (eqb (length p.second.now) 0) ≡ filled k.second → q ≡ beside k) → q ≡ beside (four_of p)
+  beside-is q e = e (four_of p) (ap not (blank p.compare.now)) (ap not (blank p.join.now)) (ap not (blank p.second.now))
 
-  pub joined_is : (u : Bool) → ((k : Four (List ℕ)) → not (eqb (length j) 0) ≡ filled k.join → not (eqb (length s) 0) ≡ filled k.second → u ≡ unjoined k)
-      → (not u && (not (eqb (length v) 0) || not q)) ≡ joined (four_of c v j s)
-  joined_is u f = rw (beside-is, f (four_of c v j s) (ap not (blank j)) (ap not (blank s)), blank v)
+  module _ (q : Bool) (e : q ≡ beside (four_of p)) where
+    pub joined_is : (u : Bool) → ((k : Four (List ℕ)) → not (eqb (length p.join.now) 0) ≡ filled k.join → not (eqb (length p.second.now) 0) ≡ filled k.second → u ≡ unjoined k)
+        → (not u && (not (eqb (length p.value.now) 0) || not q)) ≡ joined (four_of p)
+    joined_is u f = rw (e, f (four_of p) (ap not (blank p.join.now)) (ap not (blank p.second.now)), blank p.value.now)
 
-  pub agrees-is : (t : List ℕ) (r : Bool) → ((k : Four (List ℕ)) → not (eqb (length v) 0) ≡ filled k.value → q ≡ beside k → r ≡ agrees t k) → r ≡ agrees t (four_of c v j s)
-  agrees-is t r h = h (four_of c v j s) (ap not (blank v)) beside-is
+    pub agrees-is : (t : List ℕ) (r : Bool) → ((k : Four (List ℕ)) → not (eqb (length p.value.now) 0) ≡ filled k.value → q ≡ beside k → r ≡ agrees t k) → r ≡ agrees t (four_of p)
+    agrees-is t r h = h (four_of p) (ap not (blank p.value.now)) e
 
 -- ---- the keys
 abbrev version= : List ℕ
@@ -158,123 +160,145 @@ module _ (ls : List Line) (l : Line) (ts : List (List ℕ)) (before r : Verdict)
   abbrev right : Bool
   right = l.holds (values_from ls 0 ts ++ (v ∷ [])) v
 
-  goes : good ≡ right → r ≡ and_then before (line_as (length ls) key good (nth ts (length ls))) → VerdictOn (ls ++ (l ∷ [])) ts r
-  goes f h = on-more ls l ts before r p (h ∙ rw (e, f))
+  goes : good ≡ right → r ≡ line_as (length ls) key good (nth ts (length ls)) → VerdictOn (ls ++ (l ∷ [])) ts (and_then before r)
+  goes f h = on-more ls l ts before (and_then before r) p (ap (and_then before) (h ∙ rw (e, f)))
 
-  plain : good ≡ right → r ≡ and_then before (line_as (length ls) key (good && true) (nth ts (length ls))) → VerdictOn (ls ++ (l ∷ [])) ts r
-  plain f h = on-more ls l ts before r p (h ∙ rw (e, and-true good, f))
+  plain : good ≡ right → r ≡ line_as (length ls) key (good && true) (nth ts (length ls)) → VerdictOn (ls ++ (l ∷ [])) ts (and_then before r)
+  plain f h = on-more ls l ts before (and_then before r) p (ap (and_then before) (h ∙ rw (e, and-true good, f)))
 
 module _ (ts : List (List ℕ)) where
   abbrev at : ℕ → ℕ → List ℕ
   at k n = drop n (nth ts k)
 
-  pub header_is : (v : List ℕ) (one : Bool) → v ≡ at 0 8 → one ≡ same v (49 ∷ []) → (v0 v1 v2 r : Verdict)
-      → v0 ≡ and_then Fine (line_at 0 version= (Must (Text 1)) one ts)
-      → v1 ≡ and_then v0 (line_at 1 mode= (Must (OneOf Modes)) true ts)
-      → v2 ≡ and_then v1 (line_at 2 sent= (Must Time) true ts)
-      → r ≡ and_then v2 (line_at 3 control= (Must (Text 20)) true ts) → VerdictOn (lines Msh) ts r
+  pub header_is : {v : List ℕ} {one : Bool} → v ≡ at 0 8 → one ≡ same v (49 ∷ []) → {v0 v1 v2 v3 r : Verdict}
+      → v0 ≡ line_at 0 version= (Must (Text 1)) one ts
+      → v1 ≡ line_at 1 mode= (Must (OneOf Modes)) true ts
+      → v2 ≡ line_at 2 sent= (Must Time) true ts
+      → v3 ≡ line_at 3 control= (Must (Text 20)) true ts
+      → r ≡ and_then (and_then (and_then v0 v1) v2) v3 → VerdictOn (lines Msh) ts r
   unfolding table
-  header_is v one ev eo v0 v1 v2 r e0 e1 e2 e3 =
+  header_is {v} {one} ev eo {v0} {v1} {v2} {v3} {r} e0 e1 e2 e3 e =
       let o : (fits true (text 1) (at 0 8) && one) ≡ fits true (words "1") (at 0 8)
       = ap (λ (b : Bool). fits true (text 1) (at 0 8) && b) (eo ∙ ap (λ (w : List ℕ). same w (49 ∷ [])) ev) ∙ version-is (at 0 8) in
-      let p0 = goes [] _ ts Fine v0 version= _ (on_none ts) refl o e0 in
+      let p0 = goes [] _ ts (Ok tt) v0 version= _ (on_none ts) refl o e0 in
       let p1 = plain _ _ ts v0 v1 mode= _ p0 refl refl e1 in
-      let p2 = plain _ _ ts v1 v2 sent= _ p1 refl refl e2 in
-      plain _ _ ts v2 r control= _ p2 refl refl e3
+      let p2 = plain _ _ ts (and_then v0 v1) v2 sent= _ p1 refl refl e2 in
+      rw e (plain _ _ ts (and_then (and_then v0 v1) v2) v3 control= _ p2 refl refl e3)
 
-  pub named-is : (v0 v1 r : Verdict) → v0 ≡ and_then Fine (line_at 0 patient= (Must (Text 20)) true ts)
-      → v1 ≡ and_then v0 (line_at 1 family= (Must (Text 48)) true ts)
-      → r ≡ and_then v1 (line_at 2 given= (May (Text 48)) true ts) → VerdictOn (take 3 (lines Pid)) ts r
+  pub named-is : {v0 v1 v2 r : Verdict}
+      → v0 ≡ line_at 0 patient= (Must (Text 20)) true ts
+      → v1 ≡ line_at 1 family= (Must (Text 48)) true ts
+      → v2 ≡ line_at 2 given= (May (Text 48)) true ts
+      → r ≡ and_then (and_then v0 v1) v2 → VerdictOn (take 3 (lines Pid)) ts r
   unfolding table
-  named-is v0 v1 r e0 e1 e2 =
-      let p0 = plain [] _ ts Fine v0 patient= _ (on_none ts) refl refl e0 in
+  named-is {v0} {v1} {v2} {r} e0 e1 e2 e =
+      let p0 = plain [] _ ts (Ok tt) v0 patient= _ (on_none ts) refl refl e0 in
       let p1 = plain _ _ ts v0 v1 family= _ p0 refl refl e1 in
-      plain _ _ ts v1 r given= _ p1 refl refl e2
+      rw e (plain _ _ ts (and_then v0 v1) v2 given= _ p1 refl refl e2)
 
-  pub kana-is : (f g : List ℕ) (also : Bool) → f ≡ at 3 11 → g ≡ at 4 10 → also ≡ (filled f || empty g) → (v2 v3 r : Verdict) → VerdictOn (take 3 (lines Pid)) ts v2
-      → v3 ≡ and_then v2 (line_at 3 kanafamily= (May (Text 48)) true ts)
-      → r ≡ and_then v3 (line_at 4 kanagiven= (May (Text 48)) also ts) → VerdictOn (take 5 (lines Pid)) ts r
+  pub kana-is : {f g : List ℕ} {also : Bool} → f ≡ at 3 11 → g ≡ at 4 10 → also ≡ (filled f || empty g) → VerdictOn (take 3 (lines Pid)) ts (Ok tt) → {v3 v4 r : Verdict}
+      → v3 ≡ line_at 3 kanafamily= (May (Text 48)) true ts
+      → v4 ≡ line_at 4 kanagiven= (May (Text 48)) also ts
+      → r ≡ and_then v3 v4 → VerdictOn (take 5 (lines Pid)) ts r
   unfolding table
-  kana-is f g also ef eg ea v2 v3 r p e3 e4 =
+  kana-is {f} {g} {also} ef eg ea p {v3} {v4} {r} e3 e4 e =
       let o : (fits false (text 48) (at 4 10) && also) ≡ (fits false (text 48) (at 4 10) && (filled (at 3 11) || empty (at 4 10)))
       = ap (λ (b : Bool). fits false (text 48) (at 4 10) && b) (rw (← ef, ← eg) ea) in
-      goes _ _ ts v3 r kanagiven= _ (plain _ _ ts v2 v3 kanafamily= _ p refl refl e3) refl o e4
+      rw e (goes _ _ ts v3 v4 kanagiven= _ (plain _ _ ts (Ok tt) v3 kanafamily= _ p refl refl e3) refl o e4)
 
-  pub patient-is : (v4 v5 r : Verdict) → VerdictOn (take 5 (lines Pid)) ts v4
-      → v5 ≡ and_then v4 (line_at 5 birth= (May Date) true ts)
-      → r ≡ and_then v5 (line_at 6 sex= (Must (OneOf Sexes)) true ts) → VerdictOn (lines Pid) ts r
+  pub patient-is : VerdictOn (take 5 (lines Pid)) ts (Ok tt) → {v5 v6 r : Verdict}
+      → v5 ≡ line_at 5 birth= (May Date) true ts
+      → v6 ≡ line_at 6 sex= (Must (OneOf Sexes)) true ts
+      → r ≡ and_then v5 v6 → VerdictOn (lines Pid) ts r
   unfolding table
-  patient-is v4 v5 r p e5 e6 = plain _ _ ts v5 r sex= _ (plain _ _ ts v4 v5 birth= _ p refl refl e5) refl refl e6
+  patient-is p {v5} {v6} {r} e5 e6 e = rw e (plain _ _ ts v5 v6 sex= _ (plain _ _ ts (Ok tt) v5 birth= _ p refl refl e5) refl refl e6)
 
-  pub visit-is : (r : Verdict) → r ≡ and_then Fine (line_at 0 class= (Must (OneOf Classes)) true ts) → VerdictOn (lines Pv1) ts r
+  pub names-wrong : {f : LineFault} → VerdictOn (take 3 (lines Pid)) ts (Err f) → VerdictOn (lines Pid) ts (Err f)
   unfolding table
-  visit-is r e = plain [] _ ts Fine r class= _ (on_none ts) refl refl e
+  names-wrong {f} p = on-wrong _ _ ts f p
 
-  pub specimen-is : (v0 r : Verdict) → v0 ≡ and_then Fine (line_at 0 specimen= (Must (Digits 3)) true ts)
-      → r ≡ and_then v0 (line_at 1 collected= (Must Time) true ts) → VerdictOn (lines Spm) ts r
+  pub kana-wrong : {f : LineFault} → VerdictOn (take 5 (lines Pid)) ts (Err f) → VerdictOn (lines Pid) ts (Err f)
   unfolding table
-  specimen-is v0 r e0 e1 = plain _ _ ts v0 r collected= _ (plain [] _ ts Fine v0 specimen= _ (on_none ts) refl refl e0) refl refl e1
+  kana-wrong {f} p = on-wrong _ _ ts f p
 
-  pub order_is : (v0 r : Verdict) → v0 ≡ and_then Fine (line_at 0 order= (Must (Digits 15)) true ts)
-      → r ≡ and_then v0 (line_at 1 group= (Must (Capitals 8)) true ts) → VerdictOn (lines Obr) ts r
+  pub visit-is : {r : Verdict} → r ≡ line_at 0 class= (Must (OneOf Classes)) true ts → VerdictOn (lines Pv1) ts r
   unfolding table
-  order_is v0 r e0 e1 = plain _ _ ts v0 r group= _ (plain [] _ ts Fine v0 order= _ (on_none ts) refl refl e0) refl refl e1
+  visit-is {r} e = plain [] _ ts (Ok tt) r class= _ (on_none ts) refl refl e
 
-  pub item-is : (v0 v1 r : Verdict) → v0 ≡ and_then Fine (line_at 0 item= (Must (Capitals 17)) true ts)
-      → v1 ≡ and_then v0 (line_at 1 name= (May (Text 48)) true ts)
-      → r ≡ and_then v1 (line_at 2 type= (Must (OneOf Types)) true ts) → VerdictOn (take 3 (lines Obx)) ts r
+  pub specimen-is : {v0 v1 r : Verdict}
+      → v0 ≡ line_at 0 specimen= (Must (Digits 3)) true ts
+      → v1 ≡ line_at 1 collected= (Must Time) true ts
+      → r ≡ and_then v0 v1 → VerdictOn (lines Spm) ts r
   unfolding table
-  item-is v0 v1 r e0 e1 e2 =
-      let p0 = plain [] _ ts Fine v0 item= _ (on_none ts) refl refl e0 in
+  specimen-is {v0} {v1} {r} e0 e1 e = rw e (plain _ _ ts v0 v1 collected= _ (plain [] _ ts (Ok tt) v0 specimen= _ (on_none ts) refl refl e0) refl refl e1)
+
+  pub order_is : {v0 v1 r : Verdict}
+      → v0 ≡ line_at 0 order= (Must (Digits 15)) true ts
+      → v1 ≡ line_at 1 group= (Must (Capitals 8)) true ts
+      → r ≡ and_then v0 v1 → VerdictOn (lines Obr) ts r
+  unfolding table
+  order_is {v0} {v1} {r} e0 e1 e = rw e (plain _ _ ts v0 v1 group= _ (plain [] _ ts (Ok tt) v0 order= _ (on_none ts) refl refl e0) refl refl e1)
+
+  pub item-is : {v0 v1 v2 r : Verdict}
+      → v0 ≡ line_at 0 item= (Must (Capitals 17)) true ts
+      → v1 ≡ line_at 1 name= (May (Text 48)) true ts
+      → v2 ≡ line_at 2 type= (Must (OneOf Types)) true ts
+      → r ≡ and_then (and_then v0 v1) v2 → VerdictOn (take 3 (lines Obx)) ts r
+  unfolding table
+  item-is {v0} {v1} {v2} {r} e0 e1 e2 e =
+      let p0 = plain [] _ ts (Ok tt) v0 item= _ (on_none ts) refl refl e0 in
       let p1 = plain _ _ ts v0 v1 name= _ p0 refl refl e1 in
-      plain _ _ ts v1 r type= _ p1 refl refl e2
+      rw e (plain _ _ ts (and_then v0 v1) v2 type= _ p1 refl refl e2)
 
   -- the four parts
-  pub parts_is : (kind : List ℕ) (also : Bool) (rules : Parts) → kind ≡ at 2 5 → also ≡ joined (parts_of ts) → rules_of rules ≡ value_rules kind
-      → (v2 v3 v4 v5 r : Verdict) → VerdictOn (take 3 (lines Obx)) ts v2
-      → v3 ≡ and_then v2 (line_at 3 compare= (May rules.compare) true ts)
-      → v4 ≡ and_then v3 (line_at 4 value= (May rules.value) true ts)
-      → v5 ≡ and_then v4 (line_at 5 join= (May rules.join) true ts)
-      → r ≡ and_then v5 (line_at 6 second= (May rules.second) also ts) → VerdictOn (take 7 (lines Obx)) ts r
+  pub parts_is : {kind : List ℕ} {also : Bool} (rules : Rules) → kind ≡ at 2 5 → also ≡ joined (parts_of ts) → rules_of rules ≡ value_rules kind → VerdictOn (take 3 (lines Obx)) ts (Ok tt)
+      → {v3 v4 v5 v6 r : Verdict}
+      → v3 ≡ line_at 3 compare= (May rules.compare) true ts
+      → v4 ≡ line_at 4 value= (May rules.value) true ts
+      → v5 ≡ line_at 5 join= (May rules.join) true ts
+      → v6 ≡ line_at 6 second= (May rules.second) also ts
+      → r ≡ and_then (and_then (and_then v3 v4) v5) v6 → VerdictOn (take 7 (lines Obx)) ts r
   unfolding table
-  parts_is kind also rules ek ea er v2 v3 v4 v5 r p e3 e4 e5 e6 =
+  parts_is {kind} {also} rules ek ea er p {v3} {v4} {v5} {v6} {r} e3 e4 e5 e6 e =
       let own : rules_of rules ≡ value_rules (at 2 5) = er ∙ ap value_rules ek in
-      let p3 = goes _ _ ts v2 v3 compare= _ p refl (ap (λ (f : Four Rule). fits false f.compare (at 3 8) && true) own) e3 in
+      let p3 = goes _ _ ts (Ok tt) v3 compare= _ p refl (ap (λ (f : Four Rule). fits false f.compare (at 3 8) && true) own) e3 in
       let p4 = goes _ _ ts v3 v4 value= _ p3 refl (ap (λ (f : Four Rule). fits false f.value (at 4 6) && true) own) e4 in
-      let p5 = goes _ _ ts v4 v5 join= _ p4 refl (ap (λ (f : Four Rule). fits false f.join (at 5 5) && true) own) e5 in
-      goes _ _ ts v5 r second= _ p5 refl (ap (λ (f : Four Rule). fits false f.second (at 6 7) && also) own ∙ ap (λ (b : Bool). fits false (value_rules (at 2 5)).second (at 6 7) && b) ea) e6
+      let p5 = goes _ _ ts (and_then v3 v4) v5 join= _ p4 refl (ap (λ (f : Four Rule). fits false f.join (at 5 5) && true) own) e5 in
+      rw e (goes _ _ ts (and_then (and_then v3 v4) v5) v6 second= _ p5 refl (ap (λ (f : Four Rule). fits false f.second (at 6 7) && also) own ∙ ap (λ (b : Bool). fits false (value_rules (at 2 5)).second (at 6 7) && b) ea) e6)
 
-  module _ (c v j s : List ℕ) (ec : c ≡ at 3 8) (ev : v ≡ at 4 6) (ej : j ≡ at 5 5) (es : s ≡ at 6 7) where
-    four : four_of c v j s ≡ parts_of ts
-    unfolding table
-    four = rw (ec, ev, ej, es)
-
-    pub parts-joined : (also : Bool) → also ≡ joined (four_of c v j s) → also ≡ joined (parts_of ts)
-    parts-joined also e = e ∙ ap joined four
-
-    pub status-agrees : (t : List ℕ) (met : Bool) → t ≡ at 9 7 → met ≡ agrees t (four_of c v j s) → met ≡ agrees (status_of ts) (parts_of ts)
-    unfolding table
-    status-agrees t met e f = f ∙ ap (agrees t) four ∙ ap (λ (u : List ℕ). agrees u (parts_of ts)) e
-
-  pub standing-is : (met : Bool) → met ≡ agrees (status_of ts) (parts_of ts) → (v6 v7 v8 r : Verdict) → VerdictOn (take 7 (lines Obx)) ts v6
-      → v7 ≡ and_then v6 (line_at 7 unit= (May (Text 20)) true ts)
-      → v8 ≡ and_then v7 (line_at 8 flag= (May (OneOf Flags)) true ts)
-      → r ≡ and_then v8 (line_at 9 status= (Must (OneOf Statuses)) met ts) → VerdictOn (lines Obx) ts r
+  pub four-are : (p : Obx5) → p.compare.now ≡ at 3 8 → p.value.now ≡ at 4 6 → p.join.now ≡ at 5 5 → p.second.now ≡ at 6 7 → four_of p ≡ parts_of ts
   unfolding table
-  standing-is met e v6 v7 v8 r p e7 e8 e9 =
-      let p7 = plain _ _ ts v6 v7 unit= _ p refl refl e7 in
+  four-are p ec ev ej es = rw (ec, ev, ej, es)
+
+  pub status-is : {t : List ℕ} → t ≡ at 9 7 → t ≡ status_of ts
+  unfolding table
+  status-is {t} e = e
+
+  pub standing-is : {met : Bool} → met ≡ agrees (status_of ts) (parts_of ts) → VerdictOn (take 7 (lines Obx)) ts (Ok tt) → {v7 v8 v9 r : Verdict}
+      → v7 ≡ line_at 7 unit= (May (Text 20)) true ts
+      → v8 ≡ line_at 8 flag= (May (OneOf Flags)) true ts
+      → v9 ≡ line_at 9 status= (Must (OneOf Statuses)) met ts
+      → r ≡ and_then (and_then v7 v8) v9 → VerdictOn (lines Obx) ts r
+  unfolding table
+  standing-is {met} e p {v7} {v8} {v9} {r} e7 e8 e9 f =
+      let p7 = plain _ _ ts (Ok tt) v7 unit= _ p refl refl e7 in
       let p8 = plain _ _ ts v7 v8 flag= _ p7 refl refl e8 in
-      goes _ _ ts v8 r status= _ p8 refl (ap (λ (b : Bool). fits true (rule_of (OneOf Statuses)) (at 9 7) && b) e) e9
+      rw f (goes _ _ ts (and_then v7 v8) v9 status= _ p8 refl (ap (λ (b : Bool). fits true (rule_of (OneOf Statuses)) (at 9 7) && b) e) e9)
+
+  pub item-wrong : {f : LineFault} → VerdictOn (take 3 (lines Obx)) ts (Err f) → VerdictOn (lines Obx) ts (Err f)
+  unfolding table
+  item-wrong {f} p = on-wrong _ _ ts f p
+
+  pub parts-wrong : {f : LineFault} → VerdictOn (take 7 (lines Obx)) ts (Err f) → VerdictOn (lines Obx) ts (Err f)
+  unfolding table
+  parts-wrong {f} p = on-wrong _ _ ts f p
 
 -- ---- a group by its name
-pub group-is : (n x : Name) (ts : List (List ℕ)) (r : Verdict) → n ≡ x → VerdictOn (lines x) ts r → VerdictOn (lines n) ts r
-group-is n x ts r e p = rw e p
-
-pub group-none : (n x : Name) (ts : List (List ℕ)) → n ≡ x → lines x ≡ [] → VerdictOn (lines n) ts Fine
-group-none n x ts e l = rw (e, l) (on_none ts)
-
-pub count-is : (n x : Name) (r : ℕ) → n ≡ x → r ≡ length (lines x) → r ≡ length (lines n)
-count-is n x r e h = h ∙ ap (λ (m : Name). length (lines m)) (sym e)
+-- a group that has no lines
+pub group-none : (n : Name) (ts : List (List ℕ)) → (n ≡ Orc) ⊎ (n ≡ Other) → VerdictOn (lines n) ts (Ok tt)
+unfolding lines
+group-none n ts (inl e) = rw e (on_none ts)
+group-none n ts (inr e) = rw e (on_none ts)
 
 -- no group has more than ten lines
 pub lines-few : (g : Name) → length (lines g) ≤ 10

@@ -14,9 +14,10 @@ use Rattle.rules.specs.Row.{Line}
 use Rattle.rules.specs.Sheet.{key_of, line_ok, line_told, group_told}
 use Rattle.rules.proofs.Logic.{cases, told_cases, not-given}
 use Rattle.rules.proofs.Lists.{here, over}
-use Rattle.lines.specs.declared.Verdict.{Verdict}
-use Rattle.lines.specs.declared.Verdict.TheVariants.{Fine, Key, Value}
-use Rattle.lines.specs.Lines.{and_then, line_as}
+use Rattle.std.specs.Prelude.{Ok, Err}
+use Rattle.lines.specs.declared.LineFault.{LineFault}
+use Rattle.lines.specs.declared.LineFault.TheVariants.{Key, Value}
+use Rattle.lines.specs.Lines.{Verdict, and_then, line_as}
 use Rattle.groups.specs.Groups.{values_from, told_of, index_of, VerdictOn}
 
 -- ---- lines one after another
@@ -82,7 +83,7 @@ values-more l [] k ts = let z : k + 0 ≡ k = omega arith in rw z
 values-more l (m ∷ ls) k ts = let z : suc k + length ls ≡ k + suc (length ls) = omega arith in rw (values-more l ls (suc k) ts, z)
 
 -- ---- the verdict
-pub on_none : (ts : List (List ℕ)) → VerdictOn [] ts Fine
+pub on_none : (ts : List (List ℕ)) → VerdictOn [] ts (Ok tt)
 unfolding values_from group_told index_of
 on_none ts = record { told = λ i. refl; within = omega arith }
 
@@ -97,30 +98,35 @@ module _ (ls : List Line) (l : Line) (ts : List (List ℕ)) where
   this = line_as (length ls) (key_of l) (l.holds (old ++ (w ∷ [])) w) (nth ts (length ls))
 
   goes : (before : Verdict) (i : ℕ) → told_of before i old ≡ group_told ls [] i ts → told_of (and_then before this) i (old ++ (w ∷ [])) ≡ group_told (ls ++ (l ∷ [])) [] i ts
-  unfolding and_then
-  goes Fine i e = sym (group-append ls (l ∷ []) [] i ts ∙ rw (← e) (one_line l old i (length ls) ts))
-  goes (Key k) i e = sym (group-append ls (l ∷ []) [] i ts ∙ rw (← e))
-  goes (Value k) i e = sym (group-append ls (l ∷ []) [] i ts ∙ rw (← e))
+  goes (Ok tt) i e = sym (group-append ls (l ∷ []) [] i ts ∙ rw (← e) (one_line l old i (length ls) ts))
+  goes (Err (Key k)) i e = sym (group-append ls (l ∷ []) [] i ts ∙ rw (← e))
+  goes (Err (Value k)) i e = sym (group-append ls (l ∷ []) [] i ts ∙ rw (← e))
 
   this-within : index_of this ≤ length ls
   unfolding index_of line_as line_ok
   this-within = go (starts (key_of l) (nth ts (length ls))) (line_ok l old w)
     where
-      go : (a b : Bool) → index_of (cond a (cond b Fine (Value (length ls))) (Key (length ls))) ≤ length ls
+      go : (a b : Bool) → index_of (cond a (cond b (Ok tt) (Err (Value (length ls)))) (Err (Key (length ls)))) ≤ length ls
       go true true = omega arith
       go true false = omega arith
       go false b = omega arith
 
   then-within : (before : Verdict) → index_of before ≤ length ls → index_of (and_then before this) ≤ length (ls ++ (l ∷ []))
-  unfolding and_then index_of
-  then-within Fine h = omega (arith, this-within, length-append ls (l ∷ []))
-  then-within (Key k) h = omega (arith, length-append ls (l ∷ []))
-  then-within (Value k) h = omega (arith, length-append ls (l ∷ []))
+  unfolding index_of
+  then-within (Ok tt) h = omega (arith, this-within, length-append ls (l ∷ []))
+  then-within (Err (Key k)) h = omega (arith, length-append ls (l ∷ []))
+  then-within (Err (Value k)) h = omega (arith, length-append ls (l ∷ []))
 
   -- a line more
   pub on-more : (before r : Verdict) → VerdictOn ls ts before → r ≡ and_then before this → VerdictOn (ls ++ (l ∷ [])) ts r
   on-more before r p e =
       rw e (record { told = λ i. rw (values-more l ls 0 ts, zero-add (length ls)) (goes before i (p.told i)); within = then-within before p.within })
+
+-- lines more behind a fault change nothing
+pub on-wrong : (ls ms : List Line) (ts : List (List ℕ)) (f : LineFault) → VerdictOn ls ts (Err f) → VerdictOn (ls ++ ms) ts (Err f)
+unfolding index_of
+on-wrong ls ms ts (Key k) p = record { told = λ i. sym (group-append ls ms [] i ts ∙ rw (← p.told i)); within = omega (arith, p.within, length-append ls ms) }
+on-wrong ls ms ts (Value k) p = record { told = λ i. sym (group-append ls ms [] i ts ∙ rw (← p.told i)); within = omega (arith, p.within, length-append ls ms) }
 
 -- ---- lines that are read
 line-any : (i j : ℕ) (l : Line) (vs : List (List ℕ)) (t v : List ℕ) → line_told i l vs t ≡ gives v → (v ≡ drop (length (key_of l)) t) × (line_told j l vs t ≡ gives v)
@@ -148,6 +154,6 @@ read-any (l ∷ ls) vs (t ∷ ts) ws i j h =
     rw (p.1, values-later ls 0 t ts, ← p.0) (read-any ls (vs ++ (v ∷ [])) ts ws (suc i) (suc j) (rw e at h) ∙ rw (append_assoc vs (v ∷ []) (values_from ls 0 ts))))
     (λ n s f e. not-given (rw e at h))
 
-pub on_fine : (ls : List Line) (ts ws : List (List ℕ)) (i : ℕ) → group_told ls [] i ts ≡ gives ws → VerdictOn ls ts Fine
+pub on_fine : (ls : List Line) (ts ws : List (List ℕ)) (i : ℕ) → group_told ls [] i ts ≡ gives ws → VerdictOn ls ts (Ok tt)
 unfolding index_of
 on_fine ls ts ws i h = record { told = λ j. sym (read-any ls [] ts ws i j h); within = omega arith }

@@ -1,38 +1,28 @@
-// A sheet's groups, each judged line by line.
+// A sheet's groups, each judged line by line: the first fault counts.
 #![tactic(auto)]
 
-ghost use Rattle.std.specs.Prelude.{◌≡◌, ◌≤◌, length, take};
+ghost use Rattle.std.specs.Prelude.{◌≡◌, ◌≤◌, length, take, Ok};
 ghost use Rattle.rules.specs.Judge as Judge;
 ghost use Rattle.rules.specs.Row as Row;
 ghost use Rattle.rules.specs.Row.{lines};
 ghost use Rattle.rules.specs.Sheet.{lines_of};
-ghost use Rattle.lines.specs.Lines.{Cut};
 ghost use Rattle.groups.specs.Groups.{four_of, parts_of, status_of, VerdictOn};
 
-use lines::{Verdict, keys};
+use lines::{Group, LineFault, keys};
 use rules::Name;
 use value::Place::{May, Must};
 use value::{Rule, table};
 
 // ---- the header, the patient, the visit
 
-fn header(s: &[u8], at: &[usize; 11]) -> Verdict
-    requires { Cut 10 s.now at.now }
-    ensures { VerdictOn (lines Name.Msh) (lines_of s.now) result }
+fn header(g: &Group) -> Result<(), LineFault>
+    ensures { VerdictOn (lines Name.Msh) (lines_of g.now) result }
 {
-    let one = plain_bytes::equal(lines::value_at(s, at, 0, keys::VERSION.len()), b"1");
-    let version = lines::line_if(
-        Verdict::Fine,
-        s,
-        at,
-        0,
-        &keys::VERSION,
-        Must(Rule::Text(1)),
-        one,
-    );
-    let mode = lines::line(version, s, at, 1, &keys::MODE, table::MODE);
-    let sent = lines::line(mode, s, at, 2, &keys::SENT, table::SENT);
-    lines::line(sent, s, at, 3, &keys::CONTROL, table::CONTROL)
+    let one = plain_bytes::equal(g.value_at(0, keys::VERSION.len()), b"1");
+    g.line_if(0, &keys::VERSION, Must(Rule::Text(1)), one)?;
+    g.line(1, &keys::MODE, table::MODE)?;
+    g.line(2, &keys::SENT, table::SENT)?;
+    g.line(3, &keys::CONTROL, table::CONTROL)
 }
 
 // "A blank kanafamily needs a blank kanagiven".
@@ -43,150 +33,166 @@ fn kana_fits(family: &[u8], given: &[u8]) -> bool
 }
 
 // A patient's number and name, the first three lines.
-fn named(s: &[u8], at: &[usize; 11]) -> Verdict
-    requires { Cut 10 s.now at.now }
-    ensures { VerdictOn (take 3 (lines Name.Pid)) (lines_of s.now) result }
+fn named(g: &Group) -> Result<(), LineFault>
+    ensures { VerdictOn (take 3 (lines Name.Pid)) (lines_of g.now) result }
 {
-    let id = lines::line(Verdict::Fine, s, at, 0, &keys::PATIENT, table::PATIENT);
-    let family = lines::line(id, s, at, 1, &keys::FAMILY, Must(table::NAME));
-    lines::line(family, s, at, 2, &keys::GIVEN, May(table::NAME))
+    g.line(0, &keys::PATIENT, table::PATIENT)?;
+    g.line(1, &keys::FAMILY, Must(table::NAME))?;
+    g.line(2, &keys::GIVEN, May(table::NAME))
 }
 
 // The kana name, the next two.
-fn kana(before: Verdict, s: &[u8], at: &[usize; 11]) -> Verdict
-    requires { Cut 10 s.now at.now × VerdictOn (take 3 (lines Name.Pid)) (lines_of s.now) before }
-    ensures { VerdictOn (take 5 (lines Name.Pid)) (lines_of s.now) result }
+fn kana(g: &Group) -> Result<(), LineFault>
+    requires { VerdictOn (take 3 (lines Name.Pid)) (lines_of g.now) (Ok tt) }
+    ensures { VerdictOn (take 5 (lines Name.Pid)) (lines_of g.now) result }
 {
     let also = kana_fits(
-        lines::value_at(s, at, 3, keys::KANA_FAMILY.len()),
-        lines::value_at(s, at, 4, keys::KANA_GIVEN.len()),
+        g.value_at(3, keys::KANA_FAMILY.len()),
+        g.value_at(4, keys::KANA_GIVEN.len()),
     );
-    let family = lines::line(before, s, at, 3, &keys::KANA_FAMILY, May(table::NAME));
-    lines::line_if(family, s, at, 4, &keys::KANA_GIVEN, May(table::NAME), also)
+    g.line(3, &keys::KANA_FAMILY, May(table::NAME))?;
+    g.line_if(4, &keys::KANA_GIVEN, May(table::NAME), also)
 }
 
-fn patient(s: &[u8], at: &[usize; 11]) -> Verdict
-    requires { Cut 10 s.now at.now }
-    ensures { VerdictOn (lines Name.Pid) (lines_of s.now) result }
+fn patient(g: &Group) -> Result<(), LineFault>
+    ensures { VerdictOn (lines Name.Pid) (lines_of g.now) result }
 {
-    let names = kana(named(s, at), s, at);
-    let birth = lines::line(names, s, at, 5, &keys::BIRTH, table::BIRTH);
-    lines::line(birth, s, at, 6, &keys::SEX, table::SEX)
+    named(g)?;
+    kana(g)?;
+    g.line(5, &keys::BIRTH, table::BIRTH)?;
+    g.line(6, &keys::SEX, table::SEX)
 }
 
-fn visit(s: &[u8], at: &[usize; 11]) -> Verdict
-    requires { Cut 10 s.now at.now }
-    ensures { VerdictOn (lines Name.Pv1) (lines_of s.now) result }
+fn visit(g: &Group) -> Result<(), LineFault>
+    ensures { VerdictOn (lines Name.Pv1) (lines_of g.now) result }
 {
-    lines::line(Verdict::Fine, s, at, 0, &keys::CLASS, table::CLASS)
+    g.line(0, &keys::CLASS, table::CLASS)
 }
 
 // ---- a specimen, an order
 
-fn specimen(s: &[u8], at: &[usize; 11]) -> Verdict
-    requires { Cut 10 s.now at.now }
-    ensures { VerdictOn (lines Name.Spm) (lines_of s.now) result }
+fn specimen(g: &Group) -> Result<(), LineFault>
+    ensures { VerdictOn (lines Name.Spm) (lines_of g.now) result }
 {
-    let kind = lines::line(Verdict::Fine, s, at, 0, &keys::SPECIMEN, table::SPECIMEN);
-    lines::line(kind, s, at, 1, &keys::COLLECTED, table::COLLECTED)
+    g.line(0, &keys::SPECIMEN, table::SPECIMEN)?;
+    g.line(1, &keys::COLLECTED, table::COLLECTED)
 }
 
-fn order(s: &[u8], at: &[usize; 11]) -> Verdict
-    requires { Cut 10 s.now at.now }
-    ensures { VerdictOn (lines Name.Obr) (lines_of s.now) result }
+fn order(g: &Group) -> Result<(), LineFault>
+    ensures { VerdictOn (lines Name.Obr) (lines_of g.now) result }
 {
-    let id = lines::line(Verdict::Fine, s, at, 0, &keys::ORDER, table::ORDER);
-    lines::line(id, s, at, 1, &keys::GROUP, table::GROUP)
+    g.line(0, &keys::ORDER, table::ORDER)?;
+    g.line(1, &keys::GROUP, table::GROUP)
 }
 
 // ---- a result
 
-// "a missing joiner, and an SN whose value is blank beside a filled compare, join or second"
-fn joined(compare: &[u8], value: &[u8], join: &[u8], second: &[u8]) -> bool
-    ensures { result ≡ Row.joined (four_of compare.now value.now join.now second.now) }
-{
-    let beside = value::beside(compare.len() != 0, join.len() != 0, second.len() != 0);
-    let unjoined = value::unjoined(join.len() != 0, second.len() != 0);
-    !unjoined & ((value.len() != 0) | !beside)
+// What a sheet says of the four parts of OBX-5.
+#[derive(Clone, Copy)]
+struct Obx5<'a> {
+    compare: &'a [u8],
+    value: &'a [u8],
+    join: &'a [u8],
+    second: &'a [u8],
 }
 
-// "Status F, P or C needs a value (for SN its first number); I or X needs OBX-5 empty in every component."
-fn agrees(status: &[u8], compare: &[u8], value: &[u8], join: &[u8], second: &[u8]) -> bool
-    ensures { result ≡ Judge.agrees status.now (four_of compare.now value.now join.now second.now) }
-{
-    let beside = value::beside(compare.len() != 0, join.len() != 0, second.len() != 0);
-    value::agrees(status, value.len() != 0, beside)
+impl<'a> Obx5<'a> {
+    fn of(g: &Group<'a>) -> Obx5<'a>
+        ensures { four_of result ≡ parts_of (lines_of g.now) }
+    {
+        Obx5 {
+            compare: g.value_at(3, keys::COMPARE.len()),
+            value: g.value_at(4, keys::VALUE.len()),
+            join: g.value_at(5, keys::JOIN.len()),
+            second: g.value_at(6, keys::SECOND.len()),
+        }
+    }
+
+    // Whether a part beside the value is filled.
+    fn beside(&self) -> bool
+        ensures { result ≡ Judge.beside (four_of self.now) }
+    {
+        value::beside(
+            self.compare.len() != 0,
+            self.join.len() != 0,
+            self.second.len() != 0,
+        )
+    }
+
+    // "a missing joiner, and an SN whose value is blank beside a filled compare, join or second"
+    fn joined(&self) -> bool
+        ensures { result ≡ Row.joined (four_of self.now) }
+    {
+        let unjoined = value::unjoined(self.join.len() != 0, self.second.len() != 0);
+        !unjoined & ((self.value.len() != 0) | !self.beside())
+    }
+
+    // "Status F, P or C needs a value (for SN its first number); I or X needs OBX-5 empty in every component."
+    fn agrees(&self, status: &[u8]) -> bool
+        ensures { result ≡ Judge.agrees status.now (four_of self.now) }
+    {
+        value::agrees(status, self.value.len() != 0, self.beside())
+    }
 }
 
 // Its first three lines.
-fn item(s: &[u8], at: &[usize; 11]) -> Verdict
-    requires { Cut 10 s.now at.now }
-    ensures { VerdictOn (take 3 (lines Name.Obx)) (lines_of s.now) result }
+fn item(g: &Group) -> Result<(), LineFault>
+    ensures { VerdictOn (take 3 (lines Name.Obx)) (lines_of g.now) result }
 {
-    let code = lines::line(Verdict::Fine, s, at, 0, &keys::ITEM, table::ITEM);
-    let name = lines::line(code, s, at, 1, &keys::NAME, table::ITEM_NAME);
-    lines::line(name, s, at, 2, &keys::TYPE, table::TYPE)
+    g.line(0, &keys::ITEM, table::ITEM)?;
+    g.line(1, &keys::NAME, table::ITEM_NAME)?;
+    g.line(2, &keys::TYPE, table::TYPE)
 }
 
 // The four parts of OBX-5, the next four: each has the rule of its type.
-fn parts(before: Verdict, s: &[u8], at: &[usize; 11], also: bool) -> Verdict
-    requires { Cut 10 s.now at.now × VerdictOn (take 3 (lines Name.Obx)) (lines_of s.now) before × (also ≡ Row.joined (parts_of (lines_of s.now))) }
-    ensures { VerdictOn (take 7 (lines Name.Obx)) (lines_of s.now) result }
+fn parts(g: &Group, also: bool) -> Result<(), LineFault>
+    requires { VerdictOn (take 3 (lines Name.Obx)) (lines_of g.now) (Ok tt) × (also ≡ Row.joined (parts_of (lines_of g.now))) }
+    ensures { VerdictOn (take 7 (lines Name.Obx)) (lines_of g.now) result }
 {
-    let rules = value::part_rules(lines::value_at(s, at, 2, keys::TYPE.len()));
-    let compare_rule = rules.compare;
-    let value_rule = rules.value;
-    let join_rule = rules.join;
-    let second_rule = rules.second;
-    let compare = lines::line(before, s, at, 3, &keys::COMPARE, May(compare_rule));
-    let value = lines::line(compare, s, at, 4, &keys::VALUE, May(value_rule));
-    let join = lines::line(value, s, at, 5, &keys::JOIN, May(join_rule));
-    lines::line_if(join, s, at, 6, &keys::SECOND, May(second_rule), also)
+    let rules = value::part_rules(g.value_at(2, keys::TYPE.len()));
+    g.line(3, &keys::COMPARE, May(rules.compare))?;
+    g.line(4, &keys::VALUE, May(rules.value))?;
+    g.line(5, &keys::JOIN, May(rules.join))?;
+    g.line_if(6, &keys::SECOND, May(rules.second), also)
 }
 
 // Unit, flag and status, the last three.
-fn standing(before: Verdict, s: &[u8], at: &[usize; 11], met: bool) -> Verdict
-    requires { Cut 10 s.now at.now × VerdictOn (take 7 (lines Name.Obx)) (lines_of s.now) before × (met ≡ Judge.agrees (status_of (lines_of s.now)) (parts_of (lines_of s.now))) }
-    ensures { VerdictOn (lines Name.Obx) (lines_of s.now) result }
+fn standing(g: &Group, met: bool) -> Result<(), LineFault>
+    requires { VerdictOn (take 7 (lines Name.Obx)) (lines_of g.now) (Ok tt) × (met ≡ Judge.agrees (status_of (lines_of g.now)) (parts_of (lines_of g.now))) }
+    ensures { VerdictOn (lines Name.Obx) (lines_of g.now) result }
 {
-    let unit = lines::line(before, s, at, 7, &keys::UNIT, table::UNIT);
-    let flag = lines::line(unit, s, at, 8, &keys::FLAG, table::FLAG);
-    lines::line_if(flag, s, at, 9, &keys::STATUS, table::STATUS, met)
+    g.line(7, &keys::UNIT, table::UNIT)?;
+    g.line(8, &keys::FLAG, table::FLAG)?;
+    g.line_if(9, &keys::STATUS, table::STATUS, met)
 }
 
-fn result(s: &[u8], at: &[usize; 11]) -> Verdict
-    requires { Cut 10 s.now at.now }
-    ensures { VerdictOn (lines Name.Obx) (lines_of s.now) result }
+fn result(g: &Group) -> Result<(), LineFault>
+    ensures { VerdictOn (lines Name.Obx) (lines_of g.now) result }
 {
-    let compare = lines::value_at(s, at, 3, keys::COMPARE.len());
-    let value = lines::value_at(s, at, 4, keys::VALUE.len());
-    let join = lines::value_at(s, at, 5, keys::JOIN.len());
-    let second = lines::value_at(s, at, 6, keys::SECOND.len());
-    let status = lines::value_at(s, at, 9, keys::STATUS.len());
-    let also = joined(compare, value, join, second);
-    let met = agrees(status, compare, value, join, second);
-    standing(parts(item(s, at), s, at, also), s, at, met)
+    let said = Obx5::of(g);
+    item(g)?;
+    parts(g, said.joined())?;
+    standing(g, said.agrees(g.value_at(9, keys::STATUS.len())))
 }
 
 // ---- any group
 
-pub fn group(name: Name, s: &[u8], at: &[usize; 11]) -> Verdict
-    requires { Cut 10 s.now at.now }
-    ensures { VerdictOn (lines name) (lines_of s.now) result }
+pub fn group(name: Name, g: &Group) -> Result<(), LineFault>
+    ensures { VerdictOn (lines name) (lines_of g.now) result }
 {
     match name {
-        Name::Msh => header(s, at),
-        Name::Pid => patient(s, at),
-        Name::Pv1 => visit(s, at),
-        Name::Spm => specimen(s, at),
-        Name::Obr => order(s, at),
-        Name::Orc => Verdict::Fine,
-        Name::Obx => result(s, at),
-        Name::Other => Verdict::Fine,
+        Name::Msh => header(g),
+        Name::Pid => patient(g),
+        Name::Pv1 => visit(g),
+        Name::Spm => specimen(g),
+        Name::Obr => order(g),
+        Name::Obx => result(g),
+        Name::Orc | Name::Other => Ok(()),
     }
 }
 
 // How many lines it has.
+#[tactic(auto, unfolding(rules::specs::Row::lines))]
 pub fn lines_in(name: Name) -> usize
     ensures { (result ≡ length (lines name)) × (result ≤ 10) }
 {
@@ -196,8 +202,7 @@ pub fn lines_in(name: Name) -> usize
         Name::Pv1 => 1,
         Name::Spm => 2,
         Name::Obr => 2,
-        Name::Orc => 0,
         Name::Obx => 10,
-        Name::Other => 0,
+        Name::Orc | Name::Other => 0,
     }
 }

@@ -1,6 +1,6 @@
 -- The laws of a sheet's lines. Assumes nothing.
 use mathlib.Core.Path.{◌≡◌, refl, sym, subst, ap, ◌∙◌}
-use mathlib.Core.Bool.{Bool, true, false, not, ◌&&◌}
+use mathlib.Core.Bool.{Bool, true, false, not, ◌&&◌, ◌||◌}
 use mathlib.Core.List.{List, [], ◌∷◌, ◌++◌, append_assoc}
 use Prim.Native.Nat.{ℕ, suc, ◌+◌, ◌-◌, ◌≤◌, ◌<◌}
 use native.Mathlib.Omega.{arith}
@@ -9,23 +9,22 @@ use lib.Dec.{eqb}
 use lib.ListN.{length, take, drop, get_or, set, length-set, length-take, length-drop}
 use lib.Seq.{drop-drop, get_or-drop, get_or-set_same, get_or-set_other}
 use Rattle.rules.specs.Lists.{bytes, empty, filled, nth, same, starts, split, all_but_last, last, ended}
-use Rattle.rules.specs.Value.{fits}
 use Rattle.rules.specs.Sheet.{lines_of}
-use Rattle.rules.proofs.Logic.{cases, never, not-true, not-false}
-use Rattle.rules.proofs.Lists.{over, rest-is, rest-inside, take_own}
+use Rattle.std.specs.Prelude.{cond, Result, Ok, Err}
+use Rattle.std.specs.Result.{IsErrAnd}
+use Rattle.std.proofs.lemmas.Result.{err_from_is_err_and}
+use Rattle.std.specs.Str.{bytes_eq}
+use Rattle.rules.proofs.Logic.{eqb-sym, cases, never, zero_cases}
+use Rattle.rules.proofs.Lists.{empty-zero, rest-is, rest-inside, take_own}
 use Rattle.rules.proofs.Split.{but_last-split, ended-split}
 use Rattle.plain_bytes.specs.Bytes.{until, is_byte}
 use Rattle.scan.proofs.Laws.{until-rest}
 use Rattle.value.specs.declared.Fault.{Fault}
-use Rattle.value.specs.declared.Place.{Place}
-use Rattle.value.specs.declared.Place.TheVariants.{Unread, Must, May}
-use Rattle.value.specs.declared.Rule.{Rule as Coded}
-use Rattle.value.specs.Rules.{fault_no, fine_of, rule_of}
+use Rattle.value.specs.Rules.{fault_no, fine_of}
 use Rattle.plain_bytes.proofs.Laws.{split-last, split-more}
 use Rattle.value.proofs.Laws.{fine-zero, fault-some}
-use Rattle.lines.specs.declared.Verdict.{Verdict}
-use Rattle.lines.specs.declared.Verdict.TheVariants.{Fine, Key, Value}
-use Rattle.lines.specs.Lines.{behind_line, Cut, fits_place, and_then, is_fine, line_as, line_at}
+use Rattle.lines.specs.declared.LineFault.TheVariants.{Key, Value}
+use Rattle.lines.specs.Lines.{behind_line, Cut, line_as}
 
 -- ---- lines by their 0A
 none : (s : List ℕ) → length (until (is_byte 0x0A) s) ≡ length s → lines_of s ≡ []
@@ -137,12 +136,9 @@ module _ (s at : List ℕ) (i r : ℕ) (c : Cut i s at) (h : i < 10)
   pub cut_on : Cut (i + 1) s (set at (i + 1) r)
   cut_on = record { size = length-set at (i + 1) r ∙ c.size; start = old 0 (omega arith) ∙ c.start; within = more_within; from = more-from; next = more-next }
 
--- the last place found is one of the text; ten are all
+-- the last place found is one of the text
 pub cut-place : (s at : List ℕ) (i : ℕ) → Cut i s at → get_or at i 0 ≤ length s
 cut-place s at i c = c.within i (omega arith)
-
-pub cut-ends : (s at : List ℕ) (i : ℕ) → Cut i s at → i ≤ 10 → 10 ≤ i → Cut 10 s at
-cut-ends s at i c h g = let z : i ≡ 10 = omega arith in subst (λ (m : ℕ). Cut m s at) z c
 
 -- the place behind a first line is not the start
 behind-zero : (ls : List (List ℕ)) (p : ℕ) → p ≡ behind_line ls 0 → not (eqb p 0) ≡ filled ls
@@ -193,57 +189,69 @@ module _ (s at : List ℕ) (k : ℕ) (c : Cut 10 s at) (h : k < 10) where
     pub line-between : take (get_or at (k + 1) 0 - 1 - get_or at k 0) (drop (get_or at k 0) s) ≡ nth (lines_of s) k
     line-between = (between (drop k (lines_of s)) (c.from k (omega arith)) (c.next k h)).1 ∙ nth-first
 
+-- what stands behind some lines is shorter, where there are any
+pub behind-shorter : (s at : List ℕ) (n : ℕ) → Cut 10 s at → n ≤ 10 → filled (lines_of s) ≡ true → 0 < n → length (take (length s - get_or at n 0) (drop (get_or at n 0) s)) < length s
+behind-shorter s at n c w f h =
+    zero_cases (get_or at n 0)
+    (λ z. absurd (omega (arith, filled-length f, ap length (ap (λ (k : ℕ). lines_of (drop k s)) (sym z) ∙ c.from n w), length-drop n (lines_of s))))
+    (λ k e. omega (arith, e, c.within n w, ap length (rest-is s (get_or at n 0)), length-drop (get_or at n 0) s))
+  where
+    filled-length : filled (lines_of s) ≡ true → 0 < length (lines_of s)
+    filled-length f = zero_cases (length (lines_of s)) (λ z. never (sym f ∙ ap not (empty-zero (lines_of s) z))) (λ k e. omega arith)
+
 -- a part is no longer than the whole
 pub part-short : (s : List ℕ) (a n : ℕ) → length (take n (drop a s)) ≤ length s
 part-short s a n = simp (length-take, length-drop) (omega arith)
 
 -- ---- a key
-starts-front : (key t : List ℕ) → length key ≤ length t → same (take (length key) t) key ≡ starts key t
-unfolding starts same
-starts-front [] t h = refl
-starts-front (a ∷ key) [] h = absurd (omega arith)
-starts-front (a ∷ key) (b ∷ t) h = cases (eqb b a) (λ e. rw (e, same, starts) (starts-front key t (omega arith))) (λ e. rw (e, same, starts))
+-- `==` of the library compares as `same` does
+same-is : (s t : List ℕ) → bytes_eq s t ≡ same s t
+unfolding same
+same-is [] [] = refl
+same-is [] (b ∷ t) = refl
+same-is (a ∷ s) [] = refl
+same-is (a ∷ s) (b ∷ t) = cases (eqb a b) (λ e. rw (e, same) (same-is s t)) (λ e. rw (e, same))
 
-pub starts_is : (key t : List ℕ) (r : Bool) → length key ≤ length t → r ≡ same (take (length key) t) key → r ≡ starts key t
-starts_is key t r h e = e ∙ starts-front key t h
-
-pub starts-within : (key t : List ℕ) → starts key t ≡ true → length key ≤ length t
+prefix-is : (key t : List ℕ) → bytes_eq (take (length key) t) key ≡ starts key t
 unfolding starts
-starts-within [] t h = omega arith
-starts-within (a ∷ key) [] h = never (sym h)
-starts-within (a ∷ key) (b ∷ t) h = cases (eqb b a) (λ e. omega (arith, starts-within key t (rw (e, starts) at h))) (λ e. never (sym (rw (e, starts) at h)))
+prefix-is [] t = refl
+prefix-is (a ∷ key) [] = refl
+prefix-is (a ∷ key) (b ∷ t) = cases (eqb b a) (λ e. rw (e, starts) (prefix-is key t)) (λ e. rw (e, starts))
 
--- ---- verdicts
-pub fine-is : (v x : Verdict) (r : Bool) → v ≡ x → r ≡ is_fine x → r ≡ is_fine v
-fine-is v x r e h = cc
-
-pub first-is : (a b x r : Verdict) → a ≡ x → r ≡ and_then x b → r ≡ and_then a b
-first-is a b x r e h = cc
+-- what the library's `starts_with` says
+pub starts_is : (key t : List ℕ) → bytes_eq key (take (length key) t) ≡ starts key t
+unfolding starts
+starts_is [] t = refl
+starts_is (a ∷ key) [] = refl
+starts_is (a ∷ key) (b ∷ t) = cases (eqb b a) (λ e. rw (eqb-sym a b, e, starts) (starts_is key t)) (λ e. rw (eqb-sym a b, e, starts))
 
 -- ---- one line
-module _ (before : Verdict) (k : ℕ) (key : List ℕ) (good : Bool) (t : List ℕ) (q : Bool) (r : Verdict) (f : q ≡ starts key t) where
-  pub key-room : not q ≡ false → length key ≤ length t
-  key-room h = starts-within key t (sym f ∙ not-false q h)
-
-  pub line-key : not q ≡ true → r ≡ and_then before (Key k) → r ≡ and_then before (line_as k key good t)
+module _ (k : ℕ) (key : List ℕ) (good : Bool) (t : List ℕ) where
+  pub line-key : bytes_eq (take (length key) t) key ≡ false → Err (Key k) ≡ line_as k key good t
   unfolding line_as
-  line-key h g = g ∙ rw (← f, not-true q h)
+  line-key h = rw (← prefix-is key t, h)
 
-  module _ (u : Bool) (n : u ≡ same (take (length t - length key) (drop (length key) t)) (34 ∷ 34 ∷ [])) (h : not q ≡ false) where
-    null : same (drop (length key) t) (34 ∷ 34 ∷ []) ≡ u
-    null = sym (n ∙ ap (λ (v : List ℕ). same v (34 ∷ 34 ∷ [])) (rest-is t (length key)))
-
-    pub line-null : u ≡ true → r ≡ and_then before (Value k) → r ≡ and_then before (line_as k key good t)
+  module _ (v : List ℕ) (h : bytes_eq (take (length key) t) key ≡ true) (e : v ≡ drop (length key) t) where
+    line-found : line_as k key good t ≡ cond (not (bytes_eq v (34 ∷ 34 ∷ [])) && good) (Ok tt) (Err (Value k))
     unfolding line_as bytes
-    line-null j g = g ∙ rw (← f, not-false q h, null, j)
+    line-found = rw (← prefix-is key t, h, ← e, same-is v (34 ∷ 34 ∷ []))
 
-    pub line-bad : u ≡ false → not good ≡ true → r ≡ and_then before (Value k) → r ≡ and_then before (line_as k key good t)
-    unfolding line_as bytes
-    line-bad j b g = g ∙ rw (← f, not-false q h, null, j, not-true good b)
+    pub line-bad : (not good || bytes_eq v (34 ∷ 34 ∷ [])) ≡ true → Err (Value k) ≡ line_as k key good t
+    line-bad = bad good (bytes_eq v (34 ∷ 34 ∷ [])) line-found
+      where
+        bad : (g u : Bool) → line_as k key good t ≡ cond (not u && g) (Ok tt) (Err (Value k)) → (not g || u) ≡ true → Err (Value k) ≡ line_as k key good t
+        bad true true f h = rw f
+        bad true false f h = never (sym h)
+        bad false true f h = rw f
+        bad false false f h = rw f
 
-    pub line-good : u ≡ false → not good ≡ false → r ≡ and_then before Fine → r ≡ and_then before (line_as k key good t)
-    unfolding line_as bytes
-    line-good j b g = g ∙ rw (← f, not-false q h, null, j, not-false good b)
+    pub line-good : (not good || bytes_eq v (34 ∷ 34 ∷ [])) ≡ false → Ok tt ≡ line_as k key good t
+    line-good = fine good (bytes_eq v (34 ∷ 34 ∷ [])) line-found
+      where
+        fine : (g u : Bool) → line_as k key good t ≡ cond (not u && g) (Ok tt) (Err (Value k)) → (not g || u) ≡ false → Ok tt ≡ line_as k key good t
+        fine true true f h = never h
+        fine true false f h = rw f
+        fine false u f h = never h
 
 pub keeps-is : (f : Fault) (x : ℕ) (r : Bool) → r ≡ fine_of f → fault_no f ≡ x → r ≡ eqb x 0
 keeps-is f x r e h =
@@ -251,23 +259,6 @@ keeps-is f x r e h =
     (λ y. e ∙ y ∙ sym (eq-eqb x 0 (sym h ∙ fine-zero f y)))
     (λ y. e ∙ y ∙ sym (ne_eqb x 0 (λ z. absurd (omega (arith, h, z, fault-some f y)))))
 
-module _ (place : Place) (v : List ℕ) where
-  pub fits-unread : place ≡ Unread → true ≡ fits_place place v
-  fits-unread e = rw e
-
-  pub fits-must : (r : Coded) (q : Bool) → place ≡ Must r → q ≡ fits true (rule_of r) v → q ≡ fits_place place v
-  fits-must r q e h = rw e h
-
-  pub fits-may : (r : Coded) (q : Bool) → place ≡ May r → q ≡ fits false (rule_of r) v → q ≡ fits_place place v
-  fits-may r q e h = rw e h
-
-pub line-if-is : (before r : Verdict) (k : ℕ) (key : List ℕ) (ts : List (List ℕ)) (t v : List ℕ) (good also : Bool) (place : Place) → t ≡ nth ts k → v ≡ drop (length key) t → good ≡ fits_place place v
-    → r ≡ and_then before (line_as k key (good && also) t) → r ≡ and_then before (line_at k key place also ts)
-line-if-is before r k key ts t v good also place d e f g = rw (← d, ← e, ← f) g
-
--- what stands behind a key, and where the line ends within it
-pub value_none : (t : List ℕ) (n : ℕ) → length t < n → take (length t - length t) (drop (length t) t) ≡ drop n t
-value_none t n h = rest-is t (length t) ∙ over t (length t) (omega arith) ∙ sym (over t n (omega arith))
-
-pub value-is : (r t l : List ℕ) (n : ℕ) → r ≡ drop n t → t ≡ l → r ≡ drop n l
-value-is r t l n e f = e ∙ ap (drop n) f
+-- what the exit of a `?` returns, where the error stays as it is
+pub exit-is : {T E : Type 0} {r : Result T E} {f : E} → IsErrAnd r (λ x. x ≡ f) → r ≡ Err f
+exit-is {r = r} h = let p = err_from_is_err_and r h in p.1 ∙ ap Err p.2

@@ -1,13 +1,13 @@
 -- The lines of a sheet, found by their 0A, and the verdict on one of them.
-use Rattle.std.specs.Prelude.{Bool, true, false, cond, not, ◌&&◌, List, [], ◌∷◌, ◌≡◌, ℕ, ◌+◌, ◌≤◌, ◌<◌, length, drop, get_or}
-use Rattle.rules.specs.Lists.{bytes, nth, same, starts, filled}
+use Rattle.std.specs.Prelude.{Bool, true, false, cond, not, ◌&&◌, List, [], ◌∷◌, ◌≡◌, ℕ, ◌+◌, ◌≤◌, ◌<◌, length, drop, get_or, Result, Ok, Err}
+use Rattle.rules.specs.Lists.{bytes, nth, same, starts}
 use Rattle.rules.specs.Value.{fits}
 use Rattle.rules.specs.Sheet.{lines_of}
 use Rattle.value.specs.declared.Place.{Place}
 use Rattle.value.specs.declared.Place.TheVariants.{Unread, Must, May}
 use Rattle.value.specs.Rules.{rule_of}
-use Rattle.lines.specs.declared.Verdict.{Verdict}
-use Rattle.lines.specs.declared.Verdict.TheVariants.{Fine, Key, Value}
+use Rattle.lines.specs.declared.LineFault.{LineFault}
+use Rattle.lines.specs.declared.LineFault.TheVariants.{Key, Value}
 
 -- 40: "sheet over 65,536 bytes"
 abbrev pub longest_sheet : ℕ
@@ -26,20 +26,14 @@ pub record Cut (n : ℕ) (s at : List ℕ) : Type 0 where
   pub from : (k : ℕ) → k ≤ n → lines_of (drop (get_or at k 0) s) ≡ drop k (lines_of s)
   pub next : (k : ℕ) → k < n → get_or at (k + 1) 0 ≡ behind_line (drop k (lines_of s)) (get_or at k 0)
 
--- q says of any text whose lines have these places whether it has a line
-abbrev pub HasLine : Bool → List ℕ → Type 0
-HasLine q at = (s : List ℕ) → Cut 10 s at → q ≡ filled (lines_of s)
+-- on lines: no fault, or the first
+abbrev pub Verdict : Type 0
+Verdict = Result (Unit {0}) LineFault
 
 -- the first fault counts
-unfoldable pub and_then : Verdict → Verdict → Verdict
-and_then Fine w = w
-and_then (Key k) w = Key k
-and_then (Value k) w = Value k
-
-unfoldable pub is_fine : Verdict → Bool
-is_fine Fine = true
-is_fine (Key k) = false
-is_fine (Value k) = false
+abbrev pub and_then : Verdict → Verdict → Verdict
+and_then (Ok t) w = w
+and_then (Err f) w = Err f
 
 -- the rule of a place
 abbrev pub fits_place : Place → List ℕ → Bool
@@ -49,7 +43,7 @@ fits_place (May r) v = fits false (rule_of r) v
 
 -- the line t, the k-th of its group: "42 before 43"; good says that its value holds
 unfoldable pub line_as : ℕ → List ℕ → Bool → List ℕ → Verdict
-line_as k key good t = cond (starts key t) (cond (not (same (drop (length key) t) (bytes "\"\"")) && good) Fine (Value k)) (Key k)
+line_as k key good t = cond (starts key t) (cond (not (same (drop (length key) t) (bytes "\"\"")) && good) (Ok tt) (Err (Value k))) (Err (Key k))
 
 -- the k-th of the lines ts, whose value keeps the rule of a place, where `also` must hold too
 abbrev pub line_at : ℕ → List ℕ → Place → Bool → List (List ℕ) → Verdict

@@ -2,43 +2,22 @@
 #![tactic(auto)]
 
 ghost use Rattle.std.specs.Prelude.{◌≡◌, true, ◌+◌, ◌≤◌, ◌<◌, length, drop};
-ghost use Rattle.rules.specs.Lists.{nth};
-ghost use Rattle.rules.specs.Lists as Lists;
+ghost use Rattle.rules.specs.Lists.{filled, nth};
 ghost use Rattle.rules.specs.Value.{fits};
 ghost use Rattle.rules.specs.Sheet.{lines_of};
 ghost use Rattle.value.specs.Rules.{rule_of};
-ghost use Rattle.lines.specs.Lines.{fits_place, and_then, is_fine, line_as, line_at, behind_line, Cut, HasLine};
+ghost use Rattle.lines.specs.Lines.{fits_place, line_as, line_at, behind_line};
 
+use std::marker::Model;
 use value::{Place, Rule};
 
 pub mod keys;
 
-// On the lines of a group, by their place in it, from 0.
-#[derive(Clone, Copy)]
-pub enum Verdict {
-    Fine,
+// What is wrong with a line of a group: its key or its value. The line goes by its place in the group, from 0.
+#[derive(Clone, Copy, PartialEq, Eq)]
+pub enum LineFault {
     Key(usize), // 42
     Value(usize), // 43
-}
-
-pub fn fine(v: Verdict) -> bool
-    ensures { result ≡ is_fine v }
-{
-    match v {
-        Verdict::Fine => true,
-        Verdict::Key(_) => false,
-        Verdict::Value(_) => false,
-    }
-}
-
-fn first(a: Verdict, b: Verdict) -> Verdict
-    ensures { result ≡ and_then a b }
-{
-    match a {
-        Verdict::Fine => b,
-        Verdict::Key(k) => Verdict::Key(k),
-        Verdict::Value(k) => Verdict::Value(k),
-    }
 }
 
 // ---- lines
@@ -58,42 +37,10 @@ fn next_line(s: &[u8], at: usize) -> usize
     at + n + 1
 }
 
-// The places of the first ten lines, as many as the longest group has, and the place behind each.
-pub fn cut(s: &[u8]) -> [usize; 11]
-    ensures { Cut 10 s.now result }
-{
-    let mut at = [0; 11];
-    let mut i = 0;
-    while i < 10 {
-        at[i + 1] = next_line(s, at[i]);
-        i += 1;
-    }
-    at
-}
-
-// Whether a text whose lines have these places has a line.
-pub fn has_line(at: &[usize; 11]) -> bool
-    ensures { HasLine result at.now }
-{
-    at[1] != 0
-}
-
-// The k-th line of a group, from 0; empty where there are fewer.
-pub fn line_at<'a>(s: &'a [u8], at: &[usize; 11], k: usize) -> &'a [u8]
-    requires { Cut 10 s.now at.now × (k < 10) }
-    ensures { (result.now ≡ nth (lines_of s.now) k) × (length result.now ≤ length s.now) }
-{
-    let start = at[k];
-    let end = at[k + 1];
-    if end == start {
-        return &s[start..start];
-    }
-    &s[start..end - 1]
-}
-
 // What stands in a line behind n bytes, those of its key.
 fn behind_key(t: &[u8], n: usize) -> &[u8]
-    ensures { (result.now ≡ drop n t.now) × (length result.now ≤ length t.now) }
+    ensures value { result.now ≡ drop n t.now }
+    ensures within { length result.now ≤ length t.now }
 {
     let len = t.len();
     if len < n {
@@ -102,41 +49,106 @@ fn behind_key(t: &[u8], n: usize) -> &[u8]
     &t[n..]
 }
 
-// The value of the k-th line of a group, whose key has n bytes.
-pub fn value_at<'a>(s: &'a [u8], at: &[usize; 11], k: usize, n: usize) -> &'a [u8]
-    requires { Cut 10 s.now at.now × (k < 10) }
-    ensures { (result.now ≡ drop n (nth (lines_of s.now) k)) × (length result.now ≤ length s.now) }
-{
-    behind_key(line_at(s, at, k), n)
+// A text that begins with a group's lines, and the places of its first ten, as many as the longest group has, and the place behind each.
+#[derive(Drop)]
+pub struct Group<'a> {
+    text: &'a [u8],
+    places: [usize; 11],
 }
 
-pub fn starts(key: &[u8], t: &[u8]) -> bool
-    ensures { result ≡ Lists.starts key.now t.now }
-{
-    let n = key.len();
-    if t.len() < n {
-        return false;
+// A clause sees the text.
+impl<'a> Model for Group<'a> {
+    ghost use Rattle.std.specs.Prelude.{List, ℕ};
+    ghost use Rattle.lines.specs.Lines.{Cut};
+
+    ghost Value = { List ℕ };
+
+    ghost view = { λ g. g.text.now };
+
+    ghost invariant = { λ g. Cut 10 g.text.now g.places };
+}
+
+impl<'a> Group<'a> {
+    pub fn of(text: &'a [u8]) -> Group<'a>
+        ensures { result ≡ text.now }
+    {
+        let mut places = [0; 11];
+        for k in 0..10 {
+            places[k + 1] = next_line(text, places[k]);
+        }
+        Group { text, places }
     }
-    plain_bytes::equal(&t[..n], key)
+
+    // Whether the text has a line.
+    pub fn has_line(&self) -> bool
+        ensures { result ≡ filled (lines_of self.now) }
+    {
+        self.places[1] != 0
+    }
+
+    // What stands behind the first n lines.
+    pub fn behind(&self, n: usize) -> &'a [u8]
+        requires { n ≤ 10 }
+        ensures rest { lines_of result.now ≡ drop n (lines_of self.now) }
+        ensures within { length result.now ≤ length self.now }
+        ensures shorter { filled (lines_of self.now) ≡ true → 0 < n → length result.now < length self.now }
+    {
+        &self.text[self.places[n]..]
+    }
+
+    // The k-th line, from 0; empty where there are fewer.
+    pub fn line_at(&self, k: usize) -> &'a [u8]
+        requires { k < 10 }
+        ensures value { result.now ≡ nth (lines_of self.now) k }
+        ensures within { length result.now ≤ length self.now }
+    {
+        let start = self.places[k];
+        let end = self.places[k + 1];
+        if end == start {
+            return &self.text[start..start];
+        }
+        &self.text[start..end - 1]
+    }
+
+    // The value of the k-th line, whose key has n bytes.
+    pub fn value_at(&self, k: usize, n: usize) -> &'a [u8]
+        requires { k < 10 }
+        ensures value { result.now ≡ drop n (nth (lines_of self.now) k) }
+        ensures within { length result.now ≤ length self.now }
+    {
+        behind_key(self.line_at(k), n)
+    }
+
+    // The k-th line judged, whose value has the rule of a place, where something else must hold too.
+    pub fn line_if(&self, k: usize, key: &[u8], place: Place, also: bool) -> Result<(), LineFault>
+        requires { k < 10 }
+        ensures { result ≡ line_at k key.now place also (lines_of self.now) }
+    {
+        let t = self.line_at(k);
+        let v = behind_key(t, key.len());
+        judged(k, t, key, keeps_place(v, place) & also)
+    }
+
+    // The same, where nothing else must hold.
+    pub fn line(&self, k: usize, key: &[u8], place: Place) -> Result<(), LineFault>
+        requires { k < 10 }
+        ensures { result ≡ line_at k key.now place true (lines_of self.now) }
+    {
+        self.line_if(k, key, place, true)
+    }
 }
 
-// ---- one line judged, after those before it
+// ---- one line judged
 
 // The line t, the k-th of its group, where good says that its value keeps its rule.
-fn judged(before: Verdict, k: usize, t: &[u8], key: &[u8], good: bool) -> Verdict
-    ensures { result ≡ and_then before (line_as k key.now good t.now) }
+fn judged(k: usize, t: &[u8], key: &[u8], good: bool) -> Result<(), LineFault>
+    ensures { result ≡ line_as k key.now good t.now }
 {
-    if !starts(key, t) {
-        return first(before, Verdict::Key(k));
+    let v = t.strip_prefix(key).ok_or(LineFault::Key(k))?;
+    if !good | (v == b"\"\"".as_slice()) {
+        return Err(LineFault::Value(k));
     }
-    let n = key.len();
-    if plain_bytes::equal(&t[n..], b"\"\"") {
-        return first(before, Verdict::Value(k));
-    }
-    if !good {
-        return first(before, Verdict::Value(k));
-    }
-    first(before, Verdict::Fine)
+    Ok(())
 }
 
 // A value rule holds.
@@ -155,37 +167,4 @@ fn keeps_place(v: &[u8], place: Place) -> bool
         Place::Must(rule) => keeps(v, true, rule),
         Place::May(rule) => keeps(v, false, rule),
     }
-}
-
-// The k-th line of a group, whose value has the rule of a place, where something else must hold too.
-pub fn line_if(
-    before: Verdict,
-    s: &[u8],
-    at: &[usize; 11],
-    k: usize,
-    key: &[u8],
-    place: Place,
-    also: bool,
-) -> Verdict
-    requires { Cut 10 s.now at.now × (k < 10) }
-    ensures { result ≡ and_then before (line_at k key.now place also (lines_of s.now)) }
-{
-    let t = line_at(s, at, k);
-    let v = behind_key(t, key.len());
-    judged(before, k, t, key, keeps_place(v, place) & also)
-}
-
-// The same, where nothing else must hold.
-pub fn line(
-    before: Verdict,
-    s: &[u8],
-    at: &[usize; 11],
-    k: usize,
-    key: &[u8],
-    place: Place,
-) -> Verdict
-    requires { Cut 10 s.now at.now × (k < 10) }
-    ensures { result ≡ and_then before (line_at k key.now place true (lines_of s.now)) }
-{
-    line_if(before, s, at, k, key, place, true)
 }

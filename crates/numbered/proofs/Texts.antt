@@ -1,5 +1,6 @@
 -- The text of a segment with a number is what its pattern says, and of any segment by its name. Assumes nothing.
 use mathlib.Core.Path.{◌≡◌, refl, sym, ap, ◌∙◌}
+use mathlib.Core.Logic.{◌⊎◌, inl, inr}
 use mathlib.Core.Bool.{Bool, true, false, not, ◌&&◌}
 use mathlib.Core.List.{List, [], ◌∷◌, append_assoc, append-nil}
 use Prim.Native.Nat.{ℕ, ◌≤◌}
@@ -40,19 +41,19 @@ module _ (d : Delims) (ts : List (List ℕ)) (r : ℕ) (x old : List ℕ) where
   abbrev at : ℕ → ℕ → List ℕ
   at k n = drop n (nth ts k)
 
-  pub specimen-is : (n m a b : Bor (List ℕ)) → n.now ≡ spelling Spm → a.now ≡ at 0 9 → b.now ≡ at 1 10
+  pub specimen-is : (n m a b : Bor (List ℕ)) → n.now ≡ 83 ∷ 80 ∷ 77 ∷ [] → a.now ≡ at 0 9 → b.now ≡ at 1 10
       → Fit r x (woven d specimen-pattern (n ∷ m ∷ a ∷ b ∷ [])) old → Fit r x (numbered_text d m.now Spm ts) old
   unfolding shapes numbered_piece numbered_text filled_sn
   specimen-is n m a b en ea eb p = fit-as (simp (en, ea, eb, append_assoc, append-nil)) p
 
-  pub structured-is : (n m item name type c v j s unit flag status : Bor (List ℕ)) → n.now ≡ spelling Obx → item.now ≡ at 0 5 → name.now ≡ at 1 5 → type.now ≡ at 2 5
+  pub structured-is : (n m item name type c v j s unit flag status : Bor (List ℕ)) → n.now ≡ 79 ∷ 66 ∷ 88 ∷ [] → item.now ≡ at 0 5 → name.now ≡ at 1 5 → type.now ≡ at 2 5
       → c.now ≡ at 3 8 → v.now ≡ at 4 6 → j.now ≡ at 5 5 → s.now ≡ at 6 7 → unit.now ≡ at 7 5 → flag.now ≡ at 8 5 → status.now ≡ at 9 7 → filled_sn ts ≡ true
       → Fit r x (woven d structured-pattern (n ∷ m ∷ type ∷ item ∷ name ∷ c ∷ v ∷ j ∷ s ∷ unit ∷ flag ∷ status ∷ [])) old → Fit r x (numbered_text d m.now Obx ts) old
   unfolding shapes numbered_piece numbered_text filled_sn value_text
   structured-is n m item name type c v j s unit flag status en e0 e1 e2 e3 e4 e5 e6 e7 e8 e9 h p =
       fit-as (simp (en, e0, e1, e2, e3, e4, e5, e6, e7, e8, e9, h, append_assoc, append-nil)) p
 
-  pub single-is : (n m item name type v unit flag status : Bor (List ℕ)) → n.now ≡ spelling Obx → item.now ≡ at 0 5 → name.now ≡ at 1 5 → type.now ≡ at 2 5
+  pub single-is : (n m item name type v unit flag status : Bor (List ℕ)) → n.now ≡ 79 ∷ 66 ∷ 88 ∷ [] → item.now ≡ at 0 5 → name.now ≡ at 1 5 → type.now ≡ at 2 5
       → v.now ≡ at 4 6 → unit.now ≡ at 7 5 → flag.now ≡ at 8 5 → status.now ≡ at 9 7 → filled_sn ts ≡ false
       → Fit r x (woven d single-pattern (n ∷ m ∷ type ∷ item ∷ name ∷ v ∷ unit ∷ flag ∷ status ∷ [])) old → Fit r x (numbered_text d m.now Obx ts) old
   unfolding shapes numbered_piece numbered_text filled_sn value_text
@@ -121,13 +122,10 @@ module _ (d : Delims) (ts : List (List ℕ)) (n : Message.Numbers) (m : Name) (o
   unfolding fitted over_front
   nothing = record { ends = refl; is = rw (le-leb 0 (length old) (omega arith)) }
 
-  pub put-orc : m ≡ Orc → Fit 0 old (group_segment d n m 0 ts) old
+  pub put-none : (m ≡ Orc) ⊎ (m ≡ Other) → Fit 0 old (group_segment d n m 0 ts) old
   unfolding shapes
-  put-orc h = rw h nothing
-
-  pub put_other : m ≡ Other → Fit 0 old (group_segment d n m 0 ts) old
-  unfolding shapes
-  put_other h = rw h nothing
+  put-none (inl h) = rw h nothing
+  put-none (inr h) = rw h nothing
 
 pub numbered-spm : (m : Name) → m ≡ Spm → has_number m ≡ true
 numbered-spm m e = rw e

@@ -1,17 +1,15 @@
 -- The text of a segment that has a number, and the numbers.
-use Rattle.std.specs.Prelude.{Bool, ◌&&◌, ◌||◌, List, ◌∷◌, map, ℕ, ◌≤◌, length, drop}
+use Rattle.std.specs.Prelude.{Bool, ◌&&◌, ◌||◌, List, ◌∷◌, map, ℕ, ◌≤◌, drop}
 use Rattle.rules.specs.declared.Delims.{Delims}
 use Rattle.rules.specs.declared.Name.{Name}
 use Rattle.rules.specs.declared.Name.TheVariants.{Spm, Obx}
 use Rattle.rules.specs.Lists.{filled, nth, ended}
 use Rattle.rules.specs.Frame.{is}
-use Rattle.rules.specs.Proper.{Proper}
 use Rattle.rules.specs.Judge.{is_sn}
 use Rattle.rules.specs.Message as Message
 use Rattle.rules.specs.Message.{Piece, piece, segment_text, zeros}
-use Rattle.lines.specs.Lines.{longest_sheet, Cut}
 use Rattle.groups.specs.Groups.{group_values}
-use Rattle.segments.specs.Segments.{group_pieces}
+use Rattle.segments.specs.Segments.{group_pieces, Source}
 use Rattle.numbered.specs.declared.Numbers.{Numbers}
 
 -- the numbers of a row, as the code has them; those of a row whose number, if it has one, is n
@@ -39,10 +37,8 @@ filled_sn ts = is_sn (nth (group_values Obx ts) 2) && filled (nth (group_values 
 abbrev pub greatest_number : ℕ
 greatest_number = 99999
 
--- what any segment of a group is written from: the group's lines s with their places, its numbers, and the delimiters
-pub record Sources (s places : List ℕ) (n : Numbers) (d : Delims) : Type 0 where
-  pub short : length s ≤ longest_sheet
-  pub cut : Cut 10 s places
+-- what any segment of a group is written from: the text s that begins with the group, its numbers, and the delimiters
+pub record Sources (s : List ℕ) (n : Numbers) (d : Delims) : Type 0 where
+  pub source : Source s d
   pub specimens-few : n.specimen ≤ greatest_number
   pub results-few : n.result ≤ greatest_number
-  pub proper : Proper d

@@ -1,10 +1,12 @@
 -- The group that a line opens, and the group to be read next. Assumes nothing.
 use mathlib.Core.Path.{◌≡◌, refl, sym, ap, ◌∙◌}
+use mathlib.Core.Logic.{◌⊎◌, inl, inr}
 use mathlib.Core.Bool.{Bool, true, false, cond}
 use mathlib.Core.List.{List, [], ◌∷◌, ◌++◌}
 use Prim.Native.Nat.{ℕ, ◌+◌, ◌≤◌, ◌<◌}
 use native.Mathlib.Omega.{arith}
-use lib.ListN.{length, drop}
+use lib.ListN.{length, take, drop}
+use Rattle.std.specs.Str.{bytes_eq}
 use Rattle.rules.specs.declared.Name.{Name}
 use Rattle.rules.specs.declared.Name.TheVariants.{Msh, Pid, Pv1, Spm, Obr, Orc, Obx, Other}
 use Rattle.rules.specs.Told.{gives, refused, ◌>>=◌}
@@ -19,6 +21,7 @@ use Rattle.rules.proofs.Rows.{entered}
 use Rattle.order.specs.declared.Reached.{Reached as Coded}
 use Rattle.order.specs.Order.{reached_of}
 use Rattle.openings.specs.Openings.{Between, Next}
+use Rattle.lines.proofs.Laws.{starts_is}
 use Rattle.groups.proofs.Reading.{group-there}
 
 -- ---- the group that a line opens
@@ -97,28 +100,26 @@ module _ (a : Reached) (t : List ℕ) where
   unfolding lines
   then-order = alone Spm Obr refl refl (omega arith)
 
-  pub then-result : a.last ≡ Orc → Next a t Obx
-  unfolding lines
-  then-result = alone Orc Obx refl refl (omega arith)
-
   -- behind an OBR stands its ORC, and no group
-  pub then-none : Between a → a.last ≡ Obr → Next a t Obx
-  then-none b e = never (rw e at b)
+  pub then-result : Between a → (a.last ≡ Obr) ⊎ (a.last ≡ Orc) → Next a t Obx
+  unfolding lines
+  then-result b (inl e) = never (rw e at b)
+  then-result b (inr e) = alone Orc Obx refl refl (omega arith) e
 
 -- ---- behind a result
-module _ (t : List ℕ) (q : Bool) (e : q ≡ starts (105 ∷ 116 ∷ 101 ∷ 109 ∷ 61 ∷ []) t) where
+module _ (t : List ℕ) (q : Bool) (e : q ≡ bytes_eq (105 ∷ 116 ∷ 101 ∷ 109 ∷ 61 ∷ []) (take 5 t)) where
   item-opens : opens Obx t ≡ q
   unfolding opens lines line key_of bytes
-  item-opens = sym e
+  item-opens = sym (e ∙ starts_is (105 ∷ 116 ∷ 101 ∷ 109 ∷ 61 ∷ []) t)
 
   pub behind-item : q ≡ true → Next (past start Obx) t Obx
   unfolding past may_follow any lines
   behind-item h = record { told = next-told (past start Obx) t Obx refl (λ o. never (sym (item-opens ∙ h) ∙ o)); lined = omega arith }
 
-  module _ (h : q ≡ false) (u : Bool) (f : u ≡ starts (111 ∷ 114 ∷ 100 ∷ 101 ∷ 114 ∷ 61 ∷ []) t) where
+  module _ (h : q ≡ false) (u : Bool) (f : u ≡ bytes_eq (111 ∷ 114 ∷ 100 ∷ 101 ∷ 114 ∷ 61 ∷ []) (take 6 t)) where
     order-opens : opens Obr t ≡ u
     unfolding opens lines line key_of bytes
-    order-opens = sym f
+    order-opens = sym (f ∙ starts_is (111 ∷ 114 ∷ 100 ∷ 101 ∷ 114 ∷ 61 ∷ []) t)
 
     pub behind-order : u ≡ true → Next (past start Obx) t Obr
     unfolding past may_follow any lines

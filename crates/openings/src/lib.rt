@@ -6,10 +6,9 @@ ghost use Rattle.rules.specs.Lists.{nth};
 ghost use Rattle.rules.specs.Frame.{start, past};
 ghost use Rattle.rules.specs.Sheet.{lines_of, past_group};
 ghost use Rattle.order.specs.Order.{reached_of};
-ghost use Rattle.lines.specs.Lines.{Cut};
 ghost use Rattle.openings.specs.Openings.{Between, Next};
 
-use lines::keys;
+use lines::{Group, keys};
 use order::Reached;
 use rules::Name;
 
@@ -27,29 +26,27 @@ pub fn past_group(a: Reached, name: Name) -> Reached
 fn behind_result(t: &[u8]) -> Name
     ensures { Next (past start Name.Obx) t.now result }
 {
-    if lines::starts(&keys::ITEM, t) {
+    if t.starts_with(&keys::ITEM) {
         return Name::Obx;
     }
-    if lines::starts(&keys::ORDER, t) {
+    if t.starts_with(&keys::ORDER) {
         return Name::Obr;
     }
     Name::Spm
 }
 
 // The group to be read next.
-pub fn next_group(a: Reached, s: &[u8], at: &[usize; 11]) -> Name
-    requires { Cut 10 s.now at.now × Between (reached_of a) }
-    ensures { Next (reached_of a) (nth (lines_of s.now) 0) result }
+pub fn next_group(a: Reached, rest: &Group) -> Name
+    requires { Between (reached_of a) }
+    ensures { Next (reached_of a) (nth (lines_of rest.now) 0) result }
 {
-    let last = a.last;
-    match last {
+    match a.last {
         Name::Other => Name::Msh,
         Name::Msh => Name::Pid,
         Name::Pid => Name::Pv1,
         Name::Pv1 => Name::Spm,
         Name::Spm => Name::Obr,
-        Name::Obr => Name::Obx,
-        Name::Orc => Name::Obx,
-        Name::Obx => behind_result(lines::line_at(s, at, 0)),
+        Name::Obr | Name::Orc => Name::Obx,
+        Name::Obx => behind_result(rest.line_at(0)),
     }
 }

@@ -11,8 +11,8 @@ use native.Mathlib.Omega.{arith}
 use lib.Dec.{eqb}
 use lib.ListN.{length, drop}
 use Rattle.rules.specs.declared.Refusal.{Refusal}
-use Rattle.rules.specs.declared.Written.{Written}
-use Rattle.rules.specs.declared.Written.TheVariants.{Wrote, NotWritten}
+use Rattle.std.specs.declared.result.Result.{Result}
+use Rattle.std.specs.declared.result.Result.TheVariants.{Ok, Err}
 use Rattle.rules.specs.Told.{Told, gives, refused, refusal, Call, ◌>>◌, ◌then◌, ◌when◌}
 
 -- ---- by cases, with the equation
@@ -110,15 +110,15 @@ done (refused n s f) = refl
 
 -- ---- what a call answers and leaves: of a refusal the buffer as it was, of a text its bytes over the front
 -- a refusal writes nothing
-pub never-wrote : {P : Type 0} {r : Refusal} {n : ℕ} → NotWritten r ≡ Wrote n → P
+pub never-wrote : {P : Type 0} {r : Refusal} {n : ℕ} → Err r ≡ Ok n → P
 never-wrote e = let z : ◌≡◌ {A = ℕ} 0 1 = cc in absurd (omega arith)
 
-pub call-refused : (t : Told (List ℕ)) (old : List ℕ) (k : Refusal) (r : Written) → t ≡ refusal k → r ≡ NotWritten k → Call t old r old
+pub call-refused : (t : Told (List ℕ)) (old : List ℕ) (k : Refusal) (r : Result ℕ Refusal) → t ≡ refusal k → r ≡ Err k → Call t old r old
 call-refused t old k r e g = rw (g, e) (record { told = refl; buffer = refl; within = λ n q. never-wrote q })
 
-pub call-wrote : (t : Told (List ℕ)) (old w y : List ℕ) (n : ℕ) → t ≡ gives w → n ≡ length w → length w ≤ length old → y ≡ w ++ drop (length w) old → Call t old (Wrote n) y
+pub call-wrote : (t : Told (List ℕ)) (old w y : List ℕ) (n : ℕ) → t ≡ gives w → n ≡ length w → length w ≤ length old → y ≡ w ++ drop (length w) old → Call t old (Ok n) y
 call-wrote t old w y n e g l h = rw e (record { told = ap gives g; buffer = h; within = λ k q. let z : k ≡ n = cc in omega arith })
 
 -- a call that gives an answer gives what equals it
-pub called-as : {t u : Told (List ℕ)} {x : List ℕ} {r : Written} {y : List ℕ} → t ≡ u → Call u x r y → Call t x r y
+pub called-as : {t u : Told (List ℕ)} {x : List ℕ} {r : Result ℕ Refusal} {y : List ℕ} → t ≡ u → Call u x r y → Call t x r y
 called-as e p = rw e p

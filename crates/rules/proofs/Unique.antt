@@ -8,13 +8,9 @@ use lib.Dec.{eqb}
 use Rattle.rules.specs.declared.Kind.{Kind}
 use Rattle.rules.specs.declared.Kind.TheVariants.{TooLong, Header, Bytes, Segment, TooMany, Order, Missing, Null, Repeated, Escape, Long, Value, Status, Differs, NoOrdinal, Zero, SheetTooLong, SheetBytes, Key, LineValue, Overflow, Room}
 use Rattle.rules.specs.declared.Refusal.{Refusal}
-use Rattle.rules.specs.declared.Answer.{Answer}
-use Rattle.rules.specs.declared.Answer.TheVariants.{Accepted, Refused}
-use Rattle.rules.specs.declared.Fetched.{Fetched}
-use Rattle.rules.specs.declared.Fetched.TheVariants.{At, NotFetched}
-use Rattle.rules.specs.declared.Written.{Written}
-use Rattle.rules.specs.declared.Written.TheVariants.{Wrote, NotWritten}
-use Rattle.rules.specs.Told.{number, refusal, told, told_span, told_length}
+use Rattle.std.specs.declared.result.Result.{Result}
+use Rattle.std.specs.declared.result.Result.TheVariants.{Ok, Err}
+use Rattle.rules.specs.Told.{number, refusal, told}
 use Rattle.rules.proofs.Logic.{zero_cases}
 
 -- the kind that has a number: the first of some with it
@@ -73,23 +69,11 @@ refusal-unique A r s e =
     ∙ ap (λ n. refusal_of s.kind n r.field) (cc)
     ∙ ap (λ n. refusal_of s.kind s.segment n) (cc)
 
-pub told-unique : (a b : Answer) → told a ≡ told b → a ≡ b
-told-unique (Accepted c) (Accepted e) h = cc
-told-unique (Accepted c) (Refused r) h = cc
-told-unique (Refused r) (Accepted c) h = cc
-told-unique (Refused r) (Refused s) h = ap Refused (refusal-unique _ r s h)
-
-pub span-unique : (a b : Fetched) → told_span a ≡ told_span b → a ≡ b
-span-unique (At p) (At q) h = cc
-span-unique (At p) (NotFetched r) h = cc
-span-unique (NotFetched r) (At p) h = cc
-span-unique (NotFetched r) (NotFetched s) h = ap NotFetched (refusal-unique _ r s h)
-
-pub length-unique : (a b : Written) → told_length a ≡ told_length b → a ≡ b
-length-unique (Wrote n) (Wrote k) h = cc
-length-unique (Wrote n) (NotWritten r) h = cc
-length-unique (NotWritten r) (Wrote n) h = cc
-length-unique (NotWritten r) (NotWritten s) h = ap NotWritten (refusal-unique _ r s h)
+pub told-unique : {A : Type 0} (a b : Result A Refusal) → told a ≡ told b → a ≡ b
+told-unique (Ok x) (Ok y) h = cc
+told-unique (Ok x) (Err r) h = cc
+told-unique (Err r) (Ok x) h = cc
+told-unique (Err r) (Err s) h = ap Err (refusal-unique _ r s h)
 
 -- the number of a kind that is known
 pub number_is_lem : (kind k : Kind) (n : ℕ) → kind ≡ k → number k ≡ n → n ≡ number kind

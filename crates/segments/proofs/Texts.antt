@@ -6,7 +6,7 @@ use Prim.Native.Nat.{ℕ}
 use lib.ListN.{length, drop}
 use denote.Ref.{Bor}
 use Rattle.rules.specs.declared.Delims.{Delims}
-use Rattle.rules.specs.declared.Name.TheVariants.{Msh, Pid, Pv1, Obr, Orc}
+use Rattle.rules.specs.declared.Name.TheVariants.{Msh, Pid, Pv1, Obr}
 use Rattle.rules.specs.Lists.{bytes, empty, nth, join, led, ended}
 use Rattle.rules.specs.Frame.{spelling}
 use Rattle.rules.specs.Row.{line, lines, row_of}
@@ -52,19 +52,19 @@ module _ (d : Delims) (ts : List (List ℕ)) (r : ℕ) (x old : List ℕ) where
   abbrev at : ℕ → ℕ → List ℕ
   at k n = drop n (nth ts k)
 
-  pub header_is : (n a b c : Bor (List ℕ)) → n.now ≡ spelling Msh → a.now ≡ at 2 5 → b.now ≡ at 3 8 → c.now ≡ at 1 5
+  pub header_is : (n a b c : Bor (List ℕ)) → n.now ≡ 77 ∷ 83 ∷ 72 ∷ [] → a.now ≡ at 2 5 → b.now ≡ at 3 8 → c.now ≡ at 1 5
       → Fit r x (woven d header-pattern (n ∷ a ∷ b ∷ c ∷ [])) old → Fit r x (group_segment d zeros Msh 0 ts) old
   unfolding shapes
   header_is n a b c en ea eb ec p = fit-as (simp (en, ea, eb, ec, append_assoc, append-nil)) p
 
-  pub kanji-is : (n a b c e f : Bor (List ℕ)) → n.now ≡ spelling Pid → a.now ≡ at 0 8 → b.now ≡ at 1 7 → c.now ≡ at 2 6 → e.now ≡ at 5 6 → f.now ≡ at 6 4
+  pub kanji-is : (n a b c e f : Bor (List ℕ)) → n.now ≡ 80 ∷ 73 ∷ 68 ∷ [] → a.now ≡ at 0 8 → b.now ≡ at 1 7 → c.now ≡ at 2 6 → e.now ≡ at 5 6 → f.now ≡ at 6 4
       → has_kana ts ≡ false → Fit r x (woven d kanji-pattern (n ∷ a ∷ b ∷ c ∷ e ∷ f ∷ [])) old → Fit r x (group_segment d zeros Pid 0 ts) old
   unfolding shapes names_text
   kanji-is n a b c e f en ea eb ec ee ef h p =
       let z : empty (at 3 11) ≡ true = not-false (empty (at 3 11)) h in
       fit-as (simp (en, ea, eb, ec, ee, ef, z, append_assoc, append-nil)) p
 
-  pub kana-is : (n a b c k l e f : Bor (List ℕ)) → n.now ≡ spelling Pid → a.now ≡ at 0 8 → b.now ≡ at 1 7 → c.now ≡ at 2 6 → k.now ≡ at 3 11 → l.now ≡ at 4 10
+  pub kana-is : (n a b c k l e f : Bor (List ℕ)) → n.now ≡ 80 ∷ 73 ∷ 68 ∷ [] → a.now ≡ at 0 8 → b.now ≡ at 1 7 → c.now ≡ at 2 6 → k.now ≡ at 3 11 → l.now ≡ at 4 10
       → e.now ≡ at 5 6 → f.now ≡ at 6 4 → has_kana ts ≡ true
       → Fit r x (woven d kana-pattern (n ∷ a ∷ b ∷ c ∷ k ∷ l ∷ e ∷ f ∷ [])) old → Fit r x (group_segment d zeros Pid 0 ts) old
   unfolding shapes names_text
@@ -72,17 +72,17 @@ module _ (d : Delims) (ts : List (List ℕ)) (r : ℕ) (x old : List ℕ) where
       let z : empty (at 3 11) ≡ false = not-true (empty (at 3 11)) h in
       fit-as (simp (en, ea, eb, ec, ek, el, ee, ef, z, append_assoc, append-nil)) p
 
-  pub visit-is : (n a : Bor (List ℕ)) → n.now ≡ spelling Pv1 → a.now ≡ at 0 6
+  pub visit-is : (n a : Bor (List ℕ)) → n.now ≡ 80 ∷ 86 ∷ 49 ∷ [] → a.now ≡ at 0 6
       → Fit r x (woven d visit-pattern (n ∷ a ∷ [])) old → Fit r x (group_segment d zeros Pv1 0 ts) old
   unfolding shapes
   visit-is n a en ea p = fit-as (simp (en, ea, append-nil)) p
 
-  pub order_is : (n a b : Bor (List ℕ)) → n.now ≡ spelling Obr → a.now ≡ at 0 6 → b.now ≡ at 1 6
+  pub order_is : (n a b : Bor (List ℕ)) → n.now ≡ 79 ∷ 66 ∷ 82 ∷ [] → a.now ≡ at 0 6 → b.now ≡ at 1 6
       → Fit r x (woven d order-pattern (n ∷ a ∷ b ∷ [])) old → Fit r x (group_segment d zeros Obr 0 ts) old
   unfolding shapes
   order_is n a b en ea eb p = fit-as (simp (en, ea, eb, append_assoc, append-nil)) p
 
-  pub common-is : (n a : Bor (List ℕ)) → n.now ≡ spelling Orc → a.now ≡ at 0 6
+  pub common-is : (n a : Bor (List ℕ)) → n.now ≡ 79 ∷ 82 ∷ 67 ∷ [] → a.now ≡ at 0 6
       → Fit r x (woven d common-pattern (n ∷ a ∷ [])) old → Fit r x (group_segment d zeros Obr 1 ts) old
   unfolding shapes
   common-is n a en ea p = fit-as (simp (en, ea, append-nil)) p

@@ -1,14 +1,13 @@
 -- The text of a segment that is written from the lines of its group.
-use Rattle.std.specs.Prelude.{◌≡◌, Bool, List, [], ◌∷◌, ◌++◌, map, ℕ, ◌≤◌, length, take, drop}
+use Rattle.std.specs.Prelude.{Bool, List, [], ◌∷◌, ◌++◌, map, ℕ, ◌≤◌, length, take, drop}
 use Rattle.rules.specs.declared.Delims.{Delims}
 use Rattle.rules.specs.declared.Name.{Name}
 use Rattle.rules.specs.declared.Name.TheVariants.{Pid}
 use Rattle.rules.specs.Lists.{filled, nth, ended}
-use Rattle.rules.specs.Frame.{spelling}
 use Rattle.rules.specs.Proper.{Proper}
 use Rattle.rules.specs.Row.{Row, row_of}
 use Rattle.rules.specs.Message.{Numbers, Piece, pieces_of, segment_text}
-use Rattle.lines.specs.Lines.{longest_sheet, Cut}
+use Rattle.lines.specs.Lines.{longest_sheet}
 use Rattle.groups.specs.Groups.{group_values}
 
 -- the segments of some rows that have these numbers, and of the group g that the lines ts begin with
@@ -27,12 +26,9 @@ group_segment d n g k ts = ended 0x0D (take 1 (drop k (map (segment_text d) (gro
 unfoldable pub has_kana : List (List ℕ) → Bool
 has_kana ts = filled (nth (group_values Pid ts) 3)
 
--- what a segment x is written from: its name as it is spelled, the lines s of its group with their places, and the delimiters
-pub record Source (x : Name) (name s places : List ℕ) (d : Delims) : Type 0 where
-  pub named : name ≡ spelling x
-  pub named-short : length name ≤ 3
+-- what a segment is written from: the text s that begins with its group, and the delimiters
+pub record Source (s : List ℕ) (d : Delims) : Type 0 where
   pub short : length s ≤ longest_sheet
-  pub cut : Cut 10 s places
   pub proper : Proper d
 
 -- no segment has so many bytes

@@ -9,33 +9,33 @@ use lib.Dec.{eqb, ltb}
 use lib.ListN.{length, get_or}
 use Rattle.rules.specs.declared.Kind.TheVariants.{SheetTooLong, SheetBytes}
 use Rattle.rules.specs.declared.Refusal.{Refusal}
-use Rattle.rules.specs.Told.{Told, refusal, ◌>>◌}
+use Rattle.std.specs.Prelude.{Result, Ok, Err}
+use Rattle.rules.specs.Told.{Told, told, refusal, ◌>>◌}
 use Rattle.rules.specs.Lists.{empty, split, onto, last, front, later}
 use Rattle.rules.specs.Shift.{keeps}
 use Rattle.rules.specs.Sheet.{read_sheet}
 use Rattle.rules.proofs.Logic.{cases, not-true, not-false, guard}
 use Rattle.rules.proofs.Split.{split-here, split-there, split-cons, last-split}
-use Rattle.sheets.specs.declared.SheetVerdict.{SheetVerdict}
-use Rattle.sheets.specs.declared.SheetVerdict.TheVariants.{Right, Wrong}
-use Rattle.sheets.specs.Sheet.{refusal_at, told_judged, readable_told, rows_in, groups_told, judged_told}
+pub use Rattle.lines.proofs.Laws.{exit-is}
+use Rattle.sheets.specs.Sheet.{refusal_at, readable_told, rows_in, groups_told, judged_told}
 
 -- ---- 40 and 41
 module _ (s : List ℕ) where
-  pub read-40 : (k : Refusal) → 65536 < length s → k ≡ refusal_at SheetTooLong 0 → told_judged (Wrong k) ≡ readable_told s
+  pub read-40 : (k : Refusal) → 65536 < length s → k ≡ refusal_at SheetTooLong 0 → told {A = Unit {0}} (Err k) ≡ readable_told s
   unfolding readable_told
-  read-40 k l f = rw (lt-ltb 65536 (length s) l) (ap (λ (x : Refusal). told_judged (Wrong x)) f)
+  read-40 k l f = rw (lt-ltb 65536 (length s) l) (ap (λ (x : Refusal). told {A = Unit {0}} (Err x)) f)
 
   module _ (l : length s ≤ 65536) (q : Bool) (e : q ≡ keeps 0x0A s) where
-    pub read-41 : (k : Refusal) → not q ≡ true → k ≡ refusal_at SheetBytes 0 → told_judged (Wrong k) ≡ readable_told s
+    pub read-41 : (k : Refusal) → not q ≡ true → k ≡ refusal_at SheetBytes 0 → told {A = Unit {0}} (Err k) ≡ readable_told s
     unfolding readable_told
-    read-41 k h f = rw (le-ltb 65536 (length s) l, ← e, not-true q h) (ap (λ (x : Refusal). told_judged (Wrong x)) f)
+    read-41 k h f = rw (le-ltb 65536 (length s) l, ← e, not-true q h) (ap (λ (x : Refusal). told {A = Unit {0}} (Err x)) f)
 
     module _ (h : not q ≡ false) (u : Bool) (g : u ≡ empty (last (split 0x0A s))) where
-      pub read-41-end : (k : Refusal) → not u ≡ true → k ≡ refusal_at SheetBytes 0 → told_judged (Wrong k) ≡ readable_told s
+      pub read-41-end : (k : Refusal) → not u ≡ true → k ≡ refusal_at SheetBytes 0 → told {A = Unit {0}} (Err k) ≡ readable_told s
       unfolding readable_told
-      read-41-end k w f = rw (le-ltb 65536 (length s) l, ← e, not-false q h, ← g, not-true u w) (ap (λ (x : Refusal). told_judged (Wrong x)) f)
+      read-41-end k w f = rw (le-ltb 65536 (length s) l, ← e, not-false q h, ← g, not-true u w) (ap (λ (x : Refusal). told {A = Unit {0}} (Err x)) f)
 
-      pub read_right : not u ≡ false → told_judged Right ≡ readable_told s
+      pub read_right : not u ≡ false → told (Ok tt) ≡ readable_told s
       unfolding readable_told
       read_right w = rw (le-ltb 65536 (length s) l, ← e, not-false q h, ← g, not-false u w)
 
@@ -48,23 +48,23 @@ module _ (s : List ℕ) where
       (λ a. cases (not (keeps 0x0A s && empty (last (split 0x0A s)))) (λ b. rw (a, b)) (λ b. rw (a, b)))
 
   -- j is what reading it tells
-  module _ (j : SheetVerdict) (t : told_judged j ≡ readable_told s) where
-    pub readable-short : j ≡ Right → length s ≤ 65536
+  module _ (j : Result (Unit {0}) Refusal) (t : told j ≡ readable_told s) where
+    pub readable-short : j ≡ Ok tt → length s ≤ 65536
     unfolding readable_told
-    readable-short f = ltb-false 65536 (length s) (guard 40 0 0 (ltb 65536 (length s)) _ tt (sym t ∙ ap told_judged f)).0
+    readable-short f = ltb-false 65536 (length s) (guard 40 0 0 (ltb 65536 (length s)) _ tt (sym t ∙ ap told f)).0
 
-    pub readable-rows : j ≡ Right → read_sheet s ≡ rows_in s
-    readable-rows f = read-sheet ∙ ap (λ (x : Told (Unit {0})). x >> rows_in s) (sym t ∙ ap told_judged f)
+    pub readable-rows : j ≡ Ok tt → read_sheet s ≡ rows_in s
+    readable-rows f = read-sheet ∙ ap (λ (x : Told (Unit {0})). x >> rows_in s) (sym t ∙ ap told f)
 
-    pub unreadable : (k : Refusal) → j ≡ Wrong k → read_sheet s ≡ refusal k
-    unreadable k f = read-sheet ∙ ap (λ (x : Told (Unit {0})). x >> rows_in s) (sym t ∙ ap told_judged f)
+    pub unreadable : (k : Refusal) → j ≡ Err k → read_sheet s ≡ refusal k
+    unreadable k f = read-sheet ∙ ap (λ (x : Told (Unit {0})). x >> rows_in s) (sym t ∙ ap told f)
 
     -- ---- the whole
-    pub judged-wrong : (k : Refusal) → j ≡ Wrong k → told_judged (Wrong k) ≡ judged_told s
+    pub judged-wrong : (k : Refusal) → j ≡ Err k → {r : Result (Unit {0}) Refusal} → r ≡ Err k → told r ≡ judged_told s
     unfolding judged_told
-    judged-wrong k f = rw (unreadable k f)
+    judged-wrong k f e = rw (e, unreadable k f)
 
-    pub judged-right : j ≡ Right → (r : SheetVerdict) → told_judged r ≡ groups_told s → told_judged r ≡ judged_told s
+    pub judged-right : j ≡ Ok tt → (r : Result (Unit {0}) Refusal) → told r ≡ groups_told s → told r ≡ judged_told s
     unfolding judged_told groups_told
     judged-right f r g = rw (readable-rows f) g
 

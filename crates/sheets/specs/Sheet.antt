@@ -3,30 +3,23 @@ use Rattle.std.specs.Prelude.{not, ◌&&◌, List, ℕ, ◌+◌, ◌*◌, ltb, l
 use Rattle.rules.specs.declared.Kind.{Kind}
 use Rattle.rules.specs.declared.Kind.TheVariants.{Key, LineValue}
 use Rattle.rules.specs.declared.Refusal.{Refusal}
-use Rattle.rules.specs.Told.{Told, gives, refusal, refuse◌if◌else◌, ◌>>=◌}
+use Rattle.rules.specs.Told.{Told, gives, refuse◌if◌else◌, ◌>>=◌}
 use Rattle.rules.specs.Lists.{empty, last, split}
 use Rattle.rules.specs.Shift.{keeps}
 use Rattle.rules.specs.Frame.{start}
 use Rattle.rules.specs.Row.{Row}
 use Rattle.rules.specs.Sheet.{rows_told, lines_of, read_sheet}
 use Rattle.lines.specs.Lines.{longest_sheet}
-use Rattle.lines.specs.declared.Verdict.{Verdict}
-use Rattle.lines.specs.declared.Verdict.TheVariants.{Fine, Key as WrongKey, Value}
-use Rattle.sheets.specs.declared.SheetVerdict.{SheetVerdict}
-use Rattle.sheets.specs.declared.SheetVerdict.TheVariants.{Right, Wrong}
+use Rattle.lines.specs.declared.LineFault.{LineFault}
+use Rattle.lines.specs.declared.LineFault.TheVariants.{Key as WrongKey, Value}
 
--- what is wrong with the line that a verdict names
-unfoldable pub kind_of : Verdict → Kind
-kind_of Fine = Key
+-- what a line's fault is refused as
+abbrev pub kind_of : LineFault → Kind
 kind_of (WrongKey k) = Key
 kind_of (Value k) = LineValue
 
 abbrev pub refusal_at : Kind → ℕ → Refusal
 refusal_at kind line = record { kind = kind; segment = line; field = 0 }
-
-abbrev pub told_judged : SheetVerdict → Told (Unit {0})
-told_judged Right = gives tt
-told_judged (Wrong r) = refusal r
 
 -- 40 and 41 of a sheet
 unfoldable pub readable_told : List ℕ → Told (Unit {0})

@@ -2,19 +2,14 @@
 #![tactic(auto)]
 
 ghost use Rattle.std.specs.Prelude.{◌≡◌, ◌+◌, ◌≤◌, length};
+ghost use Rattle.rules.specs.Told.{told};
 ghost use Rattle.rules.specs.Lists.{empty, last, split};
 ghost use Rattle.lines.specs.Lines.{longest_sheet};
-ghost use Rattle.groups.specs.Groups.{index_of};
-ghost use Rattle.sheets.specs.Sheet.{kind_of, refusal_at, told_judged, readable_told, groups_told, judged_told, farthest_line};
+ghost use Rattle.groups.specs.Groups.{line_of};
+ghost use Rattle.sheets.specs.Sheet.{kind_of, refusal_at, readable_told, groups_told, judged_told, farthest_line};
 
-use lines::Verdict;
+use lines::{Group, LineFault};
 use rules::{Kind, Refusal};
-
-#[derive(Clone, Copy)]
-pub enum SheetVerdict {
-    Right,
-    Wrong(Refusal),
-}
 
 pub fn refused(kind: Kind, line: usize) -> Refusal
     ensures { result ≡ refusal_at kind line }
@@ -32,93 +27,69 @@ pub fn refused(kind: Kind, line: usize) -> Refusal
 fn ends(s: &[u8]) -> bool
     ensures { result ≡ empty (last (split 0x0A s.now)) }
 {
-    let n = s.len();
-    if n == 0 {
-        return true;
+    match s {
+        [] => true,
+        [.., end] => *end == 0x0A,
     }
-    s[n - 1] == 0x0A
 }
 
 // Whether the lines of a sheet may be read: 40 and 41.
-pub fn readable(sheet: &[u8]) -> SheetVerdict
-    ensures { told_judged result ≡ readable_told sheet.now }
+pub fn readable(sheet: &[u8]) -> Result<(), Refusal>
+    ensures { told result ≡ readable_told sheet.now }
 {
     if 65536 < sheet.len() {
-        return SheetVerdict::Wrong(refused(Kind::SheetTooLong, 0));
+        return Err(refused(Kind::SheetTooLong, 0));
     }
     if !scan::keeps(sheet, 0x0A) {
-        return SheetVerdict::Wrong(refused(Kind::SheetBytes, 0));
+        return Err(refused(Kind::SheetBytes, 0));
     }
     if !ends(sheet) {
-        return SheetVerdict::Wrong(refused(Kind::SheetBytes, 0));
+        return Err(refused(Kind::SheetBytes, 0));
     }
-    SheetVerdict::Right
+    Ok(())
 }
 
 // ---- 42 and 43
 
-// The line that a verdict names, and what is wrong there.
-fn index(v: Verdict) -> usize
-    ensures { result ≡ index_of v }
-{
-    match v {
-        Verdict::Fine => 0,
-        Verdict::Key(k) => k,
-        Verdict::Value(k) => k,
-    }
-}
-
-fn kind(v: Verdict) -> Kind
-    ensures { result ≡ kind_of v }
-{
-    match v {
-        Verdict::Fine => Kind::Key,
-        Verdict::Key(_) => Kind::Key,
-        Verdict::Value(_) => Kind::LineValue,
-    }
-}
-
 // The refusal of a group whose first line has this number.
-pub fn unread(v: Verdict, line: usize) -> Refusal
-    requires { (index_of v ≤ 10) × (line ≤ farthest_line) }
-    ensures { result ≡ refusal_at (kind_of v) (line + index_of v) }
+pub fn unread(fault: LineFault, line: usize) -> Refusal
+    requires { (line_of fault ≤ 10) × (line ≤ farthest_line) }
+    ensures { result ≡ refusal_at (kind_of fault) (line + line_of fault) }
 {
-    refused(kind(v), line + index(v))
+    let (kind, k) = match fault {
+        LineFault::Key(k) => (Kind::Key, k),
+        LineFault::Value(k) => (Kind::LineValue, k),
+    };
+    refused(kind, line + k)
 }
 
-fn read_groups(sheet: &[u8]) -> SheetVerdict
+fn read_groups(sheet: &[u8]) -> Result<(), Refusal>
     requires { length sheet.now ≤ longest_sheet }
-    ensures { told_judged result ≡ groups_told sheet.now }
+    ensures { told result ≡ groups_told sheet.now }
 {
     let mut reached = order::start();
-    let mut at = 0;
     let mut line = 1;
-    let mut places = lines::cut(sheet);
-    while lines::has_line(&places) {
-        let rest = &sheet[at..];
-        let next = openings::next_group(reached, rest, &places);
-        let v = groups::group(next, rest, &places);
-        if !lines::fine(v) {
-            return SheetVerdict::Wrong(unread(v, line));
+    let mut rest = Group::of(sheet);
+    while rest.has_line() {
+        let next = openings::next_group(reached, &rest);
+        if let Err(fault) = groups::group(next, &rest) {
+            return Err(unread(fault, line));
         }
         let n = groups::lines_in(next);
         line += n;
-        at += places[n];
+        rest = Group::of(rest.behind(n));
         reached = openings::past_group(reached, next);
-        places = lines::cut(&sheet[at..]);
     }
     if !order::may_end(reached) {
-        return SheetVerdict::Wrong(refused(Kind::Key, line));
+        return Err(refused(Kind::Key, line));
     }
-    SheetVerdict::Right
+    Ok(())
 }
 
 // 40 to 43 of a sheet; its message is not measured.
-pub fn judge(sheet: &[u8]) -> SheetVerdict
-    ensures { told_judged result ≡ judged_told sheet.now }
+pub fn judge(sheet: &[u8]) -> Result<(), Refusal>
+    ensures { told result ≡ judged_told sheet.now }
 {
-    match readable(sheet) {
-        SheetVerdict::Wrong(r) => SheetVerdict::Wrong(r),
-        SheetVerdict::Right => read_groups(sheet),
-    }
+    readable(sheet)?;
+    read_groups(sheet)
 }

@@ -3,15 +3,13 @@
 #![tactic(auto)]
 
 ghost use Rattle.std.specs.Prelude.{◌≡◌};
-ghost use Rattle.rules.specs.Told.{gives};
+ghost use Rattle.rules.specs.Told.{told, gives};
 ghost use Rattle.rules.specs.Message.{base};
 ghost use Rattle.rules.specs.Promises.{MessageWritten};
-ghost use Rattle.compose.specs.Compose.{told_size};
 ghost use Rattle.to_message.specs.Call.{measured_told};
 
-use compose::{Passed, Size};
-use rules::{Delims, Kind, Written};
-use sheets::SheetVerdict;
+use compose::Size;
+use rules::{Delims, Kind, Refusal};
 
 // "The writer uses `|^~\&`".
 fn delimiters() -> Delims
@@ -27,43 +25,36 @@ fn delimiters() -> Delims
 }
 
 // 40 to 43 of a sheet, or how many bytes and segments its message has.
-fn measure(sheet: &[u8]) -> Passed
-    ensures { told_size result ≡ measured_told sheet.now }
+fn measure(sheet: &[u8]) -> Result<Size, Refusal>
+    ensures { told result ≡ measured_told sheet.now }
 {
-    match sheets::readable(sheet) {
-        SheetVerdict::Wrong(r) => Passed::Not(r),
-        SheetVerdict::Right => {
-            let d = delimiters();
-            let mut nothing = [0u8; 0];
-            compose::pass(&mut nothing, sheet, d, false)
-        }
-    }
+    sheets::readable(sheet)?;
+    let d = delimiters();
+    let mut nothing = [0u8; 0];
+    compose::pass(&mut nothing, sheet, d, false)
 }
 
 // 44, 45, or the message of a sheet that was judged and whose message has this size.
-fn write(out: &mut [u8], sheet: &[u8], size: Size) -> Written
+fn write(out: &mut [u8], sheet: &[u8], size: Size) -> Result<usize, Refusal>
     requires { gives size ≡ measured_told sheet.now }
     ensures { MessageWritten sheet.now out.old result out.new }
 {
     let bytes = size.bytes;
-    let segments = size.segments;
-    if (32768 < bytes) | (512 < segments) {
-        return Written::NotWritten(sheets::refused(Kind::Overflow, 0));
+    if (32768 < bytes) | (512 < size.segments) {
+        return Err(sheets::refused(Kind::Overflow, 0));
     }
     if out.len() < bytes {
-        return Written::NotWritten(sheets::refused(Kind::Room, 0));
+        return Err(sheets::refused(Kind::Room, 0));
     }
     let d = delimiters();
-    compose::pass(out, sheet, d, true);
-    Written::Wrote(bytes)
+    let _ = compose::pass(out, sheet, d, true);
+    Ok(bytes)
 }
 
 // Sheet to message.
-pub fn to_message(sheet: &[u8], out: &mut [u8]) -> Written
+pub fn to_message(sheet: &[u8], out: &mut [u8]) -> Result<usize, Refusal>
     ensures { MessageWritten sheet.now out.old result out.new }
 {
-    match measure(sheet) {
-        Passed::Not(r) => Written::NotWritten(r),
-        Passed::All(size) => write(out, sheet, size),
-    }
+    let size = measure(sheet)?;
+    write(out, sheet, size)
 }

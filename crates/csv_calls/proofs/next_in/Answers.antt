@@ -2,23 +2,25 @@ use Rattle.csv_calls.proofs.Sheet.{next-broken, next-52, next-53, part-long, con
 use borrow.Author.Rules.{rules}
 use Rattle.csv_calls.proofs.next_in.Goals as goal
 
-pub returns-then-run : goal.returns-then-run
-returns-then-run c = search (next-broken, rules)
+pub returns-in_default : goal.returns-in_default
+returns-in_default c = next-broken _ _ _ _ c.in_default.ensures.0
 
 pub returns-then-not-run : goal.returns-then-not-run
-returns-then-not-run c = search (next-52, rules)
+returns-then-not-run c = next-52 _ _ _ _ c.in-Some.ensures.run c.if-not-run.true
 
-pub returns-then-run-2 : goal.returns-then-run-2
-returns-then-run-2 c = search (next-53, rules)
+pub returns-then-run : goal.returns-then-run
+returns-then-run c = next-53 _ _ _ _ c.in-Some.ensures.run c.if-not-run.false c.if-run.true
 
 pub slice_bounds-handed-end-then-end-sheet : goal.slice_bounds-handed-end-then-end-sheet
-slice_bounds-handed-end-then-end-sheet c = search (part-long, rules)
+slice_bounds-handed-end-then-end-sheet c = part-long _ _ _ _ _ _ _ _ _ c.in-Some.ensures
 
 pub returns-then-end-sheet : goal.returns-then-end-sheet
-returns-then-end-sheet c = search (next_small, rules)
+returns-then-end-sheet c =
+    next_small _ _ _ _ _ _ _ _ _ _ c.in-Some.ensures c.if-not-run.false c.if-run.false (search (c.if-end-sheet.true, rules)) _ _
+    c.handed-made.ensures
 
 pub large-made-requires : goal.large-made-requires
-large-made-requires c = search (convertible, rules)
+large-made-requires c = (c.requires, convertible _ _ c.in-Some.ensures.run c.if-not-run.false)
 
 pub returns : goal.returns
-returns c = search (next-made, rules)
+returns c = next-made _ _ _ _ c.in-Some.ensures.run c.if-not-run.false c.if-run.false _ _ c.large-made.ensures

@@ -5,8 +5,8 @@ use Rattle.csv_calls.proofs.place_after.Goals as goal
 pub returns-then-file-at : goal.returns-then-file-at
 returns-then-file-at c = search (behind-none, rules)
 
-pub returns-then-run : goal.returns-then-run
-returns-then-run c = search (behind-broken, rules)
+pub returns-in-Some : goal.returns-in-Some
+returns-in-Some c = behind-run _ _ c.in-Some.ensures
 
-pub returns : goal.returns
-returns c = search (behind-run, rules)
+pub returns-in-None : goal.returns-in-None
+returns-in-None c = behind-broken _ _ c.in-None.ensures

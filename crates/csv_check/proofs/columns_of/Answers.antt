@@ -1,12 +1,13 @@
-use borrow.Author.Rules.{rules}
+use mathlib.Core.Path.{sym}
+use borrow.Author.Tests.{eqb-true}
 use Rattle.csv_check.proofs.Lines.{columns-none, columns-broken, columns-read}
 use Rattle.csv_check.proofs.columns_of.Goals as goal
 
-pub returns-then-file-eq0 : goal.returns-then-file-eq0
-returns-then-file-eq0 c = search (columns-none, rules)
+pub returns-then-is_empty : goal.returns-then-is_empty
+returns-then-is_empty c = columns-none _ (eqb-true _ 0 (sym c.if-is_empty.ensures))
 
-pub returns-then-version : goal.returns-then-version
-returns-then-version c = search (columns-broken, rules)
+pub returns-in_err-version : goal.returns-in_err-version
+returns-in_err-version c = rw c.from_residual.ensures (columns-broken _ c.in_err-version.ensures)
 
 pub returns : goal.returns
-returns c = search (columns-read, rules)
+returns c = columns-read _ _ _ _ _ _ c.in_ok-version.ensures _ c.item.ensures _ c.column_count.ensures

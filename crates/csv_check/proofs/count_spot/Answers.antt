@@ -8,8 +8,8 @@ returns-then-lines-eq0 c = search (spot-none, rules)
 pub returns-then-lines-eq1 : goal.returns-then-lines-eq1
 returns-then-lines-eq1 c = search (spot-one, rules)
 
-pub returns-then-counts : goal.returns-then-counts
-returns-then-counts c = search (spot-rows, rules)
+pub returns-then-is_some : goal.returns-then-is_some
+returns-then-is_some c = search (spot-rows, rules)
 
 pub returns : goal.returns
 returns c = search (spot-columns, rules)

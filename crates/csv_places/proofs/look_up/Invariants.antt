@@ -1,10 +1,7 @@
-use Prim.Native.Nat.{◌<◌}
-use Rattle.csv_rows.specs.Rows.{row_at}
+use Prim.Native.Nat.{◌-◌, ◌<◌}
+use Rattle.csv_rows.specs.Rows.{items_of}
 use Rattle.csv_places.proofs.Laws.{Looking}
 use Rattle.csv_places.proofs.look_up.Given as goal
 
-abbrev pub invariant-loop-left : goal.invariant-loop-left
-invariant-loop-left l = (l.slot < 32768) × Looking l.file l.places (row_at l.file l.spans) l.slot l.left
-
-abbrev pub decreases-loop-left : goal.decreases-loop-left
-decreases-loop-left l = l.left
+abbrev pub invariant-loop : goal.invariant-loop
+invariant-loop l = (l.slot < 32768) × Looking l.file l.places (items_of l.row) l.slot (256 - l.counter)

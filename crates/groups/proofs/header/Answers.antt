@@ -1,6 +1,16 @@
-use borrow.Author.Rules.{rules}
+use mathlib.Core.Path.{refl}
+use Rattle.lines.proofs.Laws.{exit-is}
 use Rattle.groups.proofs.Laws.{header_is}
 use Rattle.groups.proofs.header.Goals as goal
 
+pub returns-in_err-line_if : goal.returns-in_err-line_if
+returns-in_err-line_if c = header_is _ c.value_at.ensures.value c.equal-one.ensures c.in_err-line_if.ensures refl refl refl (exit-is c.from_residual.ensures.1)
+
+pub returns-in_err-line : goal.returns-in_err-line
+returns-in_err-line c = header_is _ c.value_at.ensures.value c.equal-one.ensures c.in_ok-line_if.ensures c.in_err-line.ensures refl refl (exit-is c.from_residual-in_err-line.ensures.1)
+
+pub returns-in_err-line-2 : goal.returns-in_err-line-2
+returns-in_err-line-2 c = header_is _ c.value_at.ensures.value c.equal-one.ensures c.in_ok-line_if.ensures c.in_ok-line.ensures c.in_err-line-2.ensures refl (exit-is c.from_residual-in_err-line-2.ensures.1)
+
 pub returns : goal.returns
-returns c = search (header_is, rules)
+returns c = header_is _ c.value_at.ensures.value c.equal-one.ensures c.in_ok-line_if.ensures c.in_ok-line.ensures c.in_ok-line-2.ensures c.line-3.ensures refl

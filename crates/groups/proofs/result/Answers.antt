@@ -1,11 +1,12 @@
-use borrow.Author.Rules.{rules}
-use Rattle.groups.proofs.Laws.{parts-joined, status-agrees}
+use Rattle.lines.proofs.Laws.{exit-is}
+use Rattle.groups.proofs.Laws.{item-wrong, parts-wrong, status-is}
 use Rattle.groups.proofs.result.Goals as goal
 
-pub parts-requires : goal.parts-requires
-parts-requires c =
-    (search rules, search rules, parts-joined _ _ _ _ _ c.value_at-compare.ensures.0 c.value_at-value.ensures.0 c.value_at-join.ensures.0 c.value_at-second.ensures.0 _ c.joined-also.ensures)
+pub returns-in_err-item : goal.returns-in_err-item
+returns-in_err-item c = rw (exit-is c.from_residual.ensures.1) (item-wrong _ c.in_err-item.ensures)
+
+pub returns-in_err-parts : goal.returns-in_err-parts
+returns-in_err-parts c = rw (exit-is c.from_residual-in_err-parts.ensures.1) (parts-wrong _ c.in_err-parts.ensures)
 
 pub standing-requires : goal.standing-requires
-standing-requires c =
-    (search rules, search rules, status-agrees _ _ _ _ _ c.value_at-compare.ensures.0 c.value_at-value.ensures.0 c.value_at-join.ensures.0 c.value_at-second.ensures.0 _ _ c.value_at-status.ensures.0 c.agrees-met.ensures)
+standing-requires c = (c.in_ok-parts.ensures, rw (← c.of-said.ensures, ← status-is _ c.value_at.ensures.value) c.agrees.ensures)

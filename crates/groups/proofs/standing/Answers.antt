@@ -1,6 +1,13 @@
-use borrow.Author.Rules.{rules}
+use mathlib.Core.Path.{refl}
+use Rattle.lines.proofs.Laws.{exit-is}
 use Rattle.groups.proofs.Laws.{standing-is}
 use Rattle.groups.proofs.standing.Goals as goal
 
+pub returns-in_err-line : goal.returns-in_err-line
+returns-in_err-line c = standing-is _ c.requires.1 c.requires.0 c.in_err-line.ensures refl refl (exit-is c.from_residual.ensures.1)
+
+pub returns-in_err-line-2 : goal.returns-in_err-line-2
+returns-in_err-line-2 c = standing-is _ c.requires.1 c.requires.0 c.in_ok-line.ensures c.in_err-line-2.ensures refl (exit-is c.from_residual-in_err-line-2.ensures.1)
+
 pub returns : goal.returns
-returns c = search (standing-is, rules)
+returns c = standing-is _ c.requires.1 c.requires.0 c.in_ok-line.ensures c.in_ok-line-2.ensures c.line_if.ensures refl

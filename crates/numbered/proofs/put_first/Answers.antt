@@ -1,30 +1,12 @@
 use borrow.Author.Rules.{rules}
-use Rattle.numbered.proofs.Texts.{numbered-spm, numbered-obx, put-msh, put-pid, put-pv1, put-spm, put-obr, put-orc, put-obx, put_other}
-use Rattle.rules.specs.Frame.{spelling}
-use Rattle.rules.specs.Lists.{bytes}
+use Rattle.numbered.proofs.Texts.{numbered-spm, numbered-obx, put-msh, put-pid, put-pv1, put-spm, put-obr, put-none, put-obx}
 use Rattle.numbered.proofs.put_first.Goals as goal
 
-pub header-requires : goal.header-requires
-unfolding spelling bytes
-header-requires c = search rules
-
-pub patient-requires : goal.patient-requires
-unfolding spelling bytes
-patient-requires c = search rules
-
-pub visit-requires : goal.visit-requires
-unfolding spelling bytes
-visit-requires c = search rules
-
 pub put_numbered-requires : goal.put_numbered-requires
-put_numbered-requires c = (search rules, search rules, search (numbered-spm, rules), search rules, search rules)
-
-pub order-requires : goal.order-requires
-unfolding spelling bytes
-order-requires c = search rules
+put_numbered-requires c = (search rules, search (numbered-spm, rules), search rules)
 
 pub put_numbered-requires-in-Obx : goal.put_numbered-requires-in-Obx
-put_numbered-requires-in-Obx c = (search rules, search rules, search (numbered-obx, rules), search rules, search rules)
+put_numbered-requires-in-Obx c = (search rules, search (numbered-obx, rules), search rules)
 
 pub returns-in-Msh : goal.returns-in-Msh
 returns-in-Msh c = record { fit = search (put-msh, rules); within = search rules }
@@ -42,10 +24,7 @@ pub returns-in-Obr : goal.returns-in-Obr
 returns-in-Obr c = record { fit = search (put-obr, rules); within = search rules }
 
 pub returns-in-Orc : goal.returns-in-Orc
-returns-in-Orc c = record { fit = search (put-orc, rules); within = search rules }
+returns-in-Orc c = record { fit = search (put-none, rules); within = search rules }
 
 pub returns-in-Obx : goal.returns-in-Obx
 returns-in-Obx c = record { fit = search (put-obx, rules); within = search rules }
-
-pub returns-in-Other : goal.returns-in-Other
-returns-in-Other c = record { fit = search (put_other, rules); within = search rules }

@@ -1,34 +1,24 @@
 use borrow.Author.Rules.{rules}
 use Rattle.numbered.proofs.Texts.{number_short, number_is_lem, number_size, numbered-specimen, numbered-result}
 use Rattle.writer.proofs.Laws.{front-within}
-use Rattle.rules.specs.Frame.{spelling}
-use Rattle.rules.specs.Lists.{bytes}
 use Rattle.numbered.proofs.put_numbered.Goals as goal
 
 pub put_number-len-requires : goal.put_number-len-requires
 put_number-len-requires c = search (number_short, rules)
 
+pub slice_bounds-number-end : goal.slice_bounds-number-end
+slice_bounds-number-end c = search (front-within, rules)
+
 pub slice_bounds-digits-end : goal.slice_bounds-digits-end
 slice_bounds-digits-end c = search (front-within, rules)
 
-pub slice_bounds-specimen-end-then-is : goal.slice_bounds-specimen-end-then-is
-slice_bounds-specimen-end-then-is c = search (front-within, rules)
-
 pub specimen-requires : goal.specimen-requires
-unfolding spelling bytes
 specimen-requires c = (search rules, search (number_size, rules))
 
 pub returns-then-is : goal.returns-then-is
 returns-then-is c = record { fit = search (numbered-specimen, number_is_lem, rules); within = search rules }
 
-pub slice_bounds-digits-end-2 : goal.slice_bounds-digits-end-2
-slice_bounds-digits-end-2 c = search (front-within, rules)
-
-pub slice_bounds-result-end-2 : goal.slice_bounds-result-end-2
-slice_bounds-result-end-2 c = search (front-within, rules)
-
 pub result-requires : goal.result-requires
-unfolding spelling bytes
 result-requires c = (search rules, search (number_size, rules))
 
 pub returns : goal.returns

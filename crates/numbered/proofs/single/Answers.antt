@@ -1,3 +1,4 @@
+use mathlib.Core.Path.{refl}
 use borrow.Author.Rules.{rules}
 use Rattle.writer.specs.Woven.{holes, taken, sizes}
 use Rattle.numbered.proofs.Texts.{single-is}
@@ -9,6 +10,6 @@ fit_woven-requires c = search (c.requires, rules)
 
 pub returns : goal.returns
 returns c = record {
-  fit = single-is _ _ _ _ _ _ _ _ _ _ _ _ _ _ c.requires.0.named c.value_at-item.ensures.0 c.value_at-name.ensures.0 c.value_at-value_type.ensures.0 c.value_at-value.ensures.0 c.value_at-unit.ensures.0 c.value_at-flag.ensures.0 c.value_at-status.ensures.0 c.requires.2 c.fit_woven.ensures.fit;
+  fit = single-is _ _ _ _ _ _ _ _ _ _ _ _ _ _ refl c.value_at-item.ensures.value c.value_at-name.ensures.value c.value_at-value_type.ensures.value c.value_at-value.ensures.value c.value_at-unit.ensures.value c.value_at-flag.ensures.value c.value_at-status.ensures.value c.requires.2 c.fit_woven.ensures.fit;
   within = c.fit_woven.ensures.within;
 }

@@ -1,10 +1,9 @@
-use Prim.Native.Nat.{◌-◌}
 use lib.ListN.{length}
 use Rattle.sheets.proofs.Judging.{Judging}
 use Rattle.sheets.proofs.read_groups.Given as goal
 
-abbrev pub invariant-loop-places : goal.invariant-loop-places
-invariant-loop-places l = Judging l.sheet l.reached l.at l.line l.places
+abbrev pub invariant-loop-rest : goal.invariant-loop-rest
+invariant-loop-rest l = Judging l.sheet l.reached l.rest l.line
 
-abbrev pub decreases-loop-places : goal.decreases-loop-places
-decreases-loop-places l = length l.sheet - l.at
+abbrev pub decreases-loop-rest : goal.decreases-loop-rest
+decreases-loop-rest l = length l.rest

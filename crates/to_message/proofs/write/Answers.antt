@@ -2,8 +2,8 @@ use Rattle.to_message.proofs.Calling.{base-proper, measured-short, measured-righ
 use borrow.Author.Rules.{rules}
 use Rattle.to_message.proofs.write.Goals as goal
 
-pub returns-then-bytes-segments : goal.returns-then-bytes-segments
-returns-then-bytes-segments c = search (write-44, rules)
+pub returns-then-bytes-size : goal.returns-then-bytes-size
+returns-then-bytes-size c = search (write-44, rules)
 
 pub returns-then-out-bytes : goal.returns-then-out-bytes
 returns-then-out-bytes c = search (write-45, rules)

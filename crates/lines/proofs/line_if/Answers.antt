@@ -1,6 +1,0 @@
-use borrow.Author.Rules.{rules}
-use Rattle.lines.proofs.Laws.{line-if-is}
-use Rattle.lines.proofs.line_if.Goals as goal
-
-pub returns : goal.returns
-returns c = search (line-if-is, rules)
