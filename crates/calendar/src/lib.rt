@@ -1,15 +1,8 @@
 // "Time is YYYYMMDDHHMMSS, date YYYYMMDD, years 1900–2099, Gregorian, 00–23, 00–59, 00–59."
-#![tactic(auto)]
+#![tactic(auto, using(crate::proofs::Laws::day_is), unfolding(rules::specs::Value::leap, rules::specs::Value::days_in, rules::specs::Value::two, rules::specs::Value::clock_ok, rules::specs::Value::holds))]
 
 ghost use Rattle.std.specs.Prelude.{◌≡◌, ◌+◌, ◌-◌, ◌<◌, ◌≤◌, length};
-ghost use Rattle.rules.specs.Shift.{within};
 ghost use Rattle.rules.specs.Value as Val;
-
-fn in_range(low: u32, high: u32, n: u32) -> bool
-    ensures { result ≡ within low high n }
-{
-    (low <= n) & (n <= high)
-}
 
 fn is_leap(year: u32) -> bool
     ensures { result ≡ Val.leap year }
@@ -21,26 +14,18 @@ fn is_leap(year: u32) -> bool
 fn days_in(leap: bool, month: u32) -> u32
     ensures { result ≡ Val.days_in leap month }
 {
-    if month == 2 {
-        if leap {
-            return 29;
-        }
-        return 28;
+    match month {
+        2 => if leap { 29 } else { 28 },
+        4 | 6 | 9 | 11 => 30,
+        _ => 31,
     }
-    if (month == 4) | (month == 6) | (month == 9) | (month == 11) {
-        return 30;
-    }
-    31
 }
 
 // The number of a digit; 0 below the digits.
 fn digit_value(b: u8) -> u32
     ensures { (result ≡ b - 48) × (result < 256) }
 {
-    if b < 48 {
-        return 0;
-    }
-    (b - 48) as u32
+    u32::from(b.saturating_sub(48))
 }
 
 // The number of the two digits at k.
@@ -58,8 +43,11 @@ fn is_day(v: &[u8]) -> bool
 {
     let year = 100 * two_digits(v, 0) + two_digits(v, 2);
     let month = two_digits(v, 4);
+    let day = two_digits(v, 6);
     let last = days_in(is_leap(year), month);
-    in_range(1900, 2099, year) & in_range(1, 12, month) & in_range(1, last, two_digits(v, 6))
+    ((1900 <= year) & (year <= 2099))
+        & ((1 <= month) & (month <= 12))
+        & ((1 <= day) & (day <= last))
 }
 
 // The HHMMSS that follow name a time of day.
@@ -73,17 +61,11 @@ fn is_clock(v: &[u8]) -> bool
 pub fn is_date(v: &[u8]) -> bool
     ensures { result ≡ Val.holds Val.date v.now }
 {
-    if !plain_bytes::digits(v, 8) {
-        return false;
-    }
-    is_day(v)
+    plain_bytes::digits(v, 8) && is_day(v)
 }
 
 pub fn is_time(v: &[u8]) -> bool
     ensures { result ≡ Val.holds Val.time v.now }
 {
-    if !plain_bytes::digits(v, 14) {
-        return false;
-    }
-    is_day(v) & is_clock(v)
+    plain_bytes::digits(v, 14) && is_day(v) && is_clock(v)
 }

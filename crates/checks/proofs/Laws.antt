@@ -1,6 +1,6 @@
 -- Laws of the check: one for each way through its code. Assumes nothing.
 use mathlib.Core.Path.{◌≡◌, refl, sym, ap, ◌∙◌}
-use mathlib.Core.Bool.{Bool, true, false, not, false≢true}
+use mathlib.Core.Bool.{Bool, true, false}
 use mathlib.Core.List.{List, [], ◌∷◌, map}
 use Prim.Native.Nat.{ℕ, suc, ◌+◌, ◌-◌, ◌≤◌, ◌<◌}
 use native.Mathlib.Numerals.{add-one}
@@ -11,10 +11,12 @@ use Rattle.rules.specs.declared.Counts.{Counts}
 use Rattle.rules.specs.declared.Kind.{Kind}
 use Rattle.rules.specs.declared.Refusal.{Refusal}
 use Rattle.rules.specs.declared.Name.{Name}
-use Rattle.rules.specs.declared.Name.TheVariants.{Obr, Other}
-use Rattle.rules.specs.declared.Answer.{Answer}
-use Rattle.rules.specs.declared.Answer.TheVariants.{Accepted, Refused}
-use Rattle.rules.specs.Told.{Told, gives, refused, number, told, ◌>>◌}
+use Rattle.rules.specs.declared.Name.TheVariants.{Other}
+use Rattle.std.specs.declared.result.Result.{Result}
+use Rattle.std.specs.declared.result.Result.TheVariants.{Ok, Err}
+use Rattle.std.specs.Result.{IsErrAnd}
+use Rattle.std.proofs.lemmas.Result.{err_from_is_err_and}
+use Rattle.rules.specs.Told.{Told, gives, refused, refusal, number, told, ◌>>◌}
 use Rattle.rules.specs.Lists.{split, all_but_last}
 use Rattle.rules.specs.Shift.{met}
 use Rattle.rules.specs.Frame.{known, segments, segments_ok, name_of, known_from, is}
@@ -22,21 +24,16 @@ use Rattle.rules.specs.Places.{places}
 use Rattle.rules.specs.View.{field_of, part_of, segment_of, Segment, view}
 use Rattle.rules.specs.Check.{Context, fault_told, parts_told, unsaid, context_after, places_told}
 use Rattle.rules.specs.Promises.{Checked}
-use Rattle.rules.proofs.Logic.{not-true, not-false}
 use Rattle.rules.proofs.Names.{in_names}
 use Rattle.rules.proofs.Lists.{over, rest-is, rest-further, rest-on, rest_end}
 use Rattle.plain_bytes.specs.Bytes.{until}
 use Rattle.plain_bytes.specs.Bytes as Bytes
-use Rattle.value.specs.declared.Fault.{Fault}
-use Rattle.value.specs.declared.Fault.TheVariants.{Nothing}
-use Rattle.value.specs.Rules.{fault_no, fine_of}
-use Rattle.value.proofs.Laws.{fine-zero, fault-some}
+use Rattle.value.proofs.Laws.{number-some}
+use Rattle.fields.specs.declared.FieldFault.{FieldFault}
+use Rattle.fields.specs.Fields.{fault_in, field_in}
 use Rattle.fields.specs.Segment.{as_known, said, FoundIn}
-use Rattle.specimen.specs.Specimen.{OrderAt}
-use Rattle.frame.specs.Frame.{framed_told, frame_of, Sound}
+use Rattle.frame.specs.Frame.{frame_of, Sound}
 use Rattle.frame.specs.declared.Opened.{Opened}
-use Rattle.frame.specs.declared.Framed.{Framed}
-use Rattle.frame.specs.declared.Framed.TheVariants.{Open, Not}
 use Rattle.frame.proofs.Rules.{check-refused, check-given}
 use Rattle.frame.proofs.Laws.{segments-next, there, ends-inside, good-there, named-there}
 use Rattle.checks.specs.Check.{read_told}
@@ -73,10 +70,10 @@ module _ (d : Delims) (x : Context) (i at : ℕ) (r : List ℕ) (n : ℕ) (en : 
       ap (λ l. places_told d x i (map (segment_of d) (known_from at l))) next
       ∙ rw e (ap (λ k. parts_told d x i k k.parts >> places_told d (context_after d x k) (suc i) (map (segment_of d) (known_from (at + suc (length seg)) (segments (drop (suc n) r))))) (known_is d (name_of seg) at (met seg)))
 
-  -- a fault that is found is the answer; where there is none, the rest is
-  turn-found : (f k : ℕ) → is (name_of seg) Other ≡ false → FoundIn (name_of seg) d x (met seg) f k
-      → told_from d x i at r ≡ (fault_told i f k >> told_from d (context_after d x segment) (suc i) (at + suc (length seg)) (drop (suc n) r))
-  turn-found f k e w =
+  -- what is broken is the answer; where nothing is, the rest is
+  turn-found : {A : Type 0} (f : Result A FieldFault) → is (name_of seg) Other ≡ false → FoundIn (name_of seg) d x (met seg) f
+      → told_from d x i at r ≡ (fault_told i (field_in f) (fault_in f) >> told_from d (context_after d x segment) (suc i) (at + suc (length seg)) (drop (suc n) r))
+  turn-found f e w =
       turn-known e ∙ ap (λ t. t >> told_from d (context_after d x segment) (suc i) (at + suc (length seg)) (drop (suc n) r)) (sym (w.told i))
 
 -- ---- the loop over the segments: what is left to be told when those before `at` are read
@@ -90,20 +87,20 @@ pub starts : (d : Delims) (m : List ℕ) → Sound m d → Going d m [] 1 0
 starts d m s = record { inside = omega arith; ordinal = omega arith; whole = s.whole; told = refl }
 
 -- what the loop tells is what is told in the end
-read_is : (d : Delims) (m : List ℕ) (c : Counts) → Sound m d → (told_from d unsaid 1 0 m >> gives c) ≡ read_told d c m
+read_is : (d : Delims) (m : List ℕ) → Sound m d → told_from d unsaid 1 0 m ≡ read_told d m
 unfolding read_told told_from view known
-read_is d m c s = rw s.delims
+read_is d m s = rw s.delims
 
-pub ends : (d : Delims) (m order : List ℕ) (i at : ℕ) (c : Counts) → Sound m d → Going d m order i at → length m ≤ at → told (Accepted c) ≡ read_told d c m
-ends d m order i at c s g h = sym (ap (λ t. t >> gives c) (g.told ∙ none)) ∙ read_is d m c s
+pub ends : (d : Delims) (m order : List ℕ) (i at : ℕ) → Sound m d → Going d m order i at → length m ≤ at → told (Ok tt) ≡ read_told d m
+ends d m order i at s g h = sym (g.told ∙ none) ∙ read_is d m s
   where
     none : told_from d (said order) i at (drop at m) ≡ gives tt
     none = rw (over m at h) (unfold told_from segments split all_but_last known_from places_told in refl)
 
--- a fault ends what is told
-stopped : {A : Type 0} (f : Fault) (i field : ℕ) (t : Told A) → fine_of f ≡ false → (fault_told i field (fault_no f) >> t) ≡ refused (fault_no f) i field
+-- what is broken ends what is told
+stopped : (k : Kind) (i field : ℕ) (t : Told (Unit {0})) → (fault_told i field (number k) >> t) ≡ refused (number k) i field
 unfolding fault_told
-stopped f i field t h = rw (fault-some f h)
+stopped k i field t = rw (number-some k)
 
 module _ (d : Delims) (m order : List ℕ) (i at n : ℕ) (g : Going d m order i at) (k : at < length m)
     (en : n ≡ length (until (Bytes.is_byte 0x0D) (take (length m - at) (drop at m)))) (l : n ≤ length (take (length m - at) (drop at m))) where
@@ -129,64 +126,39 @@ module _ (d : Delims) (m order : List ℕ) (i at n : ℕ) (g : Going d m order i
           told = g.told ∙ turn-skip d (said order) i at (drop at m) n (there m at n en) short (rw named (sym et ∙ h)) ∙ rw (rest_end m at n short, rest-on m at n);
         }
 
-    module _ (f : Fault) (field : ℕ) (found : FoundIn x d (said order) (met (take n (take (length m - at) (drop at m)))) field (fault_no f)) (ht : t ≡ false) (u : Bool) (eu : u ≡ fine_of f) where
-      unfoldable tail : Context → Told (Unit {0})
-      tail y = told_from d y (suc i) (at + (n + 1)) (drop (at + (n + 1)) m)
+    unfoldable tail : Context → Told (Unit {0})
+    tail y = told_from d y (suc i) (at + (n + 1)) (drop (at + (n + 1)) m)
 
-      after : Context
-      after = context_after d (said order) (segment_of d (as_known x (met (take n (drop at m)))))
+    after : Context
+    after = context_after d (said order) (segment_of d (as_known x (met (take n (take (length m - at) (drop at m))))))
 
-      turned : told_from d unsaid 1 0 m ≡ (fault_told i field (fault_no f) >> tail after)
+    module _ {A : Type 0} (ht : t ≡ false) where
+      turned : (f : Result A FieldFault) → FoundIn x d (said order) (met (take n (take (length m - at) (drop at m)))) f
+          → told_from d unsaid 1 0 m ≡ (fault_told i (field_in f) (fault_in f) >> tail after)
       unfolding tail after
-      turned =
-          g.told ∙ turn-found d (said order) i at (drop at m) n (there m at n en) short field (fault_no f) (rw named (sym et ∙ ht)) (rw named (rw (rest-is m at) at found))
-          ∙ rw (named, rest_end m at n short, rest-on m at n)
+      turned f found =
+          g.told ∙ turn-found d (said order) i at (drop at m) n (there m at n en) short f (rw named (sym et ∙ ht)) (rw named (rw (rest-is m at) at found))
+          ∙ rw (named, rest_end m at n short, rest-on m at n, rest-is m at)
 
-      pub refuses : (c : Counts) (kind : Kind) → Sound m d → not u ≡ true → number kind ≡ fault_no f
-          → told (Refused (record { kind = kind; segment = i; field = field })) ≡ read_told d c m
-      refuses c kind s hu ek =
-          let r : told_from d unsaid 1 0 m ≡ refused (fault_no f) i field = turned ∙ stopped f i field (tail after) (sym eu ∙ not-true u hu) in
-          ap (λ k. refused k i field) ek ∙ sym (ap (λ t. t >> gives c) r) ∙ read_is d m c s
+      pub refuses : (e : FieldFault) → Sound m d → FoundIn {A = A} x d (said order) (met (take n (take (length m - at) (drop at m)))) (Err e)
+          → told {A = Unit {0}} (Err (record { kind = e.kind; segment = i; field = e.field })) ≡ read_told d m
+      refuses e s found = sym (turned (Err e) found ∙ stopped e.kind i e.field (tail after)) ∙ read_is d m s
 
-      fine : not u ≡ false → fault_no f ≡ 0
-      fine hu = fine-zero f (sym eu ∙ not-false u hu)
-
-      pub passes : (w : Bool) → not u ≡ false → w ≡ is x Obr → w ≡ false → Going d m order (i + 1) (at + (n + 1))
-      unfolding context_after segment_of tail after fault_told
-      passes w hu ew hw =
-          record { inside = further; ordinal = omega (arith, g.ordinal); whole = rest-whole; told = turned ∙ rw (fine hu, ← ew, hw, add-one i) }
-
-      pub orders : (w : Bool) (a len : ℕ) → not u ≡ false → w ≡ is x Obr → w ≡ true → OrderAt x d (take n (take (length m - at) (drop at m))) (fault_no f) a len
-          → Going d m (take (a + len - a) (drop a (take n (take (length m - at) (drop at m))))) (i + 1) (at + (n + 1))
-      unfolding context_after segment_of tail after fault_told
-      orders w a len hu ew hw o =
-          let z : a + len - a ≡ len = omega arith in
-          record {
-            inside = further;
-            ordinal = omega (arith, g.ordinal);
-            whole = rest-whole;
-            told = turned ∙ rw (fine hu, ← ew, hw, add-one i, z, o.is (sym ew ∙ hw) (fine hu), rest-is m at);
-          }
-
--- an order number ends within its segment of n bytes
-pub order-ends : (x : Name) (d : Delims) (r : List ℕ) (n f a len : ℕ) → OrderAt x d (take n r) f a len → a + len ≤ n
-order-ends x d r n f a len o = omega (arith, o.within, length-take n r)
+      pub passes : (a : A) (o : List ℕ) → FoundIn {A = A} x d (said order) (met (take n (take (length m - at) (drop at m)))) (Ok a)
+          → said o ≡ context_after d (said order) (segment_of d (as_known x (met (take n (take (length m - at) (drop at m))))))
+          → Going d m o (i + 1) (at + (n + 1))
+      unfolding tail after fault_told
+      passes a o found e = record { inside = further; ordinal = omega (arith, g.ordinal); whole = rest-whole; told = turned (Ok a) found ∙ rw (← e, add-one i) }
 
 -- ---- the check
-pub faulty : (f : Fault) (u : Bool) → u ≡ fine_of f → not u ≡ true → fine_of f ≡ false
-faulty f u e h = sym e ∙ not-true u h
+module _ (m : List ℕ) (r : Result Counts Refusal) where
+  pub check-not : (e : Refusal) → refusal {A = Opened} e ≡ frame_of m → IsErrAnd r (λ y. y ≡ e) → Checked m r
+  check-not e h q = let p = err_from_is_err_and r q in rw (p.1, p.2) (sym (check-refused m (number e.kind) e.segment e.field (sym h)))
 
-pub kind-none : (f : Fault) (n : ℕ) → f ≡ Nothing → fine_of f ≡ false → n ≡ fault_no f
-unfolding fine_of fault_no
-kind-none f n e h = absurd (false≢true (sym h ∙ ap fine_of e))
-
-module _ (m : List ℕ) (p : Framed) (ep : framed_told p ≡ frame_of m) where
-  pub check-not : (r : Refusal) → p ≡ Not r → Checked m (Refused r)
-  check-not r e = sym (check-refused m (number r.kind) r.segment r.field (sym ep ∙ ap framed_told e))
-
-  pub check-read : (o : Opened) (a : Answer) → p ≡ Open o → told a ≡ read_told o.delims o.counts m → Checked m a
+  pub check-wrong : (o : Opened) (e : Refusal) → gives o ≡ frame_of m → refusal e ≡ read_told o.delims m → IsErrAnd r (λ y. y ≡ e) → Checked m r
   unfolding read_told
-  check-read o a e h = h ∙ sym (check-given m o (sym ep ∙ ap framed_told e))
+  check-wrong o e h g q = let p = err_from_is_err_and r q in rw (p.1, p.2) (sym (check-given m o (sym h) ∙ ap (λ t. t >> gives o.counts) (sym g)))
 
-pub sound-of : (m : List ℕ) (p : Framed) (o : Opened) → ((q : Opened) → p ≡ Open q → Sound m q.delims) → p ≡ Open o → Sound m o.delims
-sound-of m p o f e = f o e
+pub check-right : (m : List ℕ) (o : Opened) → gives o ≡ frame_of m → gives tt ≡ read_told o.delims m → Checked m (Ok o.counts)
+unfolding read_told
+check-right m o h g = sym (check-given m o (sym h) ∙ ap (λ t. t >> gives o.counts) (sym g))

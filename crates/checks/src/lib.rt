@@ -1,34 +1,26 @@
 // The check of a message: 10 to 27.
 #![tactic(auto)]
 
-ghost use Rattle.std.specs.Prelude.{◌≡◌, false};
-ghost use Rattle.rules.specs.Told.{told, number};
+ghost use Rattle.std.specs.Prelude.{◌≡◌};
+ghost use Rattle.rules.specs.Told.{told};
 ghost use Rattle.rules.specs.Promises.{Checked};
-ghost use Rattle.value.specs.Rules.{fault_no, fine_of};
 ghost use Rattle.frame.specs.Frame.{Sound};
 ghost use Rattle.checks.specs.Check.{read_told};
 
-use frame::Framed;
-use rules::{Answer, Counts, Delims, Kind, Name, Refusal};
-use value::Fault;
+use rules::{Counts, Delims, Name, Refusal};
 
-pub fn check(m: &[u8]) -> Answer
+pub fn check(m: &[u8]) -> Result<Counts, Refusal>
     ensures { Checked m.now result }
 {
-    match frame::frame(m) {
-        Framed::Not(r) => Answer::Refused(r),
-        Framed::Open(o) => {
-            let d = o.delims;
-            let counts = o.counts;
-            check_places(m, d, counts)
-        }
-    }
+    let o = frame::frame(m)?;
+    check_places(m, o.delims)?;
+    Ok(o.counts)
 }
 
 // 20 to 27, segment by segment; the order number of the last OBR is passed on.
-fn check_places(m: &[u8], d: Delims, counts: Counts) -> Answer
+fn check_places(m: &[u8], d: Delims) -> Result<(), Refusal>
     requires { Sound m.now d }
-    ensures { told result ≡ read_told d counts m.now }
+    ensures { told result ≡ read_told d m.now }
 {
     let mut order = &m[..0];
     let mut ordinal = 1;
@@ -42,40 +34,17 @@ fn check_places(m: &[u8], d: Delims, counts: Counts) -> Answer
         if names::is(name, Name::Other) {
             continue;
         }
-        let read = places::segment(name, s, d, order);
-        let fault = read.fault;
-        if !value::fine(fault) {
-            let kind = kind_of(fault);
-            return Answer::Refused(Refusal {
-                kind,
-                segment: ordinal,
-                field: read.field,
-            });
+        match places::segment(name, s, d, order) {
+            Ok(number) => order = number,
+            Err(fault) => {
+                return Err(Refusal {
+                    kind: fault.kind,
+                    segment: ordinal,
+                    field: fault.field,
+                });
+            }
         }
         ordinal += 1;
-        if names::is(name, Name::Obr) {
-            let from = read.at;
-            let to = from + read.len;
-            order = &s[from..to];
-        }
     }
-    Answer::Accepted(counts)
-}
-
-// The kind of a refusal for a fault.
-fn kind_of(f: Fault) -> Kind
-    requires { fine_of f ≡ false }
-    ensures { number result ≡ fault_no f }
-{
-    match f {
-        Fault::Nothing => Kind::Value,
-        Fault::Missing => Kind::Missing,
-        Fault::Null => Kind::Null,
-        Fault::Repeated => Kind::Repeated,
-        Fault::Escape => Kind::Escape,
-        Fault::Long => Kind::Long,
-        Fault::Value => Kind::Value,
-        Fault::Status => Kind::Status,
-        Fault::Differs => Kind::Differs,
-    }
+    Ok(())
 }

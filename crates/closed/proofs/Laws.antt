@@ -1,6 +1,7 @@
 -- Laws of the closed fields. Assumes nothing.
 use Prim.Native.Nat.{ℕ, zero, suc, ◌+◌, ◌-◌, ◌≤◌, ◌<◌}
 use native.Mathlib.Omega.{arith}
+use native.Mathlib.Numerals.{add-one}
 use mathlib.Core.Path.{◌≡◌, refl, sym, ap, ◌∙◌}
 use mathlib.Core.Bool.{Bool, true, false, cond, ◌&&◌}
 use mathlib.Core.List.{List, [], ◌∷◌}
@@ -10,7 +11,8 @@ use lib.ListN.{length, get_or, take, drop, length-drop}
 use lib.Seq.{drop-drop}
 use Rattle.rules.specs.declared.Delims.{Delims}
 use Rattle.rules.specs.declared.Mode.TheVariants.{One}
-use Rattle.rules.specs.Told.{◌then◌}
+use Rattle.rules.specs.declared.Kind.TheVariants.{Value}
+use Rattle.rules.specs.Told.{◌then◌, number}
 use Rattle.rules.specs.Lists.{bytes, empty, or_empty, same, all, has, split}
 use Rattle.rules.specs.Shift.{is_one, mark, marks, met, within}
 use Rattle.rules.specs.Proper.{Proper}
@@ -28,13 +30,12 @@ use Rattle.plain_bytes.specs.Bytes.{until, is_byte}
 use Rattle.scan.specs.Scan.{ends, after_sep, next, CutOf, TailOf}
 use Rattle.scan.proofs.Laws.{piece-met}
 use Rattle.value.specs.Rules.{fault_no, rule_of}
-use Rattle.value.specs.declared.Fault.TheVariants.{Nothing, Value}
 use Rattle.value.specs.declared.Rule.TheVariants.{Text}
 use Rattle.value.specs.declared.Place.TheVariants.{Must, May}
 use Rattle.components.specs.Components.{ends_repetition, field_at, repetition_at, forward, place_fault, JudgedOf}
 use Rattle.components.proofs.Laws.{head-met}
 use Rattle.closed.specs.Closed.{ClosedOf, charset_fault, MarkedOf}
-use Rattle.components.proofs.Pieces.{after_free, after_none, after-short, component-at, repetition-is, split_after, until-free, until_none}
+use Rattle.components.proofs.Pieces.{after_free, after_none, after-short, component-at, forward-next, repetition-is, split_after, until-free, until_none}
 
 -- ---- general
 same-one : (s : List ℕ) (b : ℕ) → same (met s) (b ∷ []) ≡ same s (b ∷ [])
@@ -52,15 +53,11 @@ module _ (t : List ℕ) (d : Delims) (n : ℕ) (more : Bool) (e : TailOf d (met 
   field-free = ap (has d.field) field-met ∙ until-free d.field (met t)
 
 -- ---- components
-pub step-on : (d : Delims) (n left : ℕ) (m r q : List ℕ) → forward d n m ≡ forward d left r → 0 < left → q ≡ next d r → forward d n m ≡ forward d (left - 1) q
-unfolding forward
-step-on d n zero m r q inv h e = absurd (omega arith)
-step-on d n (suc k) m r q inv h e = let j : suc k - 1 ≡ k = omega arith in rw (inv, j, e)
+pub step-on : (d : Delims) (n : ℕ) (m r q : List ℕ) → r ≡ forward d n m → q ≡ next d r → q ≡ forward d (n + 1) m
+step-on d n m r q h e = e ∙ ap (next d) h ∙ sym (forward-next d n m) ∙ ap (λ k. forward d k m) (sym (add-one n))
 
-pub steps-done : (d : Delims) (n left : ℕ) (m r : List ℕ) → forward d n m ≡ forward d left r → left ≤ 0 → r ≡ forward d n m
-unfolding forward
-steps-done d n zero m r inv h = sym inv
-steps-done d n (suc k) m r inv h = absurd (omega arith)
+pub all-steps : (d : Delims) (n k : ℕ) (m r : List ℕ) → r ≡ forward d k m → k ≤ n → n ≤ k → r ≡ forward d n m
+all-steps d n k m r h a b = let e : k ≡ n = omega arith in h ∙ ap (λ i. forward d i m) e
 
 pub led-none : (s : List ℕ) (b : ℕ) (w : List ℕ) → length s ≡ 0 → false ≡ same s (b ∷ w)
 unfolding same
@@ -84,12 +81,12 @@ module _ (t : List ℕ) (d : Delims) (n : ℕ) (more y : Bool) (p : Proper d) (e
       ∙ same_met (take n t) (d.repetition ∷ iso_ir87) (all_cons (within 0x20 0x7E) d.repetition iso_ir87 ∙ rw (delim-within d.repetition p.repetition))
       ∙ sym g
 
-  pub charset-right : y ≡ true → ClosedOf (charset_fault d) (field_at d t) (fault_no Nothing) n
-  unfolding charset_fault fault_no
+  pub charset-right : y ≡ true → ClosedOf (charset_fault d) (field_at d t) 0 n
+  unfolding charset_fault
   charset-right h = record { told = cc (charset-same); long = e.long }
 
-  pub charset-wrong : y ≡ false → ClosedOf (charset_fault d) (field_at d t) (fault_no Value) n
-  unfolding charset_fault fault_no
+  pub charset-wrong : y ≡ false → ClosedOf (charset_fault d) (field_at d t) (number Value) n
+  unfolding charset_fault
   charset-wrong h = record { told = cc (charset-same); long = e.long }
 
 -- ---- PID-5

@@ -11,17 +11,10 @@ ghost use Rattle.value.specs.Rules.{fault_no};
 ghost use Rattle.components.specs.Components.{field_at, repetition_at, forward};
 ghost use Rattle.closed.specs.Closed.{ClosedOf, charset_fault, MarkedOf};
 
-use components::component;
-use rules::Delims;
+use components::{Judged, component};
+use rules::{Delims, Kind};
 use value::Place::{May, Must};
-use value::{Fault, earlier, table};
-
-// A closed field: its first fault, and its length.
-#[derive(Clone, Copy)]
-pub struct ClosedRead {
-    pub fault: Fault,
-    pub len: usize,
-}
+use value::table;
 
 // ---- components and words
 
@@ -31,13 +24,9 @@ fn forward(t: &[u8], d: Delims, n: usize) -> &[u8]
     ensures { met result.now ≡ forward d n (met t.now) }
 {
     let mut rest = t;
-    let mut left = n;
-    while 0 < left {
-        let c = scan::first(rest, d);
-        let k = c.len;
-        let next = scan::behind(rest, k, d);
-        rest = next;
-        left -= 1;
+    for _i in 0..n {
+        let k = scan::first(rest, d).len;
+        rest = scan::behind(rest, k, d);
     }
     rest
 }
@@ -46,7 +35,7 @@ fn forward(t: &[u8], d: Delims, n: usize) -> &[u8]
 fn led(s: &[u8], b: u8, word: &[u8]) -> bool
     ensures { result ≡ same s.now (b ∷ word.now) }
 {
-    if s.len() == 0 {
+    if s.is_empty() {
         return false;
     }
     (s[0] == b) & plain_bytes::equal(&s[1..], word)
@@ -55,21 +44,17 @@ fn led(s: &[u8], b: u8, word: &[u8]) -> bool
 // ---- MSH-18
 
 // Exactly the repetition separator and `ISO IR87`.
-pub fn charset(t: &[u8], d: Delims) -> ClosedRead
+pub fn charset(t: &[u8], d: Delims) -> Judged
     requires { Proper d }
     ensures closed_of { ClosedOf (charset_fault d) (field_at d t.now) (fault_no result.fault) result.len }
     ensures within { result.len ≤ length t.now }
 {
-    let e = scan::finish(t, d);
-    let len = e.len;
+    let len = scan::finish(t, d).len;
     if led(&t[..len], d.repetition, b"ISO IR87") {
-        return ClosedRead {
-            fault: Fault::Nothing,
-            len,
-        };
+        return Judged { fault: Ok(()), len };
     }
-    ClosedRead {
-        fault: Fault::Value,
+    Judged {
+        fault: Err(Kind::Value),
         len,
     }
 }
@@ -82,8 +67,7 @@ fn marked(t: &[u8], d: Delims, mark: u8) -> bool
     ensures { result ≡ same (component_of d (repetition_at d t.now) 8) (mark ∷ []) }
 {
     let eighth = forward(t, d, 7);
-    let c = scan::first(eighth, d);
-    let n = c.len;
+    let n = scan::first(eighth, d).len;
     led(&eighth[..n], mark, b"")
 }
 
@@ -105,38 +89,35 @@ pub fn repetition(f: &[u8], d: Delims, mark: u8) -> &[u8]
 }
 
 // The name at the start of t: components 1 and 2.
-fn name(t: &[u8], d: Delims) -> Fault
+fn name(t: &[u8], d: Delims) -> Result<(), Kind>
     requires { Proper d }
     ensures { fault_no result ≡ J.name_fault d (repetition_at d t.now) }
 {
     let family = component(t, d, Must(table::NAME));
-    let f = family.fault;
     let rest = scan::behind(t, family.len, d);
     let given = component(rest, d, May(table::NAME));
-    let g = given.fault;
-    earlier(f, g)
+    family.fault.and(given.fault)
 }
 
 // The kanji name of the field f, then its kana name.
-fn both(f: &[u8], d: Delims) -> Fault
+fn both(f: &[u8], d: Delims) -> Result<(), Kind>
     requires { Proper d × (has d.field (met f.now) ≡ false) }
     ensures { fault_no result ≡ J.names_fault d (met f.now) }
 {
     let kanji = name(repetition(f, d, b'I'), d);
     let kana = repetition(f, d, b'P');
-    if kana.len() == 0 {
+    if kana.is_empty() {
         return kanji;
     }
-    earlier(kanji, name(kana, d))
+    kanji.and(name(kana, d))
 }
 
-pub fn names(t: &[u8], d: Delims) -> ClosedRead
+pub fn names(t: &[u8], d: Delims) -> Judged
     requires { Proper d }
     ensures closed_of { ClosedOf (J.names_fault d) (field_at d t.now) (fault_no result.fault) result.len }
     ensures within { result.len ≤ length t.now }
 {
-    let e = scan::finish(t, d);
-    let len = e.len;
+    let len = scan::finish(t, d).len;
     let fault = both(&t[..len], d);
-    ClosedRead { fault, len }
+    Judged { fault, len }
 }

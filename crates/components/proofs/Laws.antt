@@ -5,6 +5,10 @@ use mathlib.Core.Path.{◌≡◌, sym, ap, ◌∙◌}
 use mathlib.Core.List.{List, [], ◌∷◌, map}
 use mathlib.Core.Bool.{Bool, true, false}
 use lib.ListN.{length, take, drop}
+use Rattle.std.specs.declared.result.Result.{Result}
+use Rattle.std.specs.declared.result.Result.TheVariants.{Ok}
+use Rattle.std.specs.Result.{result_and}
+use Rattle.rules.specs.declared.Kind.{Kind}
 use Rattle.rules.specs.declared.Delims.{Delims}
 use Rattle.rules.specs.Told.{◌then◌}
 use Rattle.rules.specs.Lists.{has}
@@ -18,8 +22,6 @@ use Rattle.plain_bytes.specs.Bytes.{until, is_byte}
 use Rattle.scan.specs.Scan.{ends, next, plain_text, CutOf, TailOf}
 use Rattle.scan.proofs.Laws.{from-met, piece-met, ends-far}
 use Rattle.value.specs.Rules.{rule_of, fault_no}
-use Rattle.value.specs.declared.Fault.{Fault}
-use Rattle.value.specs.declared.Fault.TheVariants.{Nothing}
 use Rattle.value.specs.declared.Rule.{Rule}
 use Rattle.value.specs.declared.Place.{Place}
 use Rattle.value.specs.declared.Place.TheVariants.{Unread, Must, May}
@@ -32,7 +34,7 @@ module _ (d : Delims) (t : List ℕ) (n : ℕ) (clean : Bool) (c : CutOf d t n c
   pub head-met : met (take n t) ≡ component_at d t
   head-met = ap (λ k. met (take k t)) c.long ∙ piece-met (ends d) t
 
-  head-clean : clean ≡ true → Clean d (take n t)
+  pub head-clean : clean ≡ true → Clean d (take n t)
   head-clean h = record { plain = ap (plain_text d) head-met ∙ sym c.plain ∙ h; bytes = ap (map byte_of) head-met ∙ c.raw }
 
 -- what is left from the next component on is no longer
@@ -42,11 +44,11 @@ next-within t u d p e = omega (arith, length-met t, length-met u, ap length e, f
 
 -- ---- one component
 module _ (d : Delims) (place : Place) where
-  pub unread-is : (raw : List ℕ) → place ≡ Unread → fault_no Nothing ≡ place_fault d place raw
-  unfolding fault_no place_fault
+  pub unread-is : (raw : List ℕ) → place ≡ Unread → 0 ≡ place_fault d place raw
+  unfolding place_fault
   unread-is raw e = rw e
 
-  module _ (f : Fault) (r : Rule) (raw : List ℕ) where
+  module _ (f : Result (Unit {0}) Kind) (r : Rule) (raw : List ℕ) where
     pub must-is : place ≡ Must r → fault_no f ≡ judge d true (rule_of r) raw → fault_no f ≡ place_fault d place raw
     unfolding place_fault
     must-is e h = rw e h
@@ -54,18 +56,6 @@ module _ (d : Delims) (place : Place) where
     pub may-is : place ≡ May r → fault_no f ≡ judge d false (rule_of r) raw → fault_no f ≡ place_fault d place raw
     unfolding place_fault
     may-is e h = rw e h
-
--- the same of a clean one, whatever delimiters it is clean by
-module _ (place : Place) where
-  pub unread-clean : (raw : List ℕ) → place ≡ Unread → (d : Delims) → Clean d raw → fault_no Nothing ≡ place_fault d place (met raw)
-  unread-clean raw e d p = unread-is d place (met raw) e
-
-  module _ (f : Fault) (r : Rule) (raw : List ℕ) where
-    pub must-clean : place ≡ Must r → ((d : Delims) → Clean d raw → fault_no f ≡ judge d true (rule_of r) (met raw)) → (d : Delims) → Clean d raw → fault_no f ≡ place_fault d place (met raw)
-    must-clean e h d p = must-is d place f r (met raw) e (h d p)
-
-    pub may-clean : place ≡ May r → ((d : Delims) → Clean d raw → fault_no f ≡ judge d false (rule_of r) (met raw)) → (d : Delims) → Clean d raw → fault_no f ≡ place_fault d place (met raw)
-    may-clean e h d p = may-is d place f r (met raw) e (h d p)
 
 pub must-small : (place : Place) (r : Rule) → place ≡ Must r → Smalls place → Small r
 unfolding Smalls
@@ -75,12 +65,11 @@ pub may-small : (place : Place) (r : Rule) → place ≡ May r → Smalls place 
 unfolding Smalls
 may-small place r e h = rw e at h
 
+pub ruleset place_laws = (unread-is, must-is, may-is, must-small, may-small)
+
 module _ (d : Delims) (t : List ℕ) (n : ℕ) (clean : Bool) (c : CutOf d t n clean) where
   pub component-judged : (place : Place) (f : ℕ) → f ≡ place_fault d place (met (take n t)) → JudgedOf d place t f n
   component-judged place f e = record { told = e ∙ ap (place_fault d place) (head-met d t n clean c); long = c.long; raw = c.raw }
-
-  pub component-clean : (place : Place) (f : ℕ) → clean ≡ true → ((e : Delims) → Clean e (take n t) → f ≡ place_fault e place (met (take n t))) → JudgedOf d place t f n
-  component-clean place f h g = component-judged place f (g d (head-clean d t n clean c h))
 
 -- ---- one field
 pub one-read : (d : Delims) → Proper d → (place : Place) (t : List ℕ) (f n k : ℕ) (more : Bool) → JudgedOf d place t f n

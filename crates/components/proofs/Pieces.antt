@@ -219,6 +219,12 @@ components-over d p n m h =
     pieces-over d.component n (until (is_byte d.field) m)
     ∙ ap (has d.component) (ap (onward d.component n) (whole-field d m h) ∙ onward-forward d p n m ∙ sym (whole-field d (forward d n m) (forward-repeats d p n m ∙ h)))
 
+-- ---- one component on
+pub forward-next : (d : Delims) (k : ℕ) (m : List ℕ) → forward d (suc k) m ≡ next d (forward d k m)
+unfolding forward
+forward-next d zero m = refl
+forward-next d (suc k) m = forward-next d k (next d m)
+
 -- ---- the rest of the field, from the end of its first component on
 pub rest-long : (d : Delims) (m : List ℕ)
     → length (until (is_byte d.field) m) ≡ length (until (ends d) m) + length (until (is_byte d.field) (drop (length (until (ends d) m)) m))

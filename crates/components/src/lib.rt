@@ -1,44 +1,47 @@
 // The components of a field, from its start, judged one after another.
 #![tactic(auto)]
 
-ghost use Rattle.std.specs.Prelude.{◌≡◌, [], ◌∷◌, ◌≤◌, length};
+ghost use Rattle.std.specs.Prelude.{◌≡◌, true, List, [], ◌∷◌, ◌+◌, ◌-◌, ◌≤◌, length};
 ghost use Rattle.rules.specs.Shift.{met};
 ghost use Rattle.rules.specs.Proper.{Proper};
-ghost use Rattle.value.specs.Rules.{fault_no};
-ghost use Rattle.judge.specs.Judge.{Clean};
+ghost use Rattle.rules.specs.Judge as J;
+ghost use Rattle.scan.specs.Scan.{next};
+ghost use Rattle.value.specs.Rules.{rule_of, fault_no};
+ghost use Rattle.judge.specs.Judge.{Clean, Small};
 ghost use Rattle.components.specs.Components.{place_fault, Smalls, JudgedOf, ComponentsOf};
 
-use rules::Delims;
-use value::{Fault, Place};
+use rules::{Delims, Kind};
+use value::{Place, Rule};
 
 // ---- one component
 
-fn judge_place(raw: &[u8], d: Delims, place: Place) -> Fault
-    requires { Smalls place }
+// A read component; where it has neither escape byte nor subcomponent separator, it is judged where it lies.
+fn judge_read(raw: &[u8], d: Delims, clean: bool, required: bool, rule: Rule) -> Result<(), Kind>
+    requires { Small rule × (clean ≡ true → Clean d raw.now) }
+    ensures { fault_no result ≡ J.judge d required (rule_of rule) (met raw.now) }
+{
+    if clean {
+        return judge::judge_clean(raw, required, rule);
+    }
+    judge::judge(raw, d, required, rule)
+}
+
+#[tactic(auto, using(crate::proofs::Laws::place_laws), unfolding(value::specs::Rules::fault_no))]
+fn judge_place(raw: &[u8], d: Delims, clean: bool, place: Place) -> Result<(), Kind>
+    requires { Smalls place × (clean ≡ true → Clean d raw.now) }
     ensures { fault_no result ≡ place_fault d place (met raw.now) }
 {
     match place {
-        Place::Unread => Fault::Nothing,
-        Place::Must(rule) => judge::judge(raw, d, true, rule),
-        Place::May(rule) => judge::judge(raw, d, false, rule),
+        Place::Unread => Ok(()),
+        Place::Must(rule) => judge_read(raw, d, clean, true, rule),
+        Place::May(rule) => judge_read(raw, d, clean, false, rule),
     }
 }
 
-// The same of a component that has neither escape byte nor subcomponent separator.
-fn judge_clean_place(raw: &[u8], place: Place) -> Fault
-    ensures { (d : Delims) → Clean d raw.now → fault_no result ≡ place_fault d place (met raw.now) }
-{
-    match place {
-        Place::Unread => Fault::Nothing,
-        Place::Must(rule) => judge::judge_clean(raw, true, rule),
-        Place::May(rule) => judge::judge_clean(raw, false, rule),
-    }
-}
-
-// The component at the start of t: its fault and its length.
+// The component or the closed field at the start of a text: what it breaks, and its length.
 #[derive(Clone, Copy)]
 pub struct Judged {
-    pub fault: Fault,
+    pub fault: Result<(), Kind>,
     pub len: usize,
 }
 
@@ -49,21 +52,17 @@ pub fn component(t: &[u8], d: Delims, place: Place) -> Judged
 {
     let c = scan::first(t, d);
     let len = c.len;
-    if c.clean {
-        let fault = judge_clean_place(&t[..len], place);
-        return Judged { fault, len };
-    }
-    let fault = judge_place(&t[..len], d, place);
+    let fault = judge_place(&t[..len], d, c.clean, place);
     Judged { fault, len }
 }
 
 // ---- the first components of a field
 
-// The field at the start of t: whether it repeats, the first fault of its components, the length of the first one and its own.
+// The field at the start of t: whether it repeats, the first that its components break, the length of the first one and its own.
 #[derive(Clone, Copy)]
 pub struct Components {
     pub repeats: bool,
-    pub fault: Fault,
+    pub fault: Result<(), Kind>,
     pub head: usize,
     pub len: usize,
 }
@@ -85,21 +84,18 @@ pub fn one(t: &[u8], d: Delims, a: Place) -> Components
     }
 }
 
-fn two(t: &[u8], d: Delims, a: Place, b: Place) -> Components
-    requires { Proper d × Smalls a × Smalls b }
-    ensures components_of { ComponentsOf d (a ∷ b ∷ []) t.now result.repeats (fault_no result.fault) result.head result.len }
-    ensures within { (result.len ≤ length t.now) × (result.head ≤ length t.now) }
+// The components of u, the rest of t from its second one on, with the first of t before them.
+fn led(t: &[u8], x: Judged, u: &[u8], r: Components) -> Components
+    requires { (length u.now ≤ length t.now) × (r.len ≤ length u.now) }
+    ensures components_of { (d : Delims) → (a : Place) → (ps : List Place) → Proper d → met u.now ≡ next d (met t.now) → JudgedOf d a t.now (fault_no x.fault) x.len
+        → ComponentsOf d ps u.now r.repeats (fault_no r.fault) r.head r.len
+        → ComponentsOf d (a ∷ ps) t.now result.repeats (fault_no result.fault) result.head result.len }
+    ensures within { (result.len ≤ length t.now) × (result.head ≡ x.len) }
 {
-    let x = component(t, d, a);
-    let f = x.fault;
-    let head = x.len;
-    let u = scan::behind(t, head, d);
-    let r = one(u, d, b);
-    let g = r.fault;
     Components {
         repeats: r.repeats,
-        fault: value::earlier(f, g),
-        head,
+        fault: x.fault.and(r.fault),
+        head: x.len,
         len: t.len() - u.len() + r.len,
     }
 }
@@ -110,15 +106,8 @@ pub fn three(t: &[u8], d: Delims, a: Place, b: Place, c: Place) -> Components
     ensures within { (result.len ≤ length t.now) × (result.head ≤ length t.now) }
 {
     let x = component(t, d, a);
-    let f = x.fault;
-    let head = x.len;
-    let u = scan::behind(t, head, d);
-    let r = two(u, d, b, c);
-    let g = r.fault;
-    Components {
-        repeats: r.repeats,
-        fault: value::earlier(f, g),
-        head,
-        len: t.len() - u.len() + r.len,
-    }
+    let u = scan::behind(t, x.len, d);
+    let y = component(u, d, b);
+    let v = scan::behind(u, y.len, d);
+    led(t, x, u, led(u, y, v, one(v, d, c)))
 }

@@ -1,7 +1,9 @@
 -- What a read field is told, and how far a segment is judged.
-use Rattle.std.specs.Prelude.{◌≡◌, true, false, List, [], ◌∷◌, map, ℕ, suc, ◌+◌, ◌-◌, ◌≤◌, ◌<◌, length, take, drop}
+use Rattle.std.specs.Prelude.{◌≡◌, List, [], ◌∷◌, map, ℕ, suc, ◌+◌, ◌-◌, ◌≤◌, ◌<◌, length, take, drop}
 use Rattle.rules.specs.declared.Delims.{Delims}
-use Rattle.rules.specs.Told.{◌then◌, ◌when◌}
+use Rattle.rules.specs.Told.{◌then◌, ◌when◌, number}
+use Rattle.std.specs.declared.result.Result.{Result}
+use Rattle.std.specs.declared.result.Result.TheVariants.{Ok, Err}
 use Rattle.rules.specs.Lists.{has}
 use Rattle.rules.specs.Shift.{met, byte_of}
 use Rattle.rules.specs.Places.{Field, reads, closed, charset, names, ◌must◌, ◌may◌}
@@ -10,7 +12,7 @@ use Rattle.rules.specs.View.{first_repetition, seen_in}
 use Rattle.rules.specs.Judge.{judge_all, names_fault}
 use Rattle.plain_bytes.specs.Bytes.{until, is_byte}
 use Rattle.scan.specs.Scan.{ends, after_sep, onward}
-use Rattle.value.specs.Rules.{rule_of, fault_no, fine_of}
+use Rattle.value.specs.Rules.{rule_of}
 use Rattle.judge.specs.Judge.{Small}
 use Rattle.components.specs.Components.{Smalls}
 use Rattle.closed.specs.Closed.{charset_fault}
@@ -19,7 +21,7 @@ use Rattle.value.specs.declared.Place.TheVariants.{Unread, Must, May}
 use Rattle.fields.specs.declared.Form.{Form}
 use Rattle.fields.specs.declared.Form.TheVariants.{One, Three, Charset, Names}
 use Rattle.fields.specs.declared.Walk.{Walk}
-use Rattle.fields.specs.declared.SegmentRead.{SegmentRead}
+use Rattle.fields.specs.declared.FieldFault.{FieldFault}
 
 -- ---- one field
 -- the entries of the table, from component c on
@@ -59,15 +61,22 @@ form_head d (Three a b c) m = until (ends d) m
 form_head d Charset m = []
 form_head d Names m = []
 
--- the field at the start of t
-pub record ReadOf (d : Delims) (own : List ℕ → ℕ) (first : List ℕ → List ℕ) (t : List ℕ) (fault head len : ℕ) : Type 0 where
-  pub told : fault ≡ own (until (is_byte d.field) (met t))
+-- the field at the start of t, where it breaks nothing
+pub record ReadOf (d : Delims) (first : List ℕ → List ℕ) (t : List ℕ) (head len : ℕ) : Type 0 where
   pub raw : map byte_of (first (met t)) ≡ take head t
   pub long : len ≡ length (until (is_byte d.field) (met t))
 
 -- ---- a segment s, field by field
+-- what a segment breaks, by the number of its refusal, and the field; 0 for nothing
+abbrev pub fault_in : {A : Type 0} → Result A FieldFault → ℕ
+fault_in (Ok a) = 0
+fault_in (Err e) = number e.kind
+
+abbrev pub field_in : {A : Type 0} → Result A FieldFault → ℕ
+field_in (Ok a) = 0
+field_in (Err e) = e.field
+
 pub record Begins (n : ℕ) (w : Walk) : Type 0 where
-  pub fine : fine_of w.fault ≡ true
   pub field : w.field ≡ n
   pub part : w.start + w.head ≡ 0
   pub at : w.at ≡ 0
@@ -78,27 +87,25 @@ pub record Ready (s : List ℕ) (n : ℕ) (w : Walk) : Type 0 where
   pub earlier : w.field < n
   pub part : w.start + w.head ≤ length s
 
--- field n, from which m goes on, is judged
-pub record JudgedField (d : Delims) (s : List ℕ) (n : ℕ) (own : List ℕ → ℕ) (first : List ℕ → List ℕ) (m : List ℕ) (w : Walk) : Type 0 where
-  pub told : fault_no w.fault ≡ own (until (is_byte d.field) m)
-  pub numbered : w.field ≡ n
-  pub raw : map byte_of (first m) ≡ take w.head (drop w.start s)
-  pub rest : after_sep d.field (met (drop w.at s)) ≡ after_sep d.field m
+-- from field n on, as w leads to it
+abbrev pub ahead : Delims → List ℕ → ℕ → Walk → List ℕ
+ahead d s n w = onward d.field (n - w.field) (met (drop w.at s))
 
--- from w on to field n; a fault that is found ends the segment
-pub record Went (d : Delims) (s : List ℕ) (n : ℕ) (own : List ℕ → ℕ) (first : List ℕ → List ℕ) (w r : Walk) : Type 0 where
-  pub ended : fine_of w.fault ≡ false → r ≡ w
-  pub judged : fine_of w.fault ≡ true → JudgedField d s n own first (onward d.field (n - w.field) (met (drop w.at s))) r
-
--- the same for a field of the table
-pub record To (d : Delims) (s : List ℕ) (n : ℕ) (form : Form) (w r : Walk) : Type 0 where
-  pub went : Went d s n (form_fault d form) (form_head d form) w r
-  pub upto : r.field ≤ n
+-- field n is judged, from w on: it breaks nothing, and r stands there
+pub record Passed (d : Delims) (s : List ℕ) (n : ℕ) (own : List ℕ → ℕ) (first : List ℕ → List ℕ) (w r : Walk) : Type 0 where
+  pub told : own (until (is_byte d.field) (ahead d s n w)) ≡ 0
+  pub numbered : r.field ≡ n
+  pub raw : map byte_of (first (ahead d s n w)) ≡ take r.head (drop r.start s)
+  pub rest : after_sep d.field (met (drop r.at s)) ≡ after_sep d.field (ahead d s n w)
   pub part : r.start + r.head ≤ length s
   pub low : r.at ≤ length s
 
--- the end of a segment, at w: the number of its first fault
-pub record EndOf (w : Walk) (fault : ℕ) (r : SegmentRead) : Type 0 where
-  pub told : fault_no r.fault ≡ fault
-  pub field : r.field ≡ w.field
-  pub none : r.at + r.len ≡ 0
+-- or it breaks a rule, which ends the segment
+pub record Broken (d : Delims) (s : List ℕ) (n : ℕ) (own : List ℕ → ℕ) (w : Walk) (e : FieldFault) : Type 0 where
+  pub told : number e.kind ≡ own (until (is_byte d.field) (ahead d s n w))
+  pub numbered : e.field ≡ n
+
+-- from w on to field n of the table
+abbrev pub To : Delims → List ℕ → ℕ → Form → Walk → Result Walk FieldFault → Type 0
+To d s n form w (Ok r) = Passed d s n (form_fault d form) (form_head d form) w r
+To d s n form w (Err e) = Broken d s n (form_fault d form) w e

@@ -13,10 +13,10 @@ use lib.Seq.{take_all, length-take-le}
 use Rattle.rules.specs.declared.Delims.{Delims}
 use Rattle.rules.specs.Lists.{ended, or_empty}
 use Rattle.rules.specs.Shift.{met, byte_of}
-use Rattle.rules.specs.Escape.{plain, unescape}
+use Rattle.rules.specs.Escape.{unescape}
 use Rattle.rules.specs.Judge.{plain_of}
 use Rattle.rules.proofs.Logic.{option_cases, both}
-use Rattle.rules.proofs.Lists.{over, rest-is}
+use Rattle.rules.proofs.Lists.{rest-is}
 use Rattle.rules.proofs.Split.{ended-append}
 use Rattle.rules.proofs.Modes.{length-met}
 use Rattle.plain_bytes.specs.Bytes.{until}
@@ -25,8 +25,10 @@ use Rattle.scan.proofs.Laws.{take-until}
 use Rattle.judge.proofs.Laws.{clean_at}
 use Rattle.unescape.proofs.Laws.{value-short}
 use Rattle.unescape.specs.Unescaped.{fill, Whole, Longer, Fits}
-use Rattle.unescape.specs.declared.Unescaped.{Unescaped}
-use Rattle.unescape.specs.declared.Unescaped.TheVariants.{Got, Faulty, Over}
+use Rattle.std.specs.declared.result.Result.{Result}
+use Rattle.std.specs.declared.result.Result.TheVariants.{Ok, Err}
+use Rattle.unescape.specs.declared.NotHeld.{NotHeld}
+use Rattle.unescape.specs.declared.NotHeld.TheVariants.{Faulty, Over}
 use Rattle.writer.specs.Over.{Wrote}
 use Rattle.writer.specs.Over as W
 use Rattle.writer.proofs.Laws.{tail_none}
@@ -90,20 +92,21 @@ module _ (d : Delims) (raw : List ℕ) where
     pub value-clean : (n : ℕ) (q : Bool) → CutOf d raw n q → (q && eqb n (length raw)) ≡ true → Filled r x raw out → Filled r x (plain_of d (met raw)) out
     value-clean n q c h f = rw (clean-plain n q c h) f
 
-    pub value-got : (u : Unescaped) (n : ℕ) (buf : List ℕ) → u ≡ Got n → Fits u (unescape d (met raw)) buf → Filled r x (take n buf) out → Filled r x (plain_of d (met raw)) out
+    pub value-got : (u : Result ℕ NotHeld) (n : ℕ) (buf : List ℕ) → u ≡ Ok n → Fits u (unescape d (met raw)) buf → Filled r x (take n buf) out → Filled r x (plain_of d (met raw)) out
     unfolding or_empty
-    value-got u n buf e h f = let w : Whole n (unescape d (met raw)) buf = subst (λ (z : Unescaped). Fits z (unescape d (met raw)) buf) e h in rw w.is f
+    value-got u n buf e h f = let w : Whole n (unescape d (met raw)) buf = subst (λ (z : Result ℕ NotHeld). Fits z (unescape d (met raw)) buf) e h in rw w.is f
 
-  pub got-short : (out x : List ℕ) (r : ℕ) (u : Unescaped) (n : ℕ) (buf : List ℕ) → u ≡ Got n → Fits u (unescape d (met raw)) buf → Filled r x (take n buf) out → r ≤ length raw
+  pub got-short : (out x : List ℕ) (r : ℕ) (u : Result ℕ NotHeld) (n : ℕ) (buf : List ℕ) → u ≡ Ok n → Fits u (unescape d (met raw)) buf → Filled r x (take n buf) out → r ≤ length raw
   got-short out x r u n buf e h f = value-within out x r (value-got out x r u n buf e h f)
 
-  pub value-faulty : (out : List ℕ) (u : Unescaped) (buf : List ℕ) → u ≡ Faulty → Fits u (unescape d (met raw)) buf → Filled 0 out (plain_of d (met raw)) out
+  -- a component that the buffer doesn't hold has a bad escape, for 4096 bytes hold each text
+  pub value-none : (out : List ℕ) (u : Result ℕ NotHeld) (f : NotHeld) (buf : List ℕ) → u ≡ Err f → Fits u (unescape d (met raw)) buf → length buf ≡ 4096 → length raw ≤ 4096
+      → Filled 0 out (plain_of d (met raw)) out
   unfolding or_empty fill
-  value-faulty out u buf e h = let w : unescape d (met raw) ≡ none = subst (λ (z : Unescaped). Fits z (unescape d (met raw)) buf) e h in rw w (record { ends = refl; is = refl })
-
-  pub value-over : (out : List ℕ) (u : Unescaped) (n : ℕ) (buf : List ℕ) → u ≡ Over n → Fits u (unescape d (met raw)) buf → length buf ≡ 4096 → length raw ≤ 4096 → Filled 0 out (plain_of d (met raw)) out
-  value-over out u n buf e h l k =
-      let w : Longer n (unescape d (met raw)) buf = subst (λ (z : Unescaped). Fits z (unescape d (met raw)) buf) e h in
+  value-none out u Faulty buf e h l k =
+      let w : unescape d (met raw) ≡ none = subst (λ (z : Result ℕ NotHeld). Fits z (unescape d (met raw)) buf) e h in rw w (record { ends = refl; is = refl })
+  value-none out u (Over n) buf e h l k =
+      let w : Longer n (unescape d (met raw)) buf = subst (λ (z : Result ℕ NotHeld). Fits z (unescape d (met raw)) buf) e h in
       absurd (omega (arith, w.long, w.over, value-short d raw w.text w.is))
 
 -- one text after another, where what is left of the buffer was lent for the second

@@ -9,7 +9,6 @@ ghost use Rattle.rules.specs.Judge.{plain_of};
 ghost use Rattle.fill.specs.Fill.{lesser, Filled, FilledAt, Lined, keyed, longest, Near};
 
 use rules::Delims;
-use unescape::Unescaped;
 
 // The lesser of two numbers.
 pub fn lesser(a: usize, b: usize) -> usize
@@ -40,9 +39,8 @@ pub fn text(out: &mut [u8], raw: &[u8], d: Delims) -> usize
     }
     let mut buf = [0u8; 4096];
     match unescape::unescape_into(raw, d, &mut buf) {
-        Unescaped::Got(n) => put(out, &buf[..n]),
-        Unescaped::Faulty => 0,
-        Unescaped::Over(_) => 0,
+        Ok(n) => put(out, &buf[..n]),
+        Err(_) => 0,
     }
 }
 

@@ -2,89 +2,36 @@
 use mathlib.Core.Path.{◌≡◌, refl, sym, ap, ◌∙◌}
 use mathlib.Core.Bool.{Bool, true, false, cond, not, ◌&&◌, false≢true}
 use mathlib.Core.List.{List, ◌∷◌}
-use Prim.Native.Nat.{ℕ, zero, suc, ◌+◌, ◌-◌, ◌≤◌, ◌<◌}
+use Prim.Native.Nat.{ℕ, suc, ◌+◌, ◌-◌, ◌≤◌, ◌<◌}
 use native.Mathlib.Omega.{arith}
-use borrow.Author.Tests.{eq-eqb, ne_eqb, le-leb, lt-leb, lt-ltb, le-ltb}
-use lib.Dec.{eqb, leb, ltb}
-use lib.ListN.{length, get_or, take, drop, length-drop}
+use borrow.Author.Tests.{le-ltb}
+use lib.Dec.{ltb}
+use lib.ListN.{length, take, drop, length-drop}
+use Rattle.std.specs.declared.option.Option.{Option}
+use Rattle.std.specs.declared.option.Option.TheVariants.{Some, None}
+use Rattle.std.specs.declared.result.Result.{Result}
+use Rattle.std.specs.declared.result.Result.TheVariants.{Ok, Err}
 use Rattle.rules.specs.declared.Delims.{Delims}
-use Rattle.rules.specs.declared.Counts.{Counts}
+use Rattle.rules.specs.declared.Refusal.{Refusal}
 use Rattle.rules.specs.declared.Name.{Name}
 use Rattle.rules.specs.declared.Name.TheVariants.{Spm, Obr, Obx, Other}
-use Rattle.rules.specs.Told.{gives, ◌then◌, ◌when◌}
+use Rattle.rules.specs.Told.{told, ◌when◌}
 use Rattle.rules.specs.Lists.{empty, all, split, all_but_last, last}
 use Rattle.rules.specs.Shift.{keeps}
-use Rattle.rules.specs.Frame.{delims_of, header_ok, segments, capital, capital_or_digit, name_ok, segments_ok, name_of, is, start, past, may_follow, may_end}
+use Rattle.rules.specs.Frame.{delims_of, header_ok, segments, segments_ok, name_of, is}
 use Rattle.rules.specs.Check.{frame_told}
-use Rattle.rules.proofs.Logic.{cases, both, not-true, not-false, and-true, and-false}
+use Rattle.rules.proofs.Logic.{cases, both, not-true, not-false}
 use Rattle.rules.proofs.Lists.{filled-some, over, rest-is, rest-inside, rest-on, all_cons}
 use Rattle.rules.proofs.Split.{but_last-split, last-split}
 use Rattle.plain_bytes.specs.Bytes.{until}
 use Rattle.plain_bytes.specs.Bytes as Bytes
 use Rattle.scan.proofs.Laws.{until-rest}
 use Rattle.plain_bytes.proofs.Laws.{split-last, split-more}
-use Rattle.order.specs.Order.{reached_of}
-use Rattle.order.specs.declared.Reached.{Reached}
-use Rattle.order.proofs.Laws.{reached-is}
-use Rattle.frame.proofs.Rules.{counted-skipped, counted_next, closing-is, sound}
-use Rattle.frame.specs.Frame.{most_bytes, good_of, nothing_seen, tallied, counted_of, seen_after, pass_from, closing, frame_of, framed_told, Within, Sound}
-use Rattle.rules.specs.declared.Kind.TheVariants.{TooLong, Header, Bytes, Segment, TooMany, Order}
+use Rattle.frame.proofs.Rules.{closing-is, sound}
+use Rattle.frame.specs.Frame.{most_bytes, good_of, nothing_seen, tallied, counted_of, seen_after, pass_from, closing, frame_of, Within, Sound}
+use Rattle.rules.specs.declared.Kind.TheVariants.{Segment}
 use Rattle.frame.specs.declared.Opened.{Opened}
-use Rattle.frame.specs.declared.Framed.{Framed}
-use Rattle.frame.specs.declared.Framed.TheVariants.{Open, Not}
 use Rattle.frame.specs.declared.all_segments.Seen.{Seen}
-use Rattle.frame.specs.declared.all_segments.SegmentsPassed.{SegmentsPassed}
-use Rattle.frame.specs.declared.all_segments.SegmentsPassed.TheVariants.{Whole, Bad}
-
--- ---- the first of two faults
-module _ (f at : ℕ) (t : Bool) where
-  pub fault-fine : f ≡ 0 → t ≡ true → 0 ≡ (f then (at when not t))
-  fault-fine e h = rw (e, h)
-
-  pub fault-new : f ≡ 0 → t ≡ false → at ≡ (f then (at when not t))
-  fault-new e h = rw (e, h)
-
-pub fault-old : (f at : ℕ) (t : Bool) → (f ≡ 0 → ⊥) → f ≡ (f then (at when not t))
-fault-old zero at t h = absurd (h refl)
-fault-old (suc f) at t h = refl
-
--- ---- 13, one segment
-module _ (bar : ℕ) (s : List ℕ) where
-  pub good-long : 4096 < length s → false ≡ good_of bar s
-  good-long h = rw (lt-leb (length s) 4096 h)
-
-  pub good-short : length s < 3 → false ≡ good_of bar s
-  unfolding name_ok
-  good-short h = rw (lt-leb 3 (length s) h) (sym (and-false (leb (length s) 4096)))
-
-  module _ (a b c : Bool) (long : length s ≤ 4096) (short : 3 ≤ length s) (ea : a ≡ capital (get_or s 0 0)) (eb : b ≡ capital_or_digit (get_or s 1 0)) (ec : c ≡ capital_or_digit (get_or s 2 0)) where
-    pub good-three : length s ≡ 3 → ((a && b) && c) ≡ good_of bar s
-    unfolding name_ok
-    good-three e = rw (ea, eb, ec, le-leb (length s) 4096 long, le-leb 3 (length s) short, eq-eqb (length s) 3 e) (sym (and-true ((capital (get_or s 0 0) && capital_or_digit (get_or s 1 0)) && capital_or_digit (get_or s 2 0))))
-
-    pub good_more : (length s ≡ 3 → ⊥) → (((a && b) && c) && eqb (get_or s 3 0) bar) ≡ good_of bar s
-    unfolding name_ok
-    good_more e = rw (ea, eb, ec, le-leb (length s) 4096 long, le-leb 3 (length s) short, ne_eqb (length s) 3 e)
-
--- ---- nothing seen, and one segment more
-pub nothing_is : (a : Reached) → reached_of a ≡ start
-    → ◌≡◌ {A = Seen} (record { segments = 0; known = 0; reached = a; fault = 0; counts = record { spm = 0; obr = 0; obx = 0 } }) nothing_seen
-nothing_is a e = rw (reached-is a start e)
-
-pub tally-is : (c : Counts) (n : Name) (x y z : ℕ) → x ≡ (1 when is Spm n) → y ≡ (1 when is Obr n) → z ≡ (1 when is Obx n)
-    → ◌≡◌ {A = Counts} (record { spm = c.spm + x; obr = c.obr + y; obx = c.obx + z }) (tallied c n)
-unfolding tallied
-tally-is c n x y z ex ey ez = rw (ex, ey, ez)
-
-module _ (v : Seen) (n : Name) (t : Bool) (et : t ≡ is n Other) where
-  pub counted-other : t ≡ true
-      → ◌≡◌ {A = Seen} (record { segments = v.segments + 1; known = v.known; reached = v.reached; fault = v.fault; counts = v.counts }) (counted_of v n)
-  counted-other h = sym (counted-skipped v n (sym et ∙ h))
-
-  pub counted-known : (f : Bool) (k : ℕ) (c : Counts) (a : Reached) → t ≡ false → f ≡ may_follow (reached_of v.reached) n
-      → k ≡ (v.fault then (v.known + 1 when not f)) → c ≡ tallied v.counts n → reached_of a ≡ past (reached_of v.reached) n
-      → ◌≡◌ {A = Seen} (record { segments = v.segments + 1; known = v.known + 1; reached = a; fault = k; counts = c }) (counted_of v n)
-  counted-known f k c a h ef ek ec ea = rw (ek, ef, ec, reached-is a (past (reached_of v.reached) n) ea) (sym (counted_next v n (sym et ∙ h)))
 
 -- ---- 13, the segments in turn: r is the rest of the message, n how many bytes stand before its first 0D
 and-exchange : (a b c : Bool) → (a && (b && c)) ≡ (b && (a && c))
@@ -111,7 +58,7 @@ module _ (bar : ℕ) (r : List ℕ) (n : ℕ) (en : n ≡ length (until (Bytes.i
         rw (segments-next, cut, last-split 0x0D (take n r) (drop (suc n) r), all_cons (good_of bar) (take n r) (segments (drop (suc n) r)))
         (and-exchange (empty (last (split 0x0D (drop (suc n) r)))) (good_of bar (take n r)) (all (good_of bar) (segments (drop (suc n) r))))
 
-    pass-next : (v : Seen) → pass_from v bar r ≡ cond (good_of bar (take n r)) (pass_from (counted_of v (name_of (take n r))) bar (drop (suc n) r)) Bad
+    pass-next : (v : Seen) → pass_from v bar r ≡ cond (good_of bar (take n r)) (pass_from (counted_of v (name_of (take n r))) bar (drop (suc n) r)) None
     unfolding pass_from seen_after
     pass-next v = rw (ok-next, segments-next) (cases (good_of bar (take n r)) (λ e. rw e) (λ e. rw e))
 
@@ -144,7 +91,7 @@ named-there m at n x e = ap (λ l. name_of (take n l)) (sym (rest-is m at)) ∙ 
 -- the pass at `at`
 module _ (m : List ℕ) (bar at n : ℕ) (v : Seen) (inv : pass_from nothing_seen bar m ≡ pass_from v bar (drop at m))
     (en : n ≡ length (until (Bytes.is_byte 0x0D) (take (length m - at) (drop at m)))) where
-  pub pass-open : at < length m → n ≡ length (take (length m - at) (drop at m)) → Bad ≡ pass_from nothing_seen bar m
+  pub pass-open : at < length m → n ≡ length (take (length m - at) (drop at m)) → None ≡ pass_from nothing_seen bar m
   unfolding pass_from
   pass-open h e = sym (inv ∙ rw (ok-unended bar (drop at m) n (there m at n en) (omega (arith, length-drop at m)) (e ∙ ap length (rest-is m at))))
 
@@ -153,17 +100,17 @@ module _ (m : List ℕ) (bar at n : ℕ) (v : Seen) (inv : pass_from nothing_see
     inside = rest-inside m at n k ne
 
     module _ (t : Bool) (et : t ≡ good_of bar (take n (take (length m - at) (drop at m)))) where
-      turn : pass_from nothing_seen bar m ≡ cond t (pass_from (counted_of v (name_of (take n (drop at m)))) bar (drop (at + (n + 1)) m)) Bad
+      turn : pass_from nothing_seen bar m ≡ cond t (pass_from (counted_of v (name_of (take n (drop at m)))) bar (drop (at + (n + 1)) m)) None
       turn = inv ∙ pass-next bar (drop at m) n (there m at n en) inside v ∙ rw (et, rest-is m at, rest-on m at n)
 
-      pub pass-bad : not t ≡ true → Bad ≡ pass_from nothing_seen bar m
+      pub pass-bad : not t ≡ true → None ≡ pass_from nothing_seen bar m
       pass-bad h = sym (turn ∙ rw (not-true t h))
 
       pub pass_on : (x : Name) (w : Seen) → not t ≡ false → x ≡ name_of (take n (take (length m - at) (drop at m))) → w ≡ counted_of v x
           → pass_from nothing_seen bar m ≡ pass_from w bar (drop (at + (n + 1)) m)
       pass_on x w h ex ew = turn ∙ rw (not-false t h, ew, ex, rest-is m at)
 
-pub pass-end : (m : List ℕ) (bar at : ℕ) (v : Seen) → pass_from nothing_seen bar m ≡ pass_from v bar (drop at m) → length m ≤ at → Whole v ≡ pass_from nothing_seen bar m
+pub pass-end : (m : List ℕ) (bar at : ℕ) (v : Seen) → pass_from nothing_seen bar m ≡ pass_from v bar (drop at m) → length m ≤ at → Some v ≡ pass_from nothing_seen bar m
 unfolding pass_from seen_after segments_ok segments split all_but_last last empty all
 pass-end m bar at v inv h = sym (inv ∙ rw (over m at h))
 
@@ -189,74 +136,41 @@ within_on v w x at n h e =
       obx = omega (arith, h, when-small (is Obx x));
     })))
 
-pub within_all : (m : List ℕ) (at : ℕ) (v u : Seen) → Within at v → at ≤ length m → length m ≤ 32768 → Whole v ≡ Whole u → Within most_bytes u
+pub within_all : (m : List ℕ) (at : ℕ) (v u : Seen) → Within at v → at ≤ length m → length m ≤ 32768 → Some v ≡ Some u → Within most_bytes u
 within_all m at v u h k l e =
     let q : v ≡ u = cc in
     rw (← q) (record { segments = omega (arith, h); known = omega (arith, h); spm = omega (arith, h); obr = omega (arith, h); obx = omega (arith, h) })
 
-pub within-bad : (u : Seen) → Bad ≡ Whole u → Within most_bytes u
+pub within-bad : (u : Seen) → None ≡ Some u → Within most_bytes u
 within-bad u e = absurd (let z : ◌≡◌ {A = ℕ} 0 1 = cc in omega arith)
 
--- ---- 14 and 15
-module _ (d : Delims) (v : Seen) (r : Framed) where
-  pub close-14 : r ≡ Not (record { kind = TooMany; segment = 0; field = 0 }) → 512 < v.segments → framed_told r ≡ closing d v
-  unfolding closing
-  close-14 e h = rw (e, lt-ltb 512 v.segments h)
-
-  module _ (h : v.segments ≤ 512) (t : Bool) (at : ℕ) (et : t ≡ may_end (reached_of v.reached)) (ea : at ≡ (v.fault then (v.known + 1 when not t))) where
-    pub close-15 : r ≡ Not (record { kind = Order; segment = at; field = 0 }) → (at ≡ 0 → ⊥) → framed_told r ≡ closing d v
-    unfolding closing
-    close-15 e n = rw (e, le-ltb 512 v.segments h, ← et, ← ea, ne_eqb at 0 n)
-
-pub close_open : (d : Delims) (v : Seen) (t : Bool) (at : ℕ) → v.segments ≤ 512 → t ≡ may_end (reached_of v.reached) → at ≡ (v.fault then (v.known + 1 when not t)) → at ≡ 0
-    → gives (record { delims = d; counts = v.counts }) ≡ closing d v
-unfolding closing
-close_open d v t at h et ea n = rw (le-ltb 512 v.segments h, ← et, ← ea, eq-eqb at 0 n)
-
 -- ---- what a pass that is over says
-passed-bad : (v : Seen) (bar : ℕ) (r : List ℕ) → pass_from v bar r ≡ Bad → segments_ok bar r ≡ false
+passed-bad : (v : Seen) (bar : ℕ) (r : List ℕ) → pass_from v bar r ≡ None → segments_ok bar r ≡ false
 unfolding pass_from
-passed-bad v bar r h = cases (segments_ok bar r) (λ e. let z : Whole (seen_after v (segments r)) ≡ Bad = rw e at h in cc) (λ e. e)
+passed-bad v bar r h = cases (segments_ok bar r) (λ e. let z : Some (seen_after v (segments r)) ≡ None = rw e at h in cc) (λ e. e)
 
-passed-whole : (v w : Seen) (bar : ℕ) (r : List ℕ) → pass_from v bar r ≡ Whole w → (segments_ok bar r ≡ true) × (seen_after v (segments r) ≡ w)
+passed-whole : (v w : Seen) (bar : ℕ) (r : List ℕ) → pass_from v bar r ≡ Some w → (segments_ok bar r ≡ true) × (seen_after v (segments r) ≡ w)
 unfolding pass_from
 passed-whole v w bar r h =
     cases (segments_ok bar r)
-    (λ e. let z : Whole (seen_after v (segments r)) ≡ Whole w = rw e at h in (e, cc))
-    (λ e. let z : Bad ≡ Whole w = rw e at h in (cc, cc))
-
-pub whole-within : (p : SegmentsPassed) (v : Seen) → ((w : Seen) → p ≡ Whole w → Within most_bytes w) → p ≡ Whole v → Within most_bytes v
-whole-within p v f e = f v e
+    (λ e. let z : Some (seen_after v (segments r)) ≡ Some w = rw e at h in (e, cc))
+    (λ e. let z : None ≡ Some w = rw e at h in (cc, cc))
 
 -- ---- 10 to 15
-module _ (m : List ℕ) (r : Framed) where
-  pub sound-by : framed_told r ≡ frame_of m → (o : Opened) → r ≡ Open o → Sound m o.delims
-  sound-by h o e = sound m o (sym h ∙ ap framed_told e)
+module _ (m : List ℕ) (r : Result Opened Refusal) where
+  pub sound-by : told r ≡ frame_of m → (o : Opened) → r ≡ Ok o → Sound m o.delims
+  sound-by h o e = sound m o (sym h ∙ ap told e)
 
-  pub frame-10 : 32768 < length m → r ≡ Not (record { kind = TooLong; segment = 0; field = 0 }) → framed_told r ≡ frame_of m
-  unfolding frame_of frame_told
-  frame-10 h e = rw (e, lt-ltb 32768 (length m) h)
-
-  module _ (l : length m ≤ 32768) (t : Bool) (et : t ≡ header_ok m) where
-    pub frame-11 : not t ≡ true → r ≡ Not (record { kind = Header; segment = 0; field = 0 }) → framed_told r ≡ frame_of m
+  module _ (l : length m ≤ 32768) (t : Bool) (et : t ≡ header_ok m) (ht : t ≡ true) (u : Bool) (eu : u ≡ keeps 0x0D m) (hu : u ≡ true)
+      (d : Delims) (ed : d ≡ delims_of m) (p : Option Seen) (ep : p ≡ pass_from nothing_seen d.field m) where
+    pub frame-13 : p ≡ None → r ≡ Err (record { kind = Segment; segment = 0; field = 0 }) → told r ≡ frame_of m
     unfolding frame_of frame_told
-    frame-11 h e = rw (e, le-ltb 32768 (length m) l, ← et, not-true t h)
+    frame-13 h e = rw (e, le-ltb 32768 (length m) l, ← et, ht, ← eu, hu, ← ed, passed-bad nothing_seen d.field m (sym ep ∙ h))
 
-    module _ (ht : not t ≡ false) (u : Bool) (eu : u ≡ keeps 0x0D m) where
-      pub frame-12 : not u ≡ true → r ≡ Not (record { kind = Bytes; segment = 0; field = 0 }) → framed_told r ≡ frame_of m
-      unfolding frame_of frame_told
-      frame-12 h e = rw (e, le-ltb 32768 (length m) l, ← et, not-false t ht, ← eu, not-true u h)
-
-      module _ (hu : not u ≡ false) (d : Delims) (ed : d ≡ delims_of m) (p : SegmentsPassed) (ep : p ≡ pass_from nothing_seen d.field m) where
-        pub frame-13 : p ≡ Bad → r ≡ Not (record { kind = Segment; segment = 0; field = 0 }) → framed_told r ≡ frame_of m
-        unfolding frame_of frame_told
-        frame-13 h e =
-            rw (e, le-ltb 32768 (length m) l, ← et, not-false t ht, ← eu, not-false u hu, ← ed, passed-bad nothing_seen d.field m (sym ep ∙ h))
-
-        pub frame-close : (v : Seen) → p ≡ Whole v → framed_told r ≡ closing d v → framed_told r ≡ frame_of m
-        unfolding frame_of frame_told
-        frame-close v h e =
-            let q = passed-whole nothing_seen v d.field m (sym ep ∙ h) in
-            e
-            ∙ rw (le-ltb 32768 (length m) l, ← et, not-false t ht, ← eu, not-false u hu, ← ed, q.0, ← q.1, closing-is m d)
-            (cases (ltb 512 (length (segments m))) (λ y. rw y) (λ y. rw y))
+    pub frame-close : (v : Seen) → p ≡ Some v → told r ≡ closing d v → told r ≡ frame_of m
+    unfolding frame_of frame_told
+    frame-close v h e =
+        let q = passed-whole nothing_seen v d.field m (sym ep ∙ h) in
+        e
+        ∙ rw (le-ltb 32768 (length m) l, ← et, ht, ← eu, hu, ← ed, q.0, ← q.1, closing-is m d)
+        (cases (ltb 512 (length (segments m))) (λ y. rw y) (λ y. rw y))

@@ -7,18 +7,23 @@ use Prim.Native.Nat.{ℕ, zero, suc, ◌+◌}
 use native.Mathlib.Nat.{add_assoc, add-zero, zero-add}
 use native.Mathlib.Numerals.{add-one}
 use native.Mathlib.Omega.{arith}
+use borrow.Author.Tests.{ne_eqb}
 use lib.Dec.{eqb, ltb}
 use lib.ListN.{length}
+use Rattle.std.specs.declared.option.Option.{Option}
+use Rattle.std.specs.declared.option.Option.TheVariants.{Some, None}
+use Rattle.std.specs.Bool.{then_some}
+use Rattle.std.specs.Option.{option_or}
 use Rattle.rules.specs.declared.Delims.{Delims}
 use Rattle.rules.specs.declared.Counts.{Counts}
 use Rattle.rules.specs.declared.Name.{Name}
 use Rattle.rules.specs.declared.Name.TheVariants.{Spm, Obr, Obx, Other}
-use Rattle.rules.specs.Told.{gives, refused, refuse◌if◌else◌, ◌>>◌, ◌>>=◌, ◌then◌, ◌when◌}
+use Rattle.rules.specs.Told.{Told, gives, refused, refuse◌if◌else◌, ◌>>◌, ◌>>=◌, ◌when◌}
 use Rattle.rules.specs.Lists.{count}
 use Rattle.rules.specs.Frame.{delims_of, segments, name_of, is, known_from, known, Reached, start, past, may_follow, may_end, order_fault}
 use Rattle.rules.specs.View.{Segment, segment_of, view}
 use Rattle.rules.specs.Check.{frame_told, names_of, counts_told, unsaid, places_told, view_told, check_told}
-use Rattle.rules.proofs.Logic.{cases, told_cases, then-zero, then-gives}
+use Rattle.rules.proofs.Logic.{cases, told_cases, then-gives}
 use Rattle.rules.proofs.Header.{header}
 use Rattle.rules.proofs.Where.{passes}
 use Rattle.order.specs.Order.{reached_of, code_reached}
@@ -51,7 +56,7 @@ counted-skipped v n e = rw e
 
 pub counted_next : (v : Seen) (n : Name) → is n Other ≡ false
     → counted_of v n
-    ≡ record { segments = v.segments + 1; known = v.known + 1; reached = code_reached (past (reached_of v.reached) n); fault = v.fault then (v.known + 1 when not (may_follow (reached_of v.reached) n)); counts = tallied v.counts n }
+    ≡ record { segments = v.segments + 1; known = v.known + 1; reached = code_reached (past (reached_of v.reached) n); fault = option_or v.fault (then_some (not (may_follow (reached_of v.reached) n)) (v.known + 1)); counts = tallied v.counts n }
 unfolding counted_of
 counted_next v n e = rw e
 
@@ -83,48 +88,56 @@ seen-counts d at v (s ∷ ss) =
     (λ e. r ∙ rw (counted-skipped v n e, names-other d at s ss e))
     (λ e. r ∙ rw (counted_next v n e, names-known d at s ss e) (tallied-next v.counts n ns))
 
--- 15
-unfoldable order_end : Seen → ℕ
-order_end v = v.fault then (v.known + 1 when not (may_end (reached_of v.reached)))
+-- 15: the rules' number of a fault, 0 for none, as the pass has it
+abbrev fault_at : ℕ → Option ℕ
+fault_at zero = None
+fault_at (suc n) = Some (suc n)
 
-then-first : (f k x : ℕ) → ((f then (k + 1)) then x) ≡ (f then (k + 1))
-then-first zero k x = rw (add-one k)
-then-first (suc f) k x = refl
+unfoldable order_end : Seen → Option ℕ
+order_end v = option_or v.fault (then_some (not (may_end (reached_of v.reached))) (v.known + 1))
 
-order-next : (f k : ℕ) (a : Reached) (n : Name) (ns : List Name)
-    → ((f then (k + 1 when not (may_follow a n))) then order_fault (past a n) (k + 1 + 1) ns) ≡ (f then order_fault a (k + 1) (n ∷ ns))
+or-next : (f : Option ℕ) (k : ℕ) (a : Reached) (n : Name) (ns : List Name)
+    → option_or (option_or f (then_some (not (may_follow a n)) (k + 1))) (fault_at (order_fault (past a n) (k + 1 + 1) ns)) ≡ option_or f (fault_at (order_fault a (k + 1) (n ∷ ns)))
 unfolding order_fault
-order-next f k a n ns =
-    cases (may_follow a n)
-    (λ e. rw (e, order_fault, then-zero f, add-one (k + 1)))
-    (λ e. rw (e, order_fault) (then-first f k (order_fault (past a n) (k + 1 + 1) ns)))
+or-next (Some x) k a n ns = refl
+or-next None k a n ns = cases (may_follow a n) (λ e. rw (e, order_fault, add-one (k + 1))) (λ e. rw (e, order_fault, add-one k))
 
-seen-order : (d : Delims) (at : ℕ) (v : Seen) (ss : List (List ℕ)) → order_end (seen_after v ss) ≡ (v.fault then order_fault (reached_of v.reached) (v.known + 1) (names_from d at ss))
+seen-order : (d : Delims) (at : ℕ) (v : Seen) (ss : List (List ℕ)) → order_end (seen_after v ss) ≡ option_or v.fault (fault_at (order_fault (reached_of v.reached) (v.known + 1) (names_from d at ss)))
 unfolding seen_after order_end order_fault
-seen-order d at v [] = rw (names-nil d at) (cases (may_end (reached_of v.reached)) (λ e. rw e) (λ e. rw e))
+seen-order d at v [] = rw (names-nil d at) (cases (may_end (reached_of v.reached)) (λ e. rw e) (λ e. rw (e, add-one v.known)))
 seen-order d at v (s ∷ ss) =
     let n : Name = name_of s in
     let ns : List Name = names_from d (at + suc (length s)) ss in
-    let r : order_end (seen_after (counted_of v n) ss) ≡ ((counted_of v n).fault then order_fault (reached_of (counted_of v n).reached) ((counted_of v n).known + 1) ns) = seen-order d (at + suc (length s)) (counted_of v n) ss in
+    let r : order_end (seen_after (counted_of v n) ss) ≡ option_or (counted_of v n).fault (fault_at (order_fault (reached_of (counted_of v n).reached) ((counted_of v n).known + 1) ns)) = seen-order d (at + suc (length s)) (counted_of v n) ss in
     cases (is n Other)
     (λ e. r ∙ rw (counted-skipped v n e, names-other d at s ss e))
-    (λ e. r ∙ rw (counted_next v n e, names-known d at s ss e) (order-next v.fault v.known (reached_of v.reached) n ns))
+    (λ e. r ∙ rw (counted_next v n e, names-known d at s ss e) (or-next v.fault v.known (reached_of v.reached) n ns))
+
+fault-or-not : {A : Type 0} (n : ℕ) (x : Told A) → elim (fault_at n) [ None ↦ x | Some at ↦ refused 15 at 0 ] ≡ cond (eqb n 0) x (refused 15 n 0)
+fault-or-not zero x = refl
+fault-or-not (suc n) x = rw (ne_eqb (suc n) 0 (λ z. omega arith))
 
 -- so 14 and 15 are the rules' own
+closing-with : (d : Delims) (v : Seen) (n : ℕ) → order_end v ≡ fault_at n
+    → closing d v ≡ (refuse 14 if ltb 512 v.segments else cond (eqb n 0) (gives (record { delims = d; counts = v.counts })) (refused 15 n 0))
+unfolding closing order_end
+closing-with d v n e =
+    ap (λ (x : Option ℕ). refuse 14 if ltb 512 v.segments else elim x [ None ↦ gives (record { delims = d; counts = v.counts }) | Some at ↦ refused 15 at 0 ]) e
+    ∙ ap (λ (x : Told Opened). refuse 14 if ltb 512 v.segments else x) (fault-or-not n (gives (record { delims = d; counts = v.counts })))
+
 pub closing-is : (m : List ℕ) (d : Delims) → closing d (seen_after nothing_seen (segments m))
     ≡ (refuse 14 if ltb 512 (length (segments m)) else
     cond (eqb (order_fault start 1 (names_of (view m))) 0) (counts_told (names_of (view m)) >>= λ c. gives (record { delims = d; counts = c })) (refused 15 (order_fault start 1 (names_of (view m))) 0))
-unfolding closing order_end names_from view known counts_told
+unfolding names_from view known counts_told
 closing-is m d =
     let w : Seen = seen_after nothing_seen (segments m) in
     let ns : List Name = names_of (view m) in
     let en : names_from (delims_of m) 0 (segments m) ≡ ns = refl in
-    let eo : (w.fault then (w.known + 1 when not (may_end (reached_of w.reached)))) ≡ order_fault start 1 ns
-    = seen-order (delims_of m) 0 nothing_seen (segments m) ∙ ap (order_fault start 1) en in
+    let eo : order_end w ≡ fault_at (order_fault start 1 ns) = seen-order (delims_of m) 0 nothing_seen (segments m) ∙ ap (λ l. fault_at (order_fault start 1 l)) en in
     let ec : w.counts ≡ record { spm = count (is Spm) ns; obr = count (is Obr) ns; obx = count (is Obx) ns }
     = seen-counts (delims_of m) 0 nothing_seen (segments m) ∙ rw (en, zero-add (count (is Spm) ns), zero-add (count (is Obr) ns), zero-add (count (is Obx) ns)) in
     let es : w.segments ≡ length (segments m) = seen-segments nothing_seen (segments m) ∙ zero-add (length (segments m)) in
-    rw (eo, ec, es)
+    closing-with d w (order_fault start 1 ns) eo ∙ rw (ec, es)
 
 -- ---- what a message that passes is
 pick_gives : {A : Type 0} (b : Bool) (x a : A) (n s f : ℕ) → cond b (gives x) (refused n s f) ≡ gives a → x ≡ a

@@ -1,10 +1,12 @@
 -- One pass over the segments of a message, and what the frame tells.
-use Rattle.std.specs.Prelude.{◌≡◌, Bool, true, cond, not, ◌&&◌, List, [], ◌∷◌, ℕ, ◌+◌, ◌≤◌, leb, ltb, eqb, length}
+use Rattle.std.specs.Prelude.{◌≡◌, Bool, true, cond, not, ◌&&◌, List, [], ◌∷◌, ℕ, ◌+◌, ◌≤◌, leb, ltb, eqb, length, Option, Some, None}
+use Rattle.std.specs.Bool.{then_some}
+use Rattle.std.specs.Option.{option_or}
 use Rattle.rules.specs.declared.Delims.{Delims}
 use Rattle.rules.specs.declared.Counts.{Counts}
 use Rattle.rules.specs.declared.Name.{Name}
 use Rattle.rules.specs.declared.Name.TheVariants.{Spm, Obr, Obx, Other}
-use Rattle.rules.specs.Told.{Told, gives, refused, refusal, refuse◌if◌else◌, ◌>>◌, ◌>>=◌, ◌then◌, ◌when◌}
+use Rattle.rules.specs.Told.{Told, gives, refused, refuse◌if◌else◌, ◌>>◌, ◌>>=◌, ◌when◌}
 use Rattle.rules.specs.Shift.{keeps}
 use Rattle.rules.specs.Frame.{delims_of, name_ok, name_of, segments, segments_ok, is, start, past, may_follow, may_end, order_fault}
 use Rattle.rules.specs.Proper.{Proper}
@@ -12,21 +14,13 @@ use Rattle.rules.specs.View.{view}
 use Rattle.rules.specs.Check.{frame_told, names_of, counts_told}
 use Rattle.order.specs.Order.{reached_of, code_reached}
 use Rattle.frame.specs.declared.Opened.{Opened}
-use Rattle.frame.specs.declared.Framed.{Framed}
-use Rattle.frame.specs.declared.Framed.TheVariants.{Open, Not}
 use Rattle.frame.specs.declared.all_segments.Seen.{Seen}
-use Rattle.frame.specs.declared.all_segments.SegmentsPassed.{SegmentsPassed}
-use Rattle.frame.specs.declared.all_segments.SegmentsPassed.TheVariants.{Whole, Bad}
 
 -- "At most 32,768 bytes."
 abbrev pub most_bytes : ℕ
 most_bytes = 32768
 
 -- ---- the frame
-abbrev pub framed_told : Framed → Told Opened
-framed_told (Open o) = gives o
-framed_told (Not r) = refusal r
-
 -- 10 to 14, then 15 by the known names; then the delimiters and the counts
 unfoldable pub frame_of : List ℕ → Told Opened
 frame_of m =
@@ -48,7 +42,7 @@ abbrev pub good_of : ℕ → List ℕ → Bool
 good_of bar s = leb (length s) 4096 && name_ok bar s
 
 abbrev pub nothing_seen : Seen
-nothing_seen = record { segments = 0; known = 0; reached = code_reached start; fault = 0; counts = record { spm = 0; obr = 0; obx = 0 } }
+nothing_seen = record { segments = 0; known = 0; reached = code_reached start; fault = None; counts = record { spm = 0; obr = 0; obx = 0 } }
 
 unfoldable pub tallied : Counts → Name → Counts
 tallied c n = record { spm = c.spm + (1 when is Spm n); obr = c.obr + (1 when is Obr n); obx = c.obx + (1 when is Obx n) }
@@ -64,7 +58,7 @@ counted_of v n =
       segments = v.segments + 1;
       known = at;
       reached = code_reached (past reached n);
-      fault = v.fault then (at when not (may_follow reached n));
+      fault = option_or v.fault (then_some (not (may_follow reached n)) at);
       counts = tallied v.counts n;
     })
 
@@ -73,15 +67,17 @@ seen_after v [] = v
 seen_after v (s ∷ ss) = seen_after (counted_of v (name_of s)) ss
 
 -- the rest r of a message, after what is seen
-unfoldable pub pass_from : Seen → ℕ → List ℕ → SegmentsPassed
-pass_from v bar r = cond (segments_ok bar r) (Whole (seen_after v (segments r))) Bad
+unfoldable pub pass_from : Seen → ℕ → List ℕ → Option Seen
+pass_from v bar r = cond (segments_ok bar r) (Some (seen_after v (segments r))) None
 
 -- 14 and 15, when all is seen
 unfoldable pub closing : Delims → Seen → Told Opened
 closing d v =
-    let at = v.fault then (v.known + 1 when not (may_end (reached_of v.reached))) in
     refuse 14 if ltb 512 v.segments else
-    cond (eqb at 0) (gives (record { delims = d; counts = v.counts })) (refused 15 at 0)
+    elim (option_or v.fault (then_some (not (may_end (reached_of v.reached))) (v.known + 1))) [
+      | None ↦ gives (record { delims = d; counts = v.counts })
+      | Some at ↦ refused 15 at 0
+    ]
 
 -- none of the numbers passes n
 pub record Within (n : ℕ) (v : Seen) : Type 0 where

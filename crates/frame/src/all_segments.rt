@@ -1,6 +1,5 @@
 // One pass over the segments: each is judged by itself, and counted by its name.
-ghost use Rattle.std.specs.Prelude.{◌≡◌, not, ◌≤◌, length};
-ghost use Rattle.rules.specs.Told.{◌then◌, ◌when◌};
+ghost use Rattle.std.specs.Prelude.{◌≡◌, ◌≤◌, length};
 ghost use Rattle.frame.specs.Frame.{most_bytes, good_of, tallied, counted_of, nothing_seen, pass_from, Within};
 
 use order::Reached;
@@ -12,21 +11,15 @@ pub struct Seen {
     pub segments: usize, // of all names
     pub known: usize,
     pub reached: Reached, // by the known ones
-    pub fault: usize, // the ordinal of the first known one out of order; 0 where there is none
+    pub fault: Option<usize>, // the ordinal of the first known one out of order
     pub counts: Counts,
 }
 
-#[derive(Clone, Copy)]
-pub enum SegmentsPassed {
-    Whole(Seen),
-    Bad,
-}
-
-// 13. All segments in turn; the rest of the message after each is passed on.
-pub fn pass(m: &[u8], field: u8) -> SegmentsPassed
+// 13. All segments in turn; none where one breaks the rule. The rest of the message after each is passed on.
+pub fn pass(m: &[u8], field: u8) -> Option<Seen>
     requires { length m.now ≤ most_bytes }
     ensures value { result ≡ pass_from nothing_seen field m.now }
-    ensures within { (v : Seen) → result ≡ SegmentsPassed.Whole v → Within most_bytes v }
+    ensures within { (v : Seen) → result ≡ Some v → Within most_bytes v }
 {
     let mut seen = nothing_seen();
     let mut at = 0;
@@ -34,16 +27,16 @@ pub fn pass(m: &[u8], field: u8) -> SegmentsPassed
         let rest = &m[at..];
         let n = plain_bytes::before(rest, 0x0D);
         if n == rest.len() {
-            return SegmentsPassed::Bad;
+            return None;
         }
         let s = &rest[..n];
         if !good(s, field) {
-            return SegmentsPassed::Bad;
+            return None;
         }
         seen = counted(seen, names::name_of(s));
         at += n + 1;
     }
-    SegmentsPassed::Whole(seen)
+    Some(seen)
 }
 
 fn nothing_seen() -> Seen
@@ -53,7 +46,7 @@ fn nothing_seen() -> Seen
         segments: 0,
         known: 0,
         reached: order::start(),
-        fault: 0,
+        fault: None,
         counts: Counts {
             spm: 0,
             obr: 0,
@@ -63,6 +56,7 @@ fn nothing_seen() -> Seen
 }
 
 // 13, of one segment without its 0D.
+#[tactic(auto, unfolding(rules::specs::Frame::name_ok))]
 pub fn good(s: &[u8], field: u8) -> bool
     ensures { result ≡ good_of field s.now }
 {
@@ -82,55 +76,38 @@ pub fn good(s: &[u8], field: u8) -> bool
 }
 
 // One segment more, of this name.
+#[tactic(auto, unfolding(crate::specs::Frame::counted_of))]
 fn counted(seen: Seen, name: Name) -> Seen
     requires { Within most_bytes seen }
     ensures { result ≡ counted_of seen name }
 {
     let segments = seen.segments + 1;
-    let reached = seen.reached;
-    let c = seen.counts;
     if names::is(name, Name::Other) {
-        return Seen {
-            segments,
-            known: seen.known,
-            reached,
-            fault: seen.fault,
-            counts: c,
-        };
+        return Seen { segments, ..seen };
     }
     let known = seen.known + 1;
-    let fault = first_fault(seen.fault, order::may_follow(reached, name), known);
-    let counts = tally(c, name);
+    let fine = order::may_follow(seen.reached, name);
     Seen {
         segments,
         known,
-        reached: order::past(reached, name),
-        fault,
-        counts,
+        reached: order::past(seen.reached, name),
+        fault: seen.fault.or((!fine).then_some(known)),
+        counts: tally(seen.counts, name),
     }
-}
-
-// The first fault: the one there is, else `at` unless it is fine.
-pub fn first_fault(fault: usize, fine: bool, at: usize) -> usize
-    ensures { result ≡ (fault then (at when not fine)) }
-{
-    if fault != 0 {
-        return fault;
-    }
-    if fine {
-        return 0;
-    }
-    at
 }
 
 // The counts with this name.
+#[tactic(auto, unfolding(crate::specs::Frame::tallied))]
 fn tally(c: Counts, name: Name) -> Counts
     requires { (c.spm ≤ most_bytes) × (c.obr ≤ most_bytes) × (c.obx ≤ most_bytes) }
     ensures { result ≡ tallied c name }
 {
-    Counts {
-        spm: c.spm + names::hit(Name::Spm, name),
-        obr: c.obr + names::hit(Name::Obr, name),
-        obx: c.obx + names::hit(Name::Obx, name),
+    let mut counts = c;
+    match name {
+        Name::Spm => counts.spm += 1,
+        Name::Obr => counts.obr += 1,
+        Name::Obx => counts.obx += 1,
+        _ => {}
     }
+    counts
 }

@@ -2,9 +2,10 @@
 #![tactic(auto)]
 
 ghost use Rattle.std.specs.Prelude.{◌≡◌};
-ghost use Rattle.frame.specs.Frame.{most_bytes, framed_told, frame_of, closing, Within, Sound};
+ghost use Rattle.rules.specs.Told.{told};
+ghost use Rattle.frame.specs.Frame.{most_bytes, frame_of, closing, Within, Sound};
 
-use crate::all_segments::{Seen, SegmentsPassed};
+use crate::all_segments::Seen;
 use rules::{Counts, Delims, Kind, Refusal};
 
 pub mod all_segments;
@@ -16,56 +17,45 @@ pub struct Opened {
     pub counts: Counts,
 }
 
-#[derive(Clone, Copy)]
-pub enum Framed {
-    Open(Opened),
-    Not(Refusal),
-}
-
 // Checks 10 to 15.
-pub fn frame(m: &[u8]) -> Framed
-    ensures result_value { framed_told result ≡ frame_of m.now }
-    ensures sound { (o : Opened) → result ≡ Framed.Open o → Sound m.now o.delims }
+#[tactic(auto, unfolding(crate::specs::Frame::frame_of, rules::specs::Check::frame_told))]
+pub fn frame(m: &[u8]) -> Result<Opened, Refusal>
+    ensures result_value { told result ≡ frame_of m.now }
+    ensures sound { (o : Opened) → result ≡ Ok o → Sound m.now o.delims }
 {
     if 32768 < m.len() {
-        return refused(Kind::TooLong, 0);
+        return Err(Kind::TooLong.into());
     }
     if !header::is_header(m) {
-        return refused(Kind::Header, 0);
+        return Err(Kind::Header.into());
     }
     if !scan::keeps(m, 0x0D) {
-        return refused(Kind::Bytes, 0);
+        return Err(Kind::Bytes.into());
     }
     let d = header::delims(m);
-    match all_segments::pass(m, d.field) {
-        SegmentsPassed::Bad => refused(Kind::Segment, 0),
-        SegmentsPassed::Whole(seen) => close(seen, d),
-    }
+    let seen = all_segments::pass(m, d.field).ok_or(Kind::Segment)?;
+    close(seen, d)
 }
 
 // 14 and 15, after the last segment.
-fn close(seen: Seen, d: Delims) -> Framed
+#[tactic(auto, unfolding(crate::specs::Frame::closing))]
+fn close(seen: Seen, d: Delims) -> Result<Opened, Refusal>
     requires { Within most_bytes seen }
-    ensures { framed_told result ≡ closing d seen }
+    ensures { told result ≡ closing d seen }
 {
     if 512 < seen.segments {
-        return refused(Kind::TooMany, 0);
+        return Err(Kind::TooMany.into());
     }
-    let reached = seen.reached;
-    let at = all_segments::first_fault(seen.fault, order::may_end(reached), seen.known + 1);
-    if at != 0 {
-        return refused(Kind::Order, at);
+    let fine = order::may_end(seen.reached);
+    match seen.fault.or((!fine).then_some(seen.known + 1)) {
+        Some(at) => Err(Refusal {
+            kind: Kind::Order,
+            segment: at,
+            field: 0,
+        }),
+        None => Ok(Opened {
+            delims: d,
+            counts: seen.counts,
+        }),
     }
-    let counts = seen.counts;
-    Framed::Open(Opened { delims: d, counts })
-}
-
-fn refused(kind: Kind, segment: usize) -> Framed
-    ensures { result ≡ Framed.Not (record { kind = kind; segment = segment; field = 0 }) }
-{
-    Framed::Not(Refusal {
-        kind,
-        segment,
-        field: 0,
-    })
 }

@@ -1,27 +1,26 @@
 -- Laws of the known segments, one after another. Assumes nothing.
 use mathlib.Core.Path.{◌≡◌, refl, sym, ap, ◌∙◌}
-use mathlib.Core.Bool.{true, false}
+use mathlib.Core.Bool.{Bool, true, false}
 use mathlib.Core.List.{List, [], ◌∷◌}
 use Prim.Native.Nat.{ℕ, suc, ◌+◌, ◌-◌, ◌≤◌, ◌<◌}
 use native.Mathlib.Omega.{arith}
 use lib.ListN.{length, take, drop, length-drop}
+use Rattle.std.specs.declared.option.Option.{Option}
+use Rattle.std.specs.declared.option.Option.TheVariants.{Some, None}
 use Rattle.rules.specs.declared.Name.{Name}
 use Rattle.rules.specs.declared.Name.TheVariants.{Other}
-use Rattle.rules.specs.declared.Fetched.TheVariants.{At}
-use Rattle.rules.specs.Told.{gives, refused, ◌when◌}
+use Rattle.rules.specs.Told.{gives, refused}
 use Rattle.rules.specs.Lists.{split, all_but_last}
 use Rattle.rules.specs.Shift.{met}
 use Rattle.rules.specs.Frame.{segments, name_of, Known, known_from, known}
 use Rattle.rules.specs.Frame as Frame
 use Rattle.rules.specs.Fetch.{ordinal}
-use Rattle.rules.proofs.Logic.{cases, zero_cases}
+use Rattle.rules.proofs.Logic.{zero_cases}
 use Rattle.rules.proofs.Lists.{over, rest-is, rest-inside, rest_end}
 use Rattle.plain_bytes.specs.Bytes.{until, is_byte}
 use Rattle.plain_bytes.proofs.Laws.{split-last}
 use Rattle.frame.proofs.Laws.{there, segment-there, named-there}
 use Rattle.rules.specs.declared.KnownSegment.{KnownSegment}
-use Rattle.rules.specs.declared.Found.{Found}
-use Rattle.rules.specs.declared.Found.TheVariants as Found
 
 known-other : (at : ℕ) (s : List ℕ) (ss : List (List ℕ)) → Frame.is (name_of s) Other ≡ true → known_from at (s ∷ ss) ≡ known_from (at + suc (length s)) ss
 unfolding known_from
@@ -74,40 +73,44 @@ module _ (m : List ℕ) (o left at n : ℕ) (inv : Seeking m o left at) (en : n 
     next : segments (drop at m) ≡ take n (drop at m) ∷ segments (drop (at + (n + 1)) m)
     next = segment-there m at n en inside
 
-    module _ (name : Name) (hit : ℕ) (ename : name ≡ name_of (take n (take (length m - at) (drop at m)))) (ehit : hit ≡ (1 when Frame.is name Other)) where
+    module _ (name : Name) (t : Bool) (ename : name ≡ name_of (take n (take (length m - at) (drop at m)))) (et : t ≡ Frame.is name Other) where
       named : name_of (take n (drop at m)) ≡ name
       named = named-there m at n name ename
 
       long : at + suc (length (take n (drop at m))) ≡ at + (n + 1)
       long = rest_end m at n inside
 
-      pub segment-found : left < 1 - hit → gives (record { name = name; start = at; body = met (take n (drop at m)) }) ≡ ordinal (known m) o
-      segment-found h =
-          cases (Frame.is name Other)
-          (λ e. let z : hit ≡ 1 = ehit ∙ rw e in absurd (omega arith))
-          (λ e. let z : hit ≡ 0 = ehit ∙ rw e in let l : left ≡ 0 = omega arith in
-          sym (inv.same ∙ rw (l, next, known-here at (take n (drop at m)) (segments (drop (at + (n + 1)) m)) (rw named e), named)
-          (ordinal-first (record { name = name; start = at; body = met (take n (drop at m)) }) (known_from (at + suc (length (take n (drop at m)))) (segments (drop (at + (n + 1)) m))))))
+      abbrev rest : List (List ℕ)
+      rest = segments (drop (at + (n + 1)) m)
 
-      pub segment-on : 1 - hit ≤ left → Seeking m o (left - (1 - hit)) (at + (n + 1))
-      segment-on h =
-          let rest : List (List ℕ) = segments (drop (at + (n + 1)) m) in
-          cases (Frame.is name Other)
-          (λ e. let z : hit ≡ 1 = ehit ∙ rw e in let l : left - (1 - hit) ≡ left = omega arith in
-          record { same = inv.same ∙ rw (l, next, known-other at (take n (drop at m)) rest (rw named e), long) })
-          (λ e. let z : hit ≡ 0 = ehit ∙ rw e in
-          zero_cases left (λ q. absurd (omega arith)) (λ j q. let l : left - (1 - hit) ≡ j = omega arith in
-          record { same = inv.same ∙ rw (l, q, next, known-here at (take n (drop at m)) rest (rw named e), long) (ordinal-later (record { name = name_of (take n (drop at m)); start = at; body = met (take n (drop at m)) }) (known_from (at + (n + 1)) rest) j) }))
+      abbrev found : Known
+      found = record { name = name; start = at; body = met (take n (drop at m)) }
+
+      from-here : t ≡ false → known_from at (segments (drop at m)) ≡ found ∷ known_from (at + (n + 1)) rest
+      from-here h = let e : Frame.is name Other ≡ false = sym et ∙ h in rw next (known-here at (take n (drop at m)) rest (rw named e) ∙ rw (named, long))
+
+      pub segment-found : t ≡ false → left ≡ 0 → gives found ≡ ordinal (known m) o
+      segment-found h l = sym (inv.same ∙ rw (l, from-here h) (ordinal-first found (known_from (at + (n + 1)) rest)))
+
+      pub segment-past : t ≡ false → (left ≡ 0 → ⊥) → Seeking m o (left - 1) (at + (n + 1))
+      segment-past h l =
+          zero_cases left (λ q. absurd (l q))
+          (λ j q. let k : left - 1 ≡ j = omega arith in record { same = inv.same ∙ rw (k, q, from-here h) (ordinal-later found (known_from (at + (n + 1)) rest) j) })
+
+      pub segment-other : t ≡ true → Seeking m o left (at + (n + 1))
+      segment-other h =
+          let e : Frame.is name Other ≡ true = sym et ∙ h in
+          record { same = inv.same ∙ rw next (ap (λ ks. ordinal ks (suc left)) (known-other at (take n (drop at m)) rest (rw named e) ∙ rw long)) }
 
 -- the bounds
-pub found_in : (n : ℕ) (x : Found) (s : KnownSegment) → ((y : KnownSegment) → x ≡ Found.At y → y.start + y.len ≤ n) → x ≡ Found.At s → s.start + s.len ≤ n
+pub found_in : (n : ℕ) (x : Option KnownSegment) (s : KnownSegment) → ((y : KnownSegment) → x ≡ Some y → y.start + y.len ≤ n) → x ≡ Some s → s.start + s.len ≤ n
 found_in n x s w e = w s e
 
-pub nothing-within : (n : ℕ) (s : KnownSegment) → Found.Nothing ≡ Found.At s → s.start + s.len ≤ n
+pub nothing-within : (n : ℕ) (s : KnownSegment) → None ≡ Some s → s.start + s.len ≤ n
 nothing-within n s e = let z : ◌≡◌ {A = ℕ} 0 1 = cc in absurd (omega arith)
 
 pub found_within : (m : List ℕ) (name : Name) (at n : ℕ) → at ≤ length m → n ≤ length (take (length m - at) (drop at m))
-    → (s : KnownSegment) → Found.At (record { name = name; start = at; len = n }) ≡ Found.At s → s.start + s.len ≤ length m
+    → (s : KnownSegment) → Some (record { name = name; start = at; len = n }) ≡ Some s → s.start + s.len ≤ length m
 found_within m name at n h k s e =
     let q : length (take (length m - at) (drop at m)) ≡ length (drop at m) = ap length (rest-is m at) in
     let z : s ≡ record { name = name; start = at; len = n } = cc in

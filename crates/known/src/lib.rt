@@ -3,14 +3,14 @@
 
 ghost use Rattle.rules.specs.Promises.{SegmentFound};
 
-use rules::{Found, KnownSegment, Name};
+use rules::{KnownSegment, Name};
 
 // "Ordinals count known segments only, from 1." It takes any bytes.
-pub fn known_segment(m: &[u8], ordinal: usize) -> Found
+pub fn known_segment(m: &[u8], ordinal: usize) -> Option<KnownSegment>
     ensures { SegmentFound m.now ordinal result }
 {
     if ordinal == 0 {
-        return Found::Nothing;
+        return None;
     }
     let mut left = ordinal - 1;
     let mut at = 0;
@@ -18,19 +18,20 @@ pub fn known_segment(m: &[u8], ordinal: usize) -> Found
         let rest = &m[at..];
         let n = plain_bytes::before(rest, 0x0D);
         if n == rest.len() {
-            return Found::Nothing;
+            return None;
         }
         let name = names::name_of(&rest[..n]);
-        let one = 1 - names::hit(name, Name::Other);
-        if left < one {
-            return Found::At(KnownSegment {
-                name,
-                start: at,
-                len: n,
-            });
+        if !names::is(name, Name::Other) {
+            if left == 0 {
+                return Some(KnownSegment {
+                    name,
+                    start: at,
+                    len: n,
+                });
+            }
+            left -= 1;
         }
-        left -= one;
         at += n + 1;
     }
-    Found::Nothing
+    None
 }

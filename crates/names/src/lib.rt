@@ -1,5 +1,5 @@
 // The known names of segments: "MSH PID PV1 SPM OBR ORC OBX".
-#![tactic(auto)]
+#![tactic(auto, using(crate::proofs::Laws::starts_by))]
 
 ghost use Rattle.std.specs.Prelude.{◌≡◌, ◌≤◌, length};
 ghost use Rattle.rules.specs.Told.{◌when◌};
@@ -13,7 +13,7 @@ pub fn named(s: &[u8], name: &[u8]) -> bool
     requires { (3 ≤ length s.now) × (length name.now ≡ 3) }
     ensures { result ≡ starts name.now s.now }
 {
-    (s[0] == name[0]) & (s[1] == name[1]) & (s[2] == name[2])
+    s.starts_with(name)
 }
 
 // The name of a segment, `Other` where it is none of the known ones.
@@ -47,27 +47,11 @@ pub fn name_of(s: &[u8]) -> Name
     Name::Other
 }
 
-// The place of a name among the known ones, 0 for another.
-fn rank_of(n: Name) -> usize
-    ensures { result ≡ rank n }
-{
-    match n {
-        Name::Msh => 1,
-        Name::Pid => 2,
-        Name::Pv1 => 3,
-        Name::Spm => 4,
-        Name::Obr => 5,
-        Name::Orc => 6,
-        Name::Obx => 7,
-        Name::Other => 0,
-    }
-}
-
 // Whether both names are the same.
 pub fn is(a: Name, b: Name) -> bool
     ensures { result ≡ is a b }
 {
-    rank_of(a) == rank_of(b)
+    a == b
 }
 
 // 1 where both names are the same, 0 elsewhere.
@@ -75,5 +59,5 @@ pub fn hit(a: Name, b: Name) -> usize
     ensures value { result ≡ (1 when is a b) }
     ensures small { result ≤ 1 }
 {
-    if is(a, b) { 1 } else { 0 }
+    usize::from(a == b)
 }

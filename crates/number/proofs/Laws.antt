@@ -1,8 +1,8 @@
--- Laws of NM, and for each function the set of those that its proof searches. Assumes nothing.
+-- Laws of NM. Assumes nothing.
 use Prim.Native.Nat.{ℕ, ◌+◌, ◌-◌, ◌≤◌, ◌<◌}
 use native.Mathlib.Nat.{zero-add}
 use native.Mathlib.Omega.{arith}
-use mathlib.Core.Path.{◌≡◌, refl, sym, ap, ◌∙◌}
+use mathlib.Core.Path.{◌≡◌, refl, ◌∙◌}
 use mathlib.Core.List.{List, [], ◌∷◌, foldl}
 use mathlib.Core.Bool.{Bool, true, false, cond, not, ◌&&◌, ◌||◌}
 use borrow.Author.Tests.{lt-leb}
@@ -12,20 +12,9 @@ use Rattle.rules.specs.Lists.{all, any, count}
 use Rattle.rules.specs.Frame.{digit}
 use Rattle.rules.specs.Value as Val
 use Rattle.rules.proofs.Logic.{and-false, or_assoc, and-true, or-false}
-use Rattle.rules.proofs.Lists.{here, over, rest-is, all_cons, any-cons}
+use Rattle.rules.proofs.Lists.{rest-is, all_cons, any-cons}
 use Rattle.number.specs.Number.{read_byte, none_read}
 use Rattle.number.specs.declared.Spelling.{Spelling}
-
--- ---- general
--- a run of steps
-module _ {A : Type 0} (f : A → ℕ → A) (t₀ t : A) (s : List ℕ) (i : ℕ) (inv : foldl f t₀ s ≡ foldl f t (drop i s)) where
-  pub fold-goes : (r : A) → i < length s → r ≡ f t (get_or s i 0) → foldl f t₀ s ≡ foldl f r (drop (i + 1) s)
-  fold-goes r h e = inv ∙ ap (foldl f t) (here 0 s i h) ∙ ap (λ (x : A). foldl f x (drop (i + 1) s)) (sym e)
-
-  pub fold-ends : length s ≤ i → t ≡ foldl f t₀ s
-  fold-ends h = sym (inv ∙ ap (foldl f t) (over s i h))
-
-pub ruleset fold-laws = (fold-goes, fold-ends)
 
 -- ---- NM
 pub read_is : (t : Spelling) (b : ℕ) (d : Bool) → d ≡ digit b
@@ -81,19 +70,19 @@ pub number_is_lem : (v s : List ℕ) (t : Spelling) → s ≡ Val.unsigned v →
 unfolding Val.holds
 number_is_lem v s t es et = cc (spelled_is s)
 
-pub sign-none : (v : List ℕ) → length v ≡ 0 → v ≡ Val.unsigned v
+pub sign-none : (v : List ℕ) → length v < 1 → v ≡ Val.unsigned v
 unfolding Val.unsigned
 sign-none [] h = refl
 sign-none (b ∷ s) h = absurd (omega arith)
 
-pub sign-yes : (v : List ℕ) → (length v ≡ 0 → ⊥) → (eqb (get_or v 0 0) 43 || eqb (get_or v 0 0) 45) ≡ true → take (length v - 1) (drop 1 v) ≡ Val.unsigned v
+pub sign-yes : (v : List ℕ) → 1 ≤ length v → (eqb (get_or v 0 0) 43 || eqb (get_or v 0 0) 45) ≡ true → take (length v - 1) (drop 1 v) ≡ Val.unsigned v
 unfolding Val.unsigned
-sign-yes [] h e = absurd (h refl)
+sign-yes [] h e = absurd (omega arith)
 sign-yes (b ∷ s) h e = cc (rest-is (b ∷ s) 1)
 
-pub sign-no : (v : List ℕ) → (length v ≡ 0 → ⊥) → (eqb (get_or v 0 0) 43 || eqb (get_or v 0 0) 45) ≡ false → v ≡ Val.unsigned v
+pub sign-no : (v : List ℕ) → 1 ≤ length v → (eqb (get_or v 0 0) 43 || eqb (get_or v 0 0) 45) ≡ false → v ≡ Val.unsigned v
 unfolding Val.unsigned
-sign-no [] h e = absurd (h refl)
+sign-no [] h e = absurd (omega arith)
 sign-no (b ∷ s) h e = cc
 
 pub ruleset past_sign-laws = (sign-none, sign-yes, sign-no)

@@ -31,29 +31,22 @@ fn read_byte(t: Spelling, b: u8) -> Spelling
 fn read_all(v: &[u8]) -> Spelling
     ensures { result ≡ foldl read_byte none_read v.now }
 {
-    let mut t = Spelling {
+    let none_read = Spelling {
         good: true,
         point: false,
         digit: false,
     };
-    let mut i = 0;
-    while i < v.len() {
-        t = read_byte(t, v[i]);
-        i += 1;
-    }
-    t
+    v.iter().fold(none_read, |t, b| read_byte(t, *b))
 }
 
 // What follows an optional sign.
 fn past_sign(v: &[u8]) -> &[u8]
     ensures { result.now ≡ Val.unsigned v.now }
 {
-    if v.len() == 0 {
-        return v;
-    }
-    let b = v[0];
-    if (b == 43) | (b == 45) {
-        return &v[1..];
+    if let [b, rest @ ..] = v {
+        if (*b == b'+') | (*b == b'-') {
+            return rest;
+        }
     }
     v
 }

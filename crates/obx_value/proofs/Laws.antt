@@ -9,7 +9,10 @@ use borrow.Author.Tests.{lt-ltb, le-ltb}
 use lib.Dec.{eqb, ltb}
 use lib.ListN.{length, drop}
 use Rattle.rules.specs.declared.Delims.{Delims}
-use Rattle.rules.specs.Told.{◌then◌, ◌when◌}
+use Rattle.std.specs.declared.result.Result.{Result}
+use Rattle.rules.specs.declared.Kind.{Kind}
+use Rattle.rules.specs.declared.Kind.TheVariants.{Missing, Repeated, Escape, Value}
+use Rattle.rules.specs.Told.{◌then◌, ◌when◌, number}
 use Rattle.rules.specs.Lists.{bytes, empty, filled, same, has, nth, split}
 use Rattle.rules.specs.Shift.{met, byte_of}
 use Rattle.rules.specs.Proper.{Proper}
@@ -23,8 +26,6 @@ use Rattle.rules.proofs.Modes.{length-met}
 use Rattle.plain_bytes.specs.Bytes.{until, is_byte}
 use Rattle.scan.specs.Scan.{ends, next}
 use Rattle.value.specs.Rules.{fault_no, rule_of, rules_of}
-use Rattle.value.specs.declared.Fault.{Fault}
-use Rattle.value.specs.declared.Fault.TheVariants.{Nothing, Missing, Repeated, Escape, Value}
 use Rattle.value.specs.declared.Rule.{Rule}
 use Rattle.value.specs.declared.Rule.TheVariants.{Time, Date, Number, Text, Digits, Capitals, OneOf}
 use Rattle.value.specs.declared.Place.TheVariants.{May}
@@ -37,34 +38,34 @@ use Rattle.obx_value.specs.Value.{SmallParts, shape_fault, component_from, last_
 
 -- ---- faults
 module _ (repeats excess : Bool) where
-  pub shape-repeats : repeats ≡ true → fault_no Repeated ≡ (22 when repeats then 23 when excess)
-  unfolding fault_no
+  pub shape-repeats : repeats ≡ true → number Repeated ≡ (22 when repeats then 23 when excess)
   shape-repeats h = rw h
 
-  pub shape-excess : repeats ≡ false → excess ≡ true → fault_no Escape ≡ (22 when repeats then 23 when excess)
-  unfolding fault_no
+  pub shape-excess : repeats ≡ false → excess ≡ true → number Escape ≡ (22 when repeats then 23 when excess)
   shape-excess h e = rw (h, e)
 
-  pub shape-right : repeats ≡ false → excess ≡ false → fault_no Nothing ≡ (22 when repeats then 23 when excess)
-  unfolding fault_no
+  pub shape-right : repeats ≡ false → excess ≡ false → 0 ≡ (22 when repeats then 23 when excess)
   shape-right h e = rw (h, e)
 
-module _ (beside filled : Bool) (own : Fault) where
-  pub needed-yes : (beside && not filled) ≡ true → fault_no Missing ≡ (20 when (beside && not filled) then fault_no own)
-  unfolding fault_no
+pub ruleset shape_laws = (shape-repeats, shape-excess, shape-right)
+
+module _ (beside filled : Bool) (own : Result (Unit {0}) Kind) where
+  pub needed-yes : (beside && not filled) ≡ true → number Missing ≡ (20 when (beside && not filled) then fault_no own)
   needed-yes h = rw h
 
   pub needed-no : (beside && not filled) ≡ false → fault_no own ≡ (20 when (beside && not filled) then fault_no own)
   needed-no h = rw h
 
+pub ruleset needed_laws = (needed-yes, needed-no)
+
 module _ (joiner second r : Bool) (g : (c : Four (List ℕ)) → joiner ≡ filled c.join → second ≡ filled c.second → r ≡ unjoined c) where
-  pub unjoined-yes : r ≡ true → (c : Four (List ℕ)) → joiner ≡ filled c.join → second ≡ filled c.second → fault_no Value ≡ (25 when unjoined c)
-  unfolding fault_no
+  pub unjoined-yes : r ≡ true → (c : Four (List ℕ)) → joiner ≡ filled c.join → second ≡ filled c.second → number Value ≡ (25 when unjoined c)
   unjoined-yes h c e f = rw (← g c e f, h)
 
-  pub unjoined-no : r ≡ false → (c : Four (List ℕ)) → joiner ≡ filled c.join → second ≡ filled c.second → fault_no Nothing ≡ (25 when unjoined c)
-  unfolding fault_no
+  pub unjoined-no : r ≡ false → (c : Four (List ℕ)) → joiner ≡ filled c.join → second ≡ filled c.second → 0 ≡ (25 when unjoined c)
   unjoined-no h c e f = rw (← g c e f, h)
+
+pub ruleset unjoined_laws = (unjoined-yes, unjoined-no)
 
 -- ---- the shape
 -- how much longer the field is than its first component

@@ -12,43 +12,46 @@ ghost use Rattle.components.specs.Components.{field_at};
 ghost use Rattle.obx_value.specs.Value.{SmallParts, LastOf, NumberOf, ValueOf};
 
 use components::{component, one};
-use rules::Delims;
+use rules::{Delims, Kind};
+use value::Parts;
 use value::Place::May;
-use value::{Fault, Parts, earlier};
 
 // ---- faults
 
 // 22 for a repetition, then 23 for a component too many.
-fn shape(repeats: bool, excess: bool) -> Fault
+#[tactic(auto, using(crate::proofs::Laws::shape_laws), unfolding(value::specs::Rules::fault_no))]
+fn shape(repeats: bool, excess: bool) -> Result<(), Kind>
     ensures { fault_no result ≡ (22 when repeats then 23 when excess) }
 {
     if repeats {
-        return Fault::Repeated;
+        return Err(Kind::Repeated);
     }
     if excess {
-        return Fault::Escape;
+        return Err(Kind::Escape);
     }
-    Fault::Nothing
+    Ok(())
 }
 
 // "SN with an empty number beside a filled part: 20"; else the number's own fault.
-fn needed(beside: bool, filled: bool, own: Fault) -> Fault
+#[tactic(auto, using(crate::proofs::Laws::needed_laws), unfolding(value::specs::Rules::fault_no))]
+fn needed(beside: bool, filled: bool, own: Result<(), Kind>) -> Result<(), Kind>
     ensures { fault_no result ≡ (20 when (beside && not filled) then fault_no own) }
 {
     if beside & !filled {
-        return Fault::Missing;
+        return Err(Kind::Missing);
     }
     own
 }
 
 // "a second number needs a joiner, judged at that number"
-fn unjoined(joiner: bool, second: bool) -> Fault
+#[tactic(auto, using(crate::proofs::Laws::unjoined_laws), unfolding(value::specs::Rules::fault_no))]
+fn unjoined(joiner: bool, second: bool) -> Result<(), Kind>
     ensures { (c : Four (List ℕ)) → joiner ≡ filled c.join → second ≡ filled c.second → fault_no result ≡ (25 when J.unjoined c) }
 {
     if value::unjoined(joiner, second) {
-        return Fault::Value;
+        return Err(Kind::Value);
     }
-    Fault::Nothing
+    Ok(())
 }
 
 // ---- NM and ST: one component
@@ -56,7 +59,7 @@ fn unjoined(joiner: bool, second: bool) -> Fault
 // Its first fault, its length, whether the value is filled and whether a part beside it is.
 #[derive(Clone, Copy)]
 pub struct ValueRead {
-    pub fault: Fault,
+    pub fault: Result<(), Kind>,
     pub len: usize,
     pub filled: bool,
     pub beside: bool,
@@ -67,12 +70,9 @@ fn single(t: &[u8], d: Delims, rules: Parts) -> ValueRead
     ensures by_index { (type : List ℕ) → J.is_sn type ≡ false → rules_of rules ≡ value_rules type → ValueOf d type (field_at d t.now) (fault_no result.fault) result.len result.filled result.beside }
     ensures within { result.len ≤ length t.now }
 {
-    let rule = rules.value;
-    let c = one(t, d, May(rule));
-    let own = c.fault;
-    let fault = earlier(shape(c.repeats, c.head < c.len), own);
+    let c = one(t, d, May(rules.value));
     ValueRead {
-        fault,
+        fault: shape(c.repeats, c.head < c.len).and(c.fault),
         len: c.len,
         filled: 0 < c.head,
         beside: false,
@@ -85,8 +85,8 @@ fn single(t: &[u8], d: Delims, rules: Parts) -> ValueRead
 // which of the two is filled.
 #[derive(Clone, Copy)]
 struct LastRead {
-    form: Fault,
-    fault: Fault,
+    form: Result<(), Kind>,
+    fault: Result<(), Kind>,
     len: usize,
     joiner: bool,
     second: bool,
@@ -97,54 +97,45 @@ fn last_two(t: &[u8], d: Delims, rules: Parts) -> LastRead
     ensures last_of { LastOf d (rules_of rules) t.now (fault_no result.form) (fault_no result.fault) result.len result.joiner result.second }
     ensures within { result.len ≤ length t.now }
 {
-    let join = rules.join;
-    let number = rules.second;
-    let a = component(t, d, May(join));
-    let f = a.fault;
+    let a = component(t, d, May(rules.join));
     let u = scan::behind(t, a.len, d);
-    let b = one(u, d, May(number));
-    let g = b.fault;
+    let b = one(u, d, May(rules.second));
     let joiner = 0 < a.len;
     let second = 0 < b.head;
     LastRead {
         form: shape(b.repeats, b.head < b.len),
-        fault: earlier(f, earlier(g, unjoined(joiner, second))),
+        fault: a.fault.and(b.fault.and(unjoined(joiner, second))),
         len: t.len() - u.len() + b.len,
         joiner,
         second,
     }
 }
 
-// The number and what follows it, where a comparator is filled or not; whether the number is filled, and whether a part beside it is.
+// The number and what follows it, where a comparator is filled or not: what the field's shape breaks, and what is read of the others.
 #[derive(Clone, Copy)]
 struct NumberRead {
-    form: Fault,
-    fault: Fault,
-    len: usize,
-    filled: bool,
-    beside: bool,
+    form: Result<(), Kind>,
+    read: ValueRead,
 }
 
 fn last_three(t: &[u8], d: Delims, rules: Parts, compared: bool) -> NumberRead
     requires { Proper d × SmallParts rules }
-    ensures number_of { NumberOf d (rules_of rules) compared t.now (fault_no result.form) (fault_no result.fault) result.len result.filled result.beside }
-    ensures within { result.len ≤ length t.now }
+    ensures number_of { NumberOf d (rules_of rules) compared t.now (fault_no result.form) (fault_no result.read.fault) result.read.len result.read.filled result.read.beside }
+    ensures within { result.read.len ≤ length t.now }
 {
-    let value = rules.value;
-    let a = component(t, d, May(value));
-    let f = a.fault;
+    let a = component(t, d, May(rules.value));
     let u = scan::behind(t, a.len, d);
     let e = last_two(u, d, rules);
-    let form = e.form;
-    let g = e.fault;
     let filled = 0 < a.len;
     let beside = value::beside(compared, e.joiner, e.second);
     NumberRead {
-        form,
-        fault: earlier(needed(beside, filled, f), g),
-        len: t.len() - u.len() + e.len,
-        filled,
-        beside,
+        form: e.form,
+        read: ValueRead {
+            fault: needed(beside, filled, a.fault).and(e.fault),
+            len: t.len() - u.len() + e.len,
+            filled,
+            beside,
+        },
     }
 }
 
@@ -153,18 +144,13 @@ fn numbers(t: &[u8], d: Delims, rules: Parts) -> ValueRead
     ensures by_index { (type : List ℕ) → J.is_sn type ≡ true → rules_of rules ≡ value_rules type → ValueOf d type (field_at d t.now) (fault_no result.fault) result.len result.filled result.beside }
     ensures within { result.len ≤ length t.now }
 {
-    let compare = rules.compare;
-    let a = component(t, d, May(compare));
-    let f = a.fault;
+    let a = component(t, d, May(rules.compare));
     let u = scan::behind(t, a.len, d);
     let e = last_three(u, d, rules, 0 < a.len);
-    let form = e.form;
-    let g = e.fault;
     ValueRead {
-        fault: earlier(form, earlier(f, g)),
-        len: t.len() - u.len() + e.len,
-        filled: e.filled,
-        beside: e.beside,
+        fault: e.form.and(a.fault.and(e.read.fault)),
+        len: t.len() - u.len() + e.read.len,
+        ..e.read
     }
 }
 

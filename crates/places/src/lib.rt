@@ -1,35 +1,36 @@
 // The read places of a segment, field by field, as the table of document 01 lists them.
 #![tactic(auto)]
 
+ghost use Rattle.std.specs.Prelude.{◌≡◌, IfOk};
 ghost use Rattle.rules.specs.Shift.{met};
 ghost use Rattle.rules.specs.Proper.{Proper};
-ghost use Rattle.value.specs.Rules.{fault_no};
-ghost use Rattle.fields.specs.Segment.{said, FoundIn};
-ghost use Rattle.specimen.specs.Specimen.{OrderAt};
+ghost use Rattle.rules.specs.View.{segment_of};
+ghost use Rattle.rules.specs.Check.{context_after};
+ghost use Rattle.fields.specs.Segment.{as_known, said, FoundIn};
 
-use fields::SegmentRead;
+use fields::FieldFault;
 use rules::{Delims, Name};
-use value::Fault;
 
-// By its name, after the OBR whose order number is `order`. Other names have no read places.
-pub fn segment(name: Name, s: &[u8], d: Delims, order: &[u8]) -> SegmentRead
+// By its name, after the OBR whose order number is `order`: the order number that the segments after it go by, an OBR's own, else the same.
+// Other names have no read places.
+pub fn segment<'a>(
+    name: Name,
+    s: &'a [u8],
+    d: Delims,
+    order: &'a [u8],
+) -> Result<&'a [u8], FieldFault>
     requires { Proper d }
-    ensures found_in { FoundIn name d (said order.now) (met s.now) result.field (fault_no result.fault) }
-    ensures order { OrderAt name d s.now (fault_no result.fault) result.at result.len }
+    ensures found_in { FoundIn name d (said order.now) (met s.now) result }
+    ensures order { IfOk result (λ o. said o.now ≡ context_after d (said order.now) (segment_of d (as_known name (met s.now)))) }
 {
     match name {
-        Name::Msh => leading::msh(s, d),
-        Name::Pid => leading::pid(s, d),
-        Name::Pv1 => leading::pv1(s, d),
-        Name::Spm => specimen::spm(s, d),
+        Name::Msh => leading::msh(s, d).and(Ok(order)),
+        Name::Pid => leading::pid(s, d).and(Ok(order)),
+        Name::Pv1 => leading::pv1(s, d).and(Ok(order)),
+        Name::Spm => specimen::spm(s, d).and(Ok(order)),
         Name::Obr => specimen::obr(s, d),
-        Name::Orc => specimen::orc(s, d, order),
-        Name::Obx => obx::obx(s, d),
-        Name::Other => SegmentRead {
-            fault: Fault::Nothing,
-            field: 0,
-            at: 0,
-            len: 0,
-        },
+        Name::Orc => specimen::orc(s, d, order).and(Ok(order)),
+        Name::Obx => obx::obx(s, d).and(Ok(order)),
+        Name::Other => Ok(order),
     }
 }

@@ -1,5 +1,5 @@
 // Plain bytes: which are digits or capitals, whether two texts are the same, and where a byte first stands.
-#![tactic(auto)]
+#![tactic(auto, using(crate::proofs::Laws::same_by))]
 
 ghost use Rattle.std.specs.Prelude.{◌≡◌, ◌≤◌, length};
 ghost use Rattle.rules.specs.Shift.{within};
@@ -11,7 +11,7 @@ ghost use Rattle.plain_bytes.specs.Bytes.{until, is_byte};
 pub fn in_range(lo: u8, hi: u8, b: u8) -> bool
     ensures { result ≡ within lo hi b }
 {
-    (lo <= b) & (b <= hi)
+    (lo..=hi).contains(&b)
 }
 
 // A byte of one-byte mode that is no end.
@@ -42,54 +42,27 @@ pub fn is_capital_or_digit(b: u8) -> bool
 pub fn all_digits(v: &[u8]) -> bool
     ensures { result ≡ all digit v.now }
 {
-    let mut i = 0;
-    while i < v.len() {
-        if !is_digit(v[i]) {
-            return false;
-        }
-        i += 1;
-    }
-    true
+    v.iter().all(|b| is_digit(*b))
 }
 
 pub fn all_capitals_or_digits(v: &[u8]) -> bool
     ensures { result ≡ all capital_or_digit v.now }
 {
-    let mut i = 0;
-    while i < v.len() {
-        if !is_capital_or_digit(v[i]) {
-            return false;
-        }
-        i += 1;
-    }
-    true
+    v.iter().all(|b| is_capital_or_digit(*b))
 }
 
 // Exactly n digits.
 pub fn digits(v: &[u8], n: usize) -> bool
     ensures { result ≡ digits_ok n v.now }
 {
-    if v.len() != n {
-        return false;
-    }
-    all_digits(v)
+    v.len() == n && all_digits(v)
 }
 
 // Whether both are the same bytes.
 pub fn equal(a: &[u8], b: &[u8]) -> bool
     ensures { result ≡ same a.now b.now }
 {
-    if a.len() != b.len() {
-        return false;
-    }
-    let mut i = 0;
-    while i < a.len() {
-        if a[i] != b[i] {
-            return false;
-        }
-        i += 1;
-    }
-    true
+    a == b
 }
 
 // How many bytes stand before the first sep.
@@ -97,12 +70,5 @@ pub fn before(s: &[u8], sep: u8) -> usize
     ensures value { result ≡ length (until (is_byte sep) s.now) }
     ensures within { result ≤ length s.now }
 {
-    let mut i = 0;
-    while i < s.len() {
-        if s[i] == sep {
-            return i;
-        }
-        i += 1;
-    }
-    i
+    s.iter().position(|b| *b == sep).unwrap_or(s.len())
 }

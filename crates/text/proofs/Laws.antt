@@ -17,8 +17,10 @@ use Rattle.rules.specs.Escape.{unescape}
 use Rattle.rules.specs.Fetch.{unescaped_told}
 use Rattle.rules.proofs.Logic.{call-refused, call-wrote}
 use Rattle.unescape.specs.Unescaped.{fill, Whole, Longer, Fits, BufferHolds}
-use Rattle.unescape.specs.declared.Unescaped.{Unescaped}
-use Rattle.unescape.specs.declared.Unescaped.TheVariants.{Got, Faulty, Over}
+use Rattle.std.specs.declared.result.Result.{Result}
+use Rattle.std.specs.declared.result.Result.TheVariants.{Ok, Err}
+use Rattle.unescape.specs.declared.NotHeld.{NotHeld}
+use Rattle.unescape.specs.declared.NotHeld.TheVariants.{Faulty, Over}
 
 nothing : (w : List ℕ) → length w ≡ 0 → w ≡ []
 nothing [] h = refl
@@ -44,23 +46,23 @@ asked-fits : (d : Delims) (raw : List ℕ) (s f room : ℕ) (v : List ℕ) → u
 unfolding unescaped_told
 asked-fits d raw s f room v e h = rw (e, unescaped_told, le-ltb room (length v) h)
 
-module _ (d : Delims) (raw : List ℕ) (s f : ℕ) (old : List ℕ) (u : Unescaped) (x : List ℕ) (fits : Fits u (unescape d (met raw)) x) where
+module _ (d : Delims) (raw : List ℕ) (s f : ℕ) (old : List ℕ) (u : Result ℕ NotHeld) (x : List ℕ) (fits : Fits u (unescape d (met raw)) x) where
   -- 23
-  pub text-faulty : (r : Written) → u ≡ Faulty → r ≡ NotWritten (record { kind = Escape; segment = s; field = f }) → Call (unescaped_told d raw s f (length old)) old r old
-  text-faulty r e g =
+  pub text-faulty : (r : Written) (why : NotHeld) → u ≡ Err why → why ≡ Faulty → r ≡ NotWritten (record { kind = Escape; segment = s; field = f }) → Call (unescaped_told d raw s f (length old)) old r old
+  text-faulty r why e q g =
       call-refused (unescaped_told d raw s f (length old)) old (record { kind = Escape; segment = s; field = f }) r
-      (asked-none d raw s f (length old) (subst (λ (z : Unescaped). Fits z (unescape d (met raw)) x) e fits)) g
+      (asked-none d raw s f (length old) (subst (λ (z : Result ℕ NotHeld). Fits z (unescape d (met raw)) x) (e ∙ ap Err q) fits)) g
 
   -- nothing to write
-  pub text-empty : (n : ℕ) → length x ≡ 0 → u ≡ Got n → Call (unescaped_told d raw s f (length old)) old (Wrote 0) old
+  pub text-empty : (n : ℕ) → length x ≡ 0 → u ≡ Ok n → Call (unescaped_told d raw s f (length old)) old (Wrote 0) old
   text-empty n h e =
-      let p : Whole n (unescape d (met raw)) x = subst (λ (z : Unescaped). Fits z (unescape d (met raw)) x) e fits in
+      let p : Whole n (unescape d (met raw)) x = subst (λ (z : Result ℕ NotHeld). Fits z (unescape d (met raw)) x) e fits in
       let q : take n x ≡ [] = nothing (take n x) (omega (arith, length-take-le n x p.low, p.low)) in
       call-wrote (unescaped_told d raw s f (length old)) old [] old 0 (asked-fits d raw s f (length old) [] (p.is ∙ ap some q) (omega arith)) refl (omega arith) refl
 
-  module _ (n : ℕ) (e : u ≡ Over n) where
+  module _ (n : ℕ) (why : NotHeld) (e : u ≡ Err why) (q : why ≡ Over n) where
     far : Longer n (unescape d (met raw)) x
-    far = subst (λ (z : Unescaped). Fits z (unescape d (met raw)) x) e fits
+    far = subst (λ (z : Result ℕ NotHeld). Fits z (unescape d (met raw)) x) (e ∙ ap Err q) fits
 
     -- 45
     pub text-short : (r : Written) → length old < n → r ≡ NotWritten (record { kind = Room; segment = 0; field = 0 }) → Call (unescaped_told d raw s f (length old)) old r old

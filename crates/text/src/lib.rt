@@ -6,20 +6,20 @@ ghost use Rattle.rules.specs.Told.{Call};
 ghost use Rattle.rules.specs.Fetch.{unescaped_told};
 
 use rules::{Delims, Kind, Refusal, Written};
-use unescape::Unescaped;
+use unescape::NotHeld;
 
 // The text of a component of this segment and field: 23, then 45, or how many bytes it has. It is measured, and then written.
 pub fn text_of(raw: &[u8], d: Delims, segment: usize, field: usize, out: &mut [u8]) -> Written
     ensures { Call (unescaped_told d raw.now segment field (length out.old)) out.old result out.new }
 {
     match unescape::unescape_into(raw, d, &mut [0u8; 0]) {
-        Unescaped::Faulty => refused(Kind::Escape, segment, field),
-        Unescaped::Got(_) => Written::Wrote(0),
-        Unescaped::Over(n) => {
+        Err(NotHeld::Faulty) => refused(Kind::Escape, segment, field),
+        Ok(_) => Written::Wrote(0),
+        Err(NotHeld::Over(n)) => {
             if out.len() < n {
                 return refused(Kind::Room, 0, 0);
             }
-            unescape::unescape_into(raw, d, out);
+            let _ = unescape::unescape_into(raw, d, out);
             Written::Wrote(n)
         }
     }

@@ -22,8 +22,10 @@ use Rattle.rules.specs.Escape.{letters, meaning, push, unescape_at, unescape}
 use Rattle.unescape.specs.Unescaped.{BufferHolds, turn_of, named_of, emitted, byte_at, kept_len, kept_buf, answer_of, fill, Whole, Fits}
 use Rattle.unescape.specs.declared.At.{At}
 use Rattle.unescape.specs.declared.At.TheVariants.{Plain, Opened, Named, Broken}
-use Rattle.unescape.specs.declared.Unescaped.{Unescaped}
-use Rattle.unescape.specs.declared.Unescaped.TheVariants.{Got, Over}
+use Rattle.std.specs.declared.result.Result.{Result}
+use Rattle.std.specs.declared.result.Result.TheVariants.{Ok, Err}
+use Rattle.unescape.specs.declared.NotHeld.{NotHeld}
+use Rattle.unescape.specs.declared.NotHeld.TheVariants.{Over}
 use Rattle.rules.specs.Escape as E
 
 -- ---- the reader
@@ -96,7 +98,7 @@ fill-take (v ∷ w) [] h = absurd (omega arith)
 fill-take (v ∷ w) (o ∷ old) h = ap (λ (l : List ℕ). v ∷ l) (fill-take w old (omega arith))
 
 fits-plain : (o : Option (List ℕ)) (done old x : List ℕ) (k : ℕ) → o ≡ some done → k ≡ length done → x ≡ fill done old → length x ≡ length old
-    → (b : Bool) → leb k (length x) ≡ b → Fits (cond b (Got k) (Over k)) o x
+    → (b : Bool) → leb k (length x) ≡ b → Fits (cond b (Ok k) (Err (Over k))) o x
 fits-plain o done old x k a e f g true h =
     let l : k ≤ length x = leb-true k (length x) h in
     record { is = a ∙ ap some (sym (rw (e, f) (fill-take done old (omega arith)))); low = l }
@@ -167,15 +169,15 @@ module _ {d : Delims} {raw old x : List ℕ} {at : At} {mode : Mode} {k i : ℕ}
   pub reads_kept : length raw ≤ i → BufferHolds (unescape d (met raw)) old x
   reads_kept h = kept-end at d (unescape d (met raw)) p.done old x (all_read h) p.holds
 
-  pub reads_end : {r : Unescaped} → length raw ≤ i → r ≡ answer_of at k (length x) → Fits r (unescape d (met raw)) x
+  pub reads_end : {r : Result ℕ NotHeld} → length raw ≤ i → r ≡ answer_of at k (length x) → Fits r (unescape d (met raw)) x
   reads_end {r} h e =
-      subst (λ (w : Unescaped). Fits w (unescape d (met raw)) x) (sym e) (fits-end at d (unescape d (met raw)) p.done old x k (all_read h) p.ends p.holds p.room)
+      subst (λ (w : Result ℕ NotHeld). Fits w (unescape d (met raw)) x) (sym e) (fits-end at d (unescape d (met raw)) p.done old x k (all_read h) p.ends p.holds p.room)
 
 -- ---- the code's steps
-pub answer-got : (t : At) (k room : ℕ) → t ≡ Plain → k ≤ room → Got k ≡ answer_of t k room
+pub answer-got : (t : At) (k room : ℕ) → t ≡ Plain → k ≤ room → Ok k ≡ answer_of t k room
 answer-got t k room e h = cc (le-leb k room h)
 
-pub answer-over : (t : At) (k room : ℕ) → t ≡ Plain → room < k → Over k ≡ answer_of t k room
+pub answer-over : (t : At) (k room : ℕ) → t ≡ Plain → room < k → Err (Over k) ≡ answer_of t k room
 answer-over t k room e h = cc (lt-leb k room h)
 
 module _ (d : Delims) (at : At) (x : ℕ) where
@@ -208,11 +210,11 @@ module _ (d : Delims) (at : At) (x : ℕ) where
   turn-broken e = cc
 
 -- ---- what an answer says
-pub got-low : (u : Unescaped) (n : ℕ) (o : Option (List ℕ)) (x : List ℕ) → u ≡ Got n → Fits u o x → n ≤ length x
-got-low u n o x e w = let p : Whole n o x = subst (λ (z : Unescaped). Fits z o x) e w in p.low
+pub got-low : (u : Result ℕ NotHeld) (n : ℕ) (o : Option (List ℕ)) (x : List ℕ) → u ≡ Ok n → Fits u o x → n ≤ length x
+got-low u n o x e w = let p : Whole n o x = subst (λ (z : Result ℕ NotHeld). Fits z o x) e w in p.low
 
-pub got-count : (u : Unescaped) (n : ℕ) (o : Option (List ℕ)) (x : List ℕ) → u ≡ Got n → Fits u o x → n ≡ length (take n x)
-got-count u n o x e w = let p : Whole n o x = subst (λ (z : Unescaped). Fits z o x) e w in sym (length-take-le n x p.low)
+pub got-count : (u : Result ℕ NotHeld) (n : ℕ) (o : Option (List ℕ)) (x : List ℕ) → u ≡ Ok n → Fits u o x → n ≡ length (take n x)
+got-count u n o x e w = let p : Whole n o x = subst (λ (z : Result ℕ NotHeld). Fits z o x) e w in sym (length-take-le n x p.low)
 
 -- ---- a value is no longer than its component
 push-short : (x : ℕ) (o : Option (List ℕ)) (v : List ℕ) (n : ℕ) → push x o ≡ some v → ((w : List ℕ) → o ≡ some w → length w ≤ n) → length v ≤ suc n

@@ -4,8 +4,10 @@ use Rattle.std.proofs.Math.Option.{Option, none, some}
 use Rattle.rules.specs.declared.Delims.{Delims}
 use Rattle.unescape.specs.declared.At.{At}
 use Rattle.unescape.specs.declared.At.TheVariants.{Plain, Opened, Named, Broken}
-use Rattle.unescape.specs.declared.Unescaped.{Unescaped}
-use Rattle.unescape.specs.declared.Unescaped.TheVariants.{Got, Faulty, Over}
+use Rattle.std.specs.declared.result.Result.{Result}
+use Rattle.std.specs.declared.result.Result.TheVariants.{Ok, Err}
+use Rattle.unescape.specs.declared.NotHeld.{NotHeld}
+use Rattle.unescape.specs.declared.NotHeld.TheVariants.{Faulty, Over}
 
 unfoldable pub named_of : Delims → ℕ → At
 named_of d x =
@@ -38,8 +40,8 @@ kept_len t k = cond (emitted t) (k + 1) k
 abbrev pub kept_buf : At → ℕ → ℕ → List ℕ → List ℕ
 kept_buf t k v x = cond (emitted t) (set x k v) x
 
-abbrev pub answer_of : At → ℕ → ℕ → Unescaped
-answer_of t k room = cond (emitted t) (cond (leb k room) (Got k) (Over k)) Faulty
+abbrev pub answer_of : At → ℕ → ℕ → Result ℕ NotHeld
+answer_of t k room = cond (emitted t) (cond (leb k room) (Ok k) (Err (Over k))) (Err Faulty)
 
 -- w over old's front, as far as old reaches
 unfoldable pub fill : List ℕ → List ℕ → List ℕ
@@ -58,10 +60,10 @@ pub record Longer (n : ℕ) (o : Option (List ℕ)) (x : List ℕ) : Type 0 wher
   pub long : n ≡ length text
   pub over : length x < n
 
-abbrev pub Fits : Unescaped → Option (List ℕ) → List ℕ → Type 0
-Fits (Got n) o x = Whole n o x
-Fits Faulty o x = o ≡ none
-Fits (Over n) o x = Longer n o x
+abbrev pub Fits : Result ℕ NotHeld → Option (List ℕ) → List ℕ → Type 0
+Fits (Ok n) o x = Whole n o x
+Fits (Err Faulty) o x = o ≡ none
+Fits (Err (Over n)) o x = Longer n o x
 
 -- and what the buffer holds, x, where it held old before: the text over its front as far as it reaches, and the rest stays
 pub record BufferHolds (o : Option (List ℕ)) (old x : List ℕ) : Type 0 where

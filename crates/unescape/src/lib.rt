@@ -17,9 +17,9 @@ pub enum At {
     Broken,
 }
 
+// Why a buffer doesn't hold a component without its escapes: it has a bad one, or there are this many bytes.
 #[derive(Clone, Copy)]
-pub enum Unescaped {
-    Got(usize),
+pub enum NotHeld {
     Faulty,
     Over(usize),
 }
@@ -77,10 +77,8 @@ fn given(at: At, b: u8) -> u8
     ensures { result ≡ byte_at at b }
 {
     match at {
-        At::Plain => b,
-        At::Opened => b,
         At::Named(v) => v,
-        At::Broken => b,
+        _ => b,
     }
 }
 
@@ -93,48 +91,40 @@ fn keep(buf: &mut [u8], k: usize, v: u8, t: At) -> usize
         At::Plain => {
             if k < buf.len() {
                 buf[k] = v;
-                return k + 1;
             }
             k + 1
         }
-        At::Opened => k,
-        At::Named(_) => k,
-        At::Broken => k,
+        _ => k,
     }
 }
 
-fn answer(at: At, k: usize, room: usize) -> Unescaped
+fn answer(at: At, k: usize, room: usize) -> Result<usize, NotHeld>
     ensures { result ≡ answer_of at k room }
 {
     match at {
         At::Plain => {
             if k <= room {
-                return Unescaped::Got(k);
+                return Ok(k);
             }
-            Unescaped::Over(k)
+            Err(NotHeld::Over(k))
         }
-        At::Opened => Unescaped::Faulty,
-        At::Named(_) => Unescaped::Faulty,
-        At::Broken => Unescaped::Faulty,
+        _ => Err(NotHeld::Faulty),
     }
 }
 
-// A component without its escapes, as far as the buffer reaches.
-pub fn unescape_into(raw: &[u8], d: Delims, buf: &mut [u8]) -> Unescaped
+// A component without its escapes, as far as the buffer reaches; how many bytes there are, where it holds them.
+pub fn unescape_into(raw: &[u8], d: Delims, buf: &mut [u8]) -> Result<usize, NotHeld>
     ensures fits { Fits result (unescape d (met raw.now)) buf.new }
     ensures whole { BufferHolds (unescape d (met raw.now)) buf.old buf.new }
 {
     let mut at = At::Plain;
     let mut mode = Mode::One;
     let mut k: usize = 0;
-    let mut i = 0;
-    while i < raw.len() {
-        let b = raw[i];
-        let t = turn(at, mode, b, d);
-        k = keep(buf, k, given(at, b), t);
+    for b in raw {
+        let t = turn(at, mode, *b, d);
+        k = keep(buf, k, given(at, *b), t);
         at = t;
-        mode = scan::step(mode, b, 0x0D);
-        i += 1;
+        mode = scan::step(mode, *b, 0x0D);
     }
     answer(at, k, buf.len())
 }

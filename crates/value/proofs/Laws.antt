@@ -8,75 +8,70 @@ use borrow.Author.Tests.{le-leb, lt-leb}
 use lib.Dec.{eqb, ltb}
 use lib.ListN.{length}
 use Rattle.rules.specs.Lists.{bytes, empty, filled, all, any, same, split, is_one_of}
-use Rattle.rules.specs.Told.{◌then◌}
+use Rattle.std.specs.Result.{is_ok, result_and}
+use Rattle.std.specs.declared.result.Result.{Result}
+use Rattle.std.specs.declared.result.Result.TheVariants.{Ok, Err}
+use Rattle.rules.specs.declared.Kind.{Kind}
+use Rattle.rules.specs.declared.Kind.TheVariants.{TooLong, Header, Bytes, Segment, TooMany, Order, Missing, Null, Repeated, Escape, Long, Value, Status, Differs, NoOrdinal, Zero, SheetTooLong, SheetBytes, Key, LineValue, Overflow, Room}
+use Rattle.rules.specs.Told.{◌then◌, number}
 use Rattle.rules.specs.Frame.{capital_or_digit}
 use Rattle.rules.specs.Value as Val
 use Rattle.rules.specs.Places.{Four, value_rules}
 use Rattle.rules.specs.Judge.{agrees, beside, unjoined}
 use Rattle.rules.proofs.Logic.{cases, never, or_assoc, or-false}
 use Rattle.rules.proofs.Lists.{empty-zero, filled-some, any-cons}
-use Rattle.value.specs.Rules.{text_of, rule_of, rules_of, fault_no, fine_of}
+use Rattle.value.specs.Rules.{text_of, rule_of, rules_of, fault_no}
 use Rattle.value.specs.declared.Words.{Words}
 use Rattle.value.specs.declared.Words.TheVariants.{Blank, Comparators, Joiners}
 use Rattle.value.specs.declared.Rule.{Rule}
-use Rattle.value.specs.declared.Rule.TheVariants.{Number, Text, OneOf}
+use Rattle.value.specs.declared.Rule.TheVariants.{Time, Date, Number, Text, Digits, Capitals, OneOf}
 use Rattle.value.specs.declared.Parts.{Parts}
-use Rattle.value.specs.declared.Fault.{Fault}
-use Rattle.value.specs.declared.Fault.TheVariants.{Nothing, Missing, Null, Repeated, Escape, Long, Value, Status, Differs}
 
--- ---- no fault
-pub fine-zero : (f : Fault) → fine_of f ≡ true → fault_no f ≡ 0
-unfolding fine_of fault_no
-fine-zero Nothing h = refl
-fine-zero Missing h = never (sym h)
-fine-zero Null h = never (sym h)
-fine-zero Repeated h = never (sym h)
-fine-zero Escape h = never (sym h)
-fine-zero Long h = never (sym h)
-fine-zero Value h = never (sym h)
-fine-zero Status h = never (sym h)
-fine-zero Differs h = never (sym h)
+-- ---- what is broken
+-- no refusal has the number 0
+pub number-some : (k : Kind) → number k ≡ suc (number k - 1)
+number-some TooLong = refl
+number-some Header = refl
+number-some Bytes = refl
+number-some Segment = refl
+number-some TooMany = refl
+number-some Order = refl
+number-some Missing = refl
+number-some Null = refl
+number-some Repeated = refl
+number-some Escape = refl
+number-some Long = refl
+number-some Value = refl
+number-some Status = refl
+number-some Differs = refl
+number-some NoOrdinal = refl
+number-some Zero = refl
+number-some SheetTooLong = refl
+number-some SheetBytes = refl
+number-some Key = refl
+number-some LineValue = refl
+number-some Overflow = refl
+number-some Room = refl
 
-pub fault-some : (f : Fault) → fine_of f ≡ false → fault_no f ≡ suc (fault_no f - 1)
-unfolding fine_of fault_no
-fault-some Nothing h = never h
-fault-some Missing h = refl
-fault-some Null h = refl
-fault-some Repeated h = refl
-fault-some Escape h = refl
-fault-some Long h = refl
-fault-some Value h = refl
-fault-some Status h = refl
-fault-some Differs h = refl
+module _ {A : Type 0} where
+  pub fine-zero : (r : Result A Kind) → is_ok r ≡ true → fault_no r ≡ 0
+  unfolding fault_no
+  fine-zero (Ok a) h = refl
+  fine-zero (Err k) h = never (sym h)
 
--- the fault of a number: two faults with one number are the same
-abbrev fault_with : ℕ → Fault
-fault_with n = cond (eqb n 20) Missing (cond (eqb n 21) Null (cond (eqb n 22) Repeated (cond (eqb n 23) Escape (cond (eqb n 24) Long (cond (eqb n 25) Value (cond (eqb n 26) Status (cond (eqb n 27) Differs Nothing)))))))
-
-fault-back : (f : Fault) → fault_with (fault_no f) ≡ f
-unfolding fault_no
-fault-back Nothing = refl
-fault-back Missing = refl
-fault-back Null = refl
-fault-back Repeated = refl
-fault-back Escape = refl
-fault-back Long = refl
-fault-back Value = refl
-fault-back Status = refl
-fault-back Differs = refl
-
-pub fault-unique : (f g : Fault) → fault_no f ≡ fault_no g → f ≡ g
-fault-unique f g e = sym (fault-back f) ∙ ap fault_with e ∙ fault-back g
+  pub fault-some : (r : Result A Kind) → is_ok r ≡ false → fault_no r ≡ suc (fault_no r - 1)
+  unfolding fault_no
+  fault-some (Ok a) h = never h
+  fault-some (Err k) h = number-some k
 
 -- the earlier of two
-module _ (a b : Fault) (q : Bool) (e : q ≡ fine_of a) where
-  pub earlier-second : q ≡ true → fault_no b ≡ (fault_no a then fault_no b)
-  earlier-second h = rw (fine-zero a (sym e ∙ h))
+earlier : {A B : Type 0} (a : Result A Kind) (b : Result B Kind) → fault_no (result_and a b) ≡ (fault_no a then fault_no b)
+unfolding fault_no
+earlier (Ok a) b = refl
+earlier (Err k) b = rw (number-some k)
 
-  pub earlier-first : q ≡ false → fault_no a ≡ (fault_no a then fault_no b)
-  earlier-first h = rw (fault-some a (sym e ∙ h))
-
-pub ruleset earlier-laws = (earlier-second, earlier-first)
+pub and-then : {A B : Type 0} (a : Result A Kind) (b r : Result B Kind) → r ≡ result_and a b → fault_no r ≡ (fault_no a then fault_no b)
+and-then a b r e = ap fault_no e ∙ earlier a b
 
 -- ---- at most n capitals or digits
 pub capitals-more : (v : List ℕ) (n : ℕ) → n < length v → false ≡ Val.holds (Val.capitals n) v
@@ -87,7 +82,7 @@ pub capitals-all : (v : List ℕ) (n : ℕ) (r : Bool) → length v ≤ n → r 
 unfolding Val.holds
 capitals-all v n r h e = cc (le-leb (length v) n h)
 
-pub ruleset capitals-laws = (capitals-more, capitals-all)
+pub ruleset capitals_laws = (capitals-more, capitals-all)
 
 -- ---- one of some words
 or-chain : {A : Type 0} (p : A → Bool) (q : Bool) (ws : List A) → (q || any p ws) ≡ foldl (λ (r : Bool) (w : A). r || p w) q ws
@@ -124,47 +119,55 @@ module _ (words : String) (v : List ℕ) where
             pub six-words : (g : List ℕ) (u : Bool) → u ≡ same v g → split 0x20 (bytes words) ≡ a ∷ b ∷ c ∷ d ∷ f ∷ g ∷ [] → (((((p || q) || r) || s) || t) || u) ≡ is_one_of words v
             six-words g u eu e = rw (ep, eq, er, es, et, eu) (words_are a (b ∷ c ∷ d ∷ f ∷ g ∷ []) e)
 
+pub ruleset words_laws = (two-words, three-words)
+
 -- ---- words and rules by their names
-pub word-is : (w x : Words) (v : List ℕ) (r : Bool) → w ≡ x → r ≡ is_one_of (text_of x) v → r ≡ is_one_of (text_of w) v
-word-is w x v r e h = cc
+pub word_is : (w x : Words) (v : List ℕ) (r : Bool) → w ≡ x → r ≡ is_one_of (text_of x) v → r ≡ is_one_of (text_of w) v
+word_is w x v r e h = cc
 
-pub holds-is : (rule x : Rule) (v : List ℕ) (r : Bool) → rule ≡ x → r ≡ Val.holds (rule_of x) v → r ≡ Val.holds (rule_of rule) v
-holds-is rule x v r e h = cc
-
-pub long-never : (rule x : Rule) (n : ℕ) → rule ≡ x → ((v : List ℕ) → Val.too_long (rule_of x) v ≡ false)
-    → (v : List ℕ) → length v ≡ n → false ≡ Val.too_long (rule_of rule) v
-long-never rule x n e h v l = cc (h v)
+pub holds_is : (rule x : Rule) (v : List ℕ) (r : Bool) → rule ≡ x → r ≡ Val.holds (rule_of x) v → r ≡ Val.holds (rule_of rule) v
+holds_is rule x v r e h = cc
 
 pub long-above : (rule x : Rule) (most n : ℕ) → rule ≡ x → ((v : List ℕ) → Val.too_long (rule_of x) v ≡ ltb most (length v))
     → (v : List ℕ) → length v ≡ n → ltb most n ≡ Val.too_long (rule_of rule) v
 long-above rule x most n e h v l = cc (h v)
 
-pub ruleset too_long-laws = (long-never, long-above)
+pub long-other : (rule : Rule) (n : ℕ) → (rule ≡ Number → ⊥) → ((most : ℕ) → rule ≡ Text most → ⊥) → (v : List ℕ) → length v ≡ n → false ≡ Val.too_long (rule_of rule) v
+unfolding rule_of Val.too_long
+long-other Time n f g v l = refl
+long-other Date n f g v l = refl
+long-other Number n f g v l = absurd (f refl)
+long-other (Text most) n f g v l = absurd (g most refl)
+long-other (Digits m) n f g v l = refl
+long-other (Capitals m) n f g v l = refl
+long-other (OneOf w) n f g v l = refl
+
+pub ruleset too_long_laws = (long-above, long-other)
 
 -- ---- 20, 24, 25
 module _ (required : Bool) (rule : Rule) (v : List ℕ) where
-  pub fault-missing : length v ≡ 0 → required ≡ true → fault_no Missing ≡ Val.fault required (rule_of rule) v
+  pub fault-missing : length v ≡ 0 → required ≡ true → number Missing ≡ Val.fault required (rule_of rule) v
   unfolding fault_no Val.fault
   fault-missing h e = cc (empty-zero v h)
 
-  pub fault-blank : length v ≡ 0 → required ≡ false → fault_no Nothing ≡ Val.fault required (rule_of rule) v
+  pub fault-blank : length v ≡ 0 → required ≡ false → 0 ≡ Val.fault required (rule_of rule) v
   unfolding fault_no Val.fault
   fault-blank h e = cc (empty-zero v h)
 
   module _ (h : length v ≡ 0 → ⊥) (t : Bool) (e : (u : List ℕ) → length u ≡ length v → t ≡ Val.too_long (rule_of rule) u) where
-    pub fault-long : t ≡ true → fault_no Long ≡ Val.fault required (rule_of rule) v
+    pub fault-long : t ≡ true → number Long ≡ Val.fault required (rule_of rule) v
     unfolding fault_no Val.fault
     fault-long y = cc (filled-some v h, e v refl)
 
-    pub fault-none : (q : Bool) → t ≡ false → q ≡ Val.holds (rule_of rule) v → q ≡ true → fault_no Nothing ≡ Val.fault required (rule_of rule) v
+    pub fault-none : (q : Bool) → t ≡ false → q ≡ Val.holds (rule_of rule) v → q ≡ true → 0 ≡ Val.fault required (rule_of rule) v
     unfolding fault_no Val.fault
     fault-none q y g z = cc (filled-some v h, e v refl)
 
-    pub fault-value : (q : Bool) → t ≡ false → q ≡ Val.holds (rule_of rule) v → q ≡ false → fault_no Value ≡ Val.fault required (rule_of rule) v
+    pub fault-value : (q : Bool) → t ≡ false → q ≡ Val.holds (rule_of rule) v → q ≡ false → number Value ≡ Val.fault required (rule_of rule) v
     unfolding fault_no Val.fault
     fault-value q y g z = cc (filled-some v h, e v refl)
 
-pub ruleset fault_of-laws = (fault-missing, fault-blank, fault-long, fault-none, fault-value)
+pub ruleset fault_of_laws = (fault-missing, fault-blank, fault-long, fault-none, fault-value)
 
 -- ---- OBX-5: its rules, by OBX-2
 abbrev blank_but : Rule → Parts
@@ -184,16 +187,16 @@ module _ (kind : List ℕ) (t : Bool) (e : t ≡ same kind (83 ∷ 78 ∷ [])) w
     unfolding rules_of rule_of text_of value_rules bytes
     rules-st g = rw (← e, h, ← f, g)
 
-pub ruleset part_rules-laws = (rules-sn, rules-nm, rules-st)
+pub ruleset part_rules_laws = (rules-sn, rules-nm, rules-st)
 
 -- its parts, by which are filled
-pub beside-is : (x y z : Bool) (c : Four (List ℕ)) → x ≡ filled c.compare → y ≡ filled c.join → z ≡ filled c.second → (x || y || z) ≡ beside c
+pub beside_is : (x y z : Bool) (c : Four (List ℕ)) → x ≡ filled c.compare → y ≡ filled c.join → z ≡ filled c.second → (x || y || z) ≡ beside c
 unfolding beside
-beside-is x y z c ex ey ez = cc
+beside_is x y z c ex ey ez = cc
 
-pub unjoined-is : (y z : Bool) (c : Four (List ℕ)) → y ≡ filled c.join → z ≡ filled c.second → (z && not y) ≡ unjoined c
+pub unjoined_is : (y z : Bool) (c : Four (List ℕ)) → y ≡ filled c.join → z ≡ filled c.second → (z && not y) ≡ unjoined c
 unfolding unjoined
-unjoined-is y z c ey ez = rw (ey, ez) (cases (empty c.join) (λ q. cc) (λ q. cc))
+unjoined_is y z c ey ez = rw (ey, ez) (cases (empty c.join) (λ q. cc) (λ q. cc))
 
 -- ---- OBX-11 against OBX-5
 module _ (status : List ℕ) (number parts y : Bool) (e : y ≡ is_one_of "F P C" status) where
@@ -204,3 +207,5 @@ module _ (status : List ℕ) (number parts y : Bool) (e : y ≡ is_one_of "F P C
   pub agrees-empty : y ≡ false → (c : Four (List ℕ)) → number ≡ filled c.value → parts ≡ beside c → (not number && not parts) ≡ agrees status c
   unfolding agrees
   agrees-empty h c en ep = rw (sym e ∙ h) (cases (empty c.value) (λ q. cc) (λ q. cc))
+
+pub ruleset agrees_laws = (three-words, agrees-filled, agrees-empty)

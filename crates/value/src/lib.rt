@@ -2,28 +2,15 @@
 #![tactic(auto)]
 
 ghost use Rattle.std.specs.Prelude.{◌≡◌, List, ℕ, ◌+◌, ◌-◌, ◌<◌, length};
-ghost use Rattle.rules.specs.Told.{◌then◌};
 ghost use Rattle.rules.specs.Lists.{filled, is_one_of};
 ghost use Rattle.rules.specs.Value as Val;
 ghost use Rattle.rules.specs.Places.{Four, value_rules};
 ghost use Rattle.rules.specs.Judge as Judge;
-ghost use Rattle.value.specs.Rules.{fault_no, fine_of, text_of, rule_of, rules_of};
+ghost use Rattle.value.specs.Rules.{fault_no, text_of, rule_of, rules_of};
 
 pub mod table;
 
-// What a read place breaks: nothing, or one of the refusals 20 to 27.
-#[derive(Clone, Copy)]
-pub enum Fault {
-    Nothing,
-    Missing,
-    Null,
-    Repeated,
-    Escape,
-    Long,
-    Value,
-    Status,
-    Differs,
-}
+use rules::Kind;
 
 // The words that a place may hold.
 #[derive(Clone, Copy)]
@@ -75,34 +62,8 @@ pub struct Parts {
     pub second: Rule,
 }
 
-// Whether there is no fault.
-pub fn fine(f: Fault) -> bool
-    ensures { result ≡ fine_of f }
-{
-    match f {
-        Fault::Nothing => true,
-        Fault::Missing => false,
-        Fault::Null => false,
-        Fault::Repeated => false,
-        Fault::Escape => false,
-        Fault::Long => false,
-        Fault::Value => false,
-        Fault::Status => false,
-        Fault::Differs => false,
-    }
-}
-
-// The earlier of two faults.
-pub fn earlier(a: Fault, b: Fault) -> Fault
-    ensures { fault_no result ≡ (fault_no a then fault_no b) }
-{
-    if fine(a) {
-        return b;
-    }
-    a
-}
-
 // At most n capitals or digits.
+#[tactic(auto, using(crate::proofs::Laws::capitals_laws))]
 fn capitals(v: &[u8], n: usize) -> bool
     ensures { result ≡ Val.holds (Val.capitals n) v.now }
 {
@@ -113,8 +74,11 @@ fn capitals(v: &[u8], n: usize) -> bool
 }
 
 // ---- words
+// A function for each place that has several: comparisons with constants compile without a loop; a table of all words, searched by one function,
+// took the check 3 to 5 % longer.
 
 // MSH-11.
+#[tactic(auto, using(crate::proofs::Laws::words_laws), unfolding(crate::specs::Rules::text_of, rules::specs::Lists::bytes, rules::specs::Lists::split, rules::specs::Lists::onto))]
 fn is_mode(v: &[u8]) -> bool
     ensures { result ≡ is_one_of (text_of Words.Modes) v.now }
 {
@@ -132,6 +96,7 @@ fn is_sex(v: &[u8]) -> bool
 }
 
 // PV1-2.
+#[tactic(auto, using(crate::proofs::Laws::words_laws), unfolding(crate::specs::Rules::text_of, rules::specs::Lists::bytes, rules::specs::Lists::split, rules::specs::Lists::onto))]
 fn is_class(v: &[u8]) -> bool
     ensures { result ≡ is_one_of (text_of Words.Classes) v.now }
 {
@@ -139,6 +104,7 @@ fn is_class(v: &[u8]) -> bool
 }
 
 // OBX-2.
+#[tactic(auto, using(crate::proofs::Laws::words_laws), unfolding(crate::specs::Rules::text_of, rules::specs::Lists::bytes, rules::specs::Lists::split, rules::specs::Lists::onto))]
 fn is_type(v: &[u8]) -> bool
     ensures { result ≡ is_one_of (text_of Words.Types) v.now }
 {
@@ -192,6 +158,7 @@ fn is_joiner(v: &[u8]) -> bool
 }
 
 // Whether v is one of the words of a place.
+#[tactic(auto, using(crate::proofs::Laws::word_is))]
 fn is_word(words: Words, v: &[u8]) -> bool
     ensures { result ≡ is_one_of (text_of words) v.now }
 {
@@ -218,6 +185,7 @@ fn is_word(words: Words, v: &[u8]) -> bool
 // ---- a place's rule
 
 // Whether a filled value meets its rule.
+#[tactic(auto, using(crate::proofs::Laws::holds_is), unfolding(crate::specs::Rules::rule_of, rules::specs::Value::holds))]
 fn holds(rule: Rule, v: &[u8]) -> bool
     ensures { result ≡ Val.holds (rule_of rule) v.now }
 {
@@ -233,42 +201,41 @@ fn holds(rule: Rule, v: &[u8]) -> bool
 }
 
 // 24, "text or NM too long": whether a value of n bytes is.
+#[tactic(auto, using(crate::proofs::Laws::too_long_laws), unfolding(crate::specs::Rules::rule_of, rules::specs::Value::too_long))]
 pub fn too_long(rule: Rule, n: usize) -> bool
     ensures { (v : List ℕ) → length v ≡ n → result ≡ Val.too_long (rule_of rule) v }
 {
     match rule {
-        Rule::Time => false,
-        Rule::Date => false,
         Rule::Number => 16 < n,
         Rule::Text(most) => most < n,
-        Rule::Digits(_) => false,
-        Rule::Capitals(_) => false,
-        Rule::OneOf(_) => false,
+        _ => false,
     }
 }
 
-// 20, 24, 25 in this order: the fault of a value that must be filled or may be empty.
-pub fn fault_of(required: bool, rule: Rule, v: &[u8]) -> Fault
+// 20, 24, 25 in this order: what a value breaks that must be filled or may be empty.
+#[tactic(auto, using(crate::proofs::Laws::fault_of_laws), unfolding(crate::specs::Rules::fault_no))]
+pub fn fault_of(required: bool, rule: Rule, v: &[u8]) -> Result<(), Kind>
     ensures { fault_no result ≡ Val.fault required (rule_of rule) v.now }
 {
-    if v.len() == 0 {
+    if v.is_empty() {
         if required {
-            return Fault::Missing;
+            return Err(Kind::Missing);
         }
-        return Fault::Nothing;
+        return Ok(());
     }
     if too_long(rule, v.len()) {
-        return Fault::Long;
+        return Err(Kind::Long);
     }
-    if holds(rule, v) {
-        return Fault::Nothing;
+    if !holds(rule, v) {
+        return Err(Kind::Value);
     }
-    Fault::Value
+    Ok(())
 }
 
 // ---- OBX-5: comparator, number or text, joiner, second number
 
 // The rules of its parts, by the word of OBX-2.
+#[tactic(auto, using(crate::proofs::Laws::part_rules_laws))]
 pub fn part_rules(obx2: &[u8]) -> Parts
     ensures { rules_of result ≡ value_rules obx2.now }
 {
@@ -282,6 +249,7 @@ pub fn part_rules(obx2: &[u8]) -> Parts
 }
 
 // Whether a part beside the value is filled, given which are.
+#[tactic(auto, using(crate::proofs::Laws::beside_is))]
 pub fn beside(compare: bool, join: bool, second: bool) -> bool
     ensures { (c : Four (List ℕ)) → compare ≡ filled c.compare → join ≡ filled c.join → second ≡ filled c.second → result ≡ Judge.beside c }
 {
@@ -289,6 +257,7 @@ pub fn beside(compare: bool, join: bool, second: bool) -> bool
 }
 
 // "a second number needs a joiner": whether it has none, given which are filled.
+#[tactic(auto, using(crate::proofs::Laws::unjoined_is))]
 pub fn unjoined(join: bool, second: bool) -> bool
     ensures { (c : Four (List ℕ)) → join ≡ filled c.join → second ≡ filled c.second → result ≡ Judge.unjoined c }
 {
@@ -296,6 +265,7 @@ pub fn unjoined(join: bool, second: bool) -> bool
 }
 
 // 26: whether the status of OBX-11 agrees with what OBX-5 fills: a value, a part beside it.
+#[tactic(auto, using(crate::proofs::Laws::agrees_laws), unfolding(rules::specs::Lists::bytes, rules::specs::Lists::split, rules::specs::Lists::onto))]
 pub fn agrees(status: &[u8], number: bool, parts: bool) -> bool
     ensures { (c : Four (List ℕ)) → number ≡ filled c.value → parts ≡ Judge.beside c → result ≡ Judge.agrees status.now c }
 {

@@ -1,8 +1,8 @@
-use native.Mathlib.Omega.{arith}
 use borrow.Author.Rules.{rules}
 use Prim.Native.Nat.{◌-◌}
+use mathlib.Core.Path.{refl}
 use Rattle.rules.proofs.Lists.{part_length}
-use Rattle.checks.proofs.Laws.{ends, order-ends, faulty, further, orders, passes, refuses, skipped, starts}
+use Rattle.checks.proofs.Laws.{ends, further, passes, refuses, skipped, starts}
 use Rattle.checks.proofs.check_places.Goals as goal
 
 pub loop-at-init : goal.loop-at-init
@@ -23,26 +23,18 @@ loop-at-smaller-then-is c = search (further, rules)
 pub loop-at-preserved-then-is : goal.loop-at-preserved-then-is
 loop-at-preserved-then-is c = search (skipped, rules)
 
-pub kind_of-kind-requires : goal.kind_of-kind-requires
-kind_of-kind-requires c = search (faulty, rules)
-
-pub returns-then-not-fine : goal.returns-then-not-fine
-returns-then-not-fine c = search (refuses, rules)
-
-pub overflow_add-to : goal.overflow_add-to
-overflow_add-to c = omega (arith, order-ends)
-
-pub loop-at-smaller-then-is-2 : goal.loop-at-smaller-then-is-2
-loop-at-smaller-then-is-2 c = search (further, rules)
-
-pub loop-at-preserved-then-is-2 : goal.loop-at-preserved-then-is-2
-loop-at-preserved-then-is-2 c = search (orders, rules)
+pub returns-in-Err : goal.returns-in-Err
+returns-in-Err c =
+    refuses _ _ _ _ _ _ c.loop-at.invariant (search rules) c.before-n.ensures.value c.before-n.ensures.within _ c.name_of-name.ensures _ c.is.ensures (search rules) _ c.requires
+    c.in-Err.ensures.found_in
 
 pub loop-at-smaller : goal.loop-at-smaller
 loop-at-smaller c = search (further, rules)
 
 pub loop-at-preserved : goal.loop-at-preserved
-loop-at-preserved c = search (passes, rules)
+loop-at-preserved c =
+    passes _ _ _ _ _ _ c.loop-at.invariant (search rules) c.before-n.ensures.value c.before-n.ensures.within _ c.name_of-name.ensures _ c.is.ensures (search rules) _ _
+    c.in-Ok.ensures.found_in c.in-Ok.ensures.order
 
 pub returns : goal.returns
 returns c = search (ends, rules)

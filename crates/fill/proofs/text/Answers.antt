@@ -1,7 +1,7 @@
 use borrow.Author.Rules.{rules}
 use Rattle.rules.proofs.Lists.{part_length}
 use Rattle.unescape.proofs.Laws.{got-low}
-use Rattle.fill.proofs.Laws.{value-clean, value-got, got-short, value-faulty, value-over}
+use Rattle.fill.proofs.Laws.{value-clean, value-got, got-short, value-none}
 use Rattle.fill.proofs.text.Goals as goal
 
 pub returns-then-c-raw : goal.returns-then-c-raw
@@ -13,11 +13,8 @@ slice_bounds-buf-end c = search (got-low, rules)
 pub slice_bounds-put-end : goal.slice_bounds-put-end
 slice_bounds-put-end c = search (got-low, part_length, rules)
 
-pub returns-in-Got : goal.returns-in-Got
-returns-in-Got c = record { filled = search (value-got, rules); within = search (got-short, rules) }
+pub returns-in-Ok : goal.returns-in-Ok
+returns-in-Ok c = record { filled = search (value-got, rules); within = search (got-short, rules) }
 
-pub returns-in-Faulty : goal.returns-in-Faulty
-returns-in-Faulty c = record { filled = search (value-faulty, rules); within = search rules }
-
-pub returns-in-Over : goal.returns-in-Over
-returns-in-Over c = record { filled = search (value-over, rules); within = search rules }
+pub returns-in-Err : goal.returns-in-Err
+returns-in-Err c = record { filled = search (value-none, rules); within = search rules }

@@ -1,12 +1,8 @@
-use borrow.Author.Rules.{rules}
-use Rattle.fields.specs.Fields.{SmallForm}
-use Rattle.fields.proofs.Chain.{ends-none}
-use Rattle.leading.proofs.Laws.{pv1-found}
+use Rattle.leading.proofs.Laws.{pv1-2, pv1-end}
 use Rattle.leading.proofs.pv1.Goals as goal
 
-pub field-w-requires : goal.field-w-requires
-unfolding SmallForm
-field-w-requires c = search rules
+pub returns-in_err-field : goal.returns-in_err-field
+returns-in_err-field c = pv1-2 c.begin-w.ensures c.in_err-field.ensures c.from_residual.ensures.1
 
 pub returns : goal.returns
-returns c = record { found_in = search (pv1-found, rules); none = search (ends-none, rules) }
+returns c = pv1-end c.begin-w.ensures c.in_ok-field.ensures

@@ -1,36 +1,23 @@
 use borrow.Author.Rules.{rules}
-use Rattle.fields.specs.Fields.{SmallForm}
-use Rattle.fields.proofs.Chain.{ends-none}
-use Rattle.obx.proofs.Laws.{obx-found}
+use Rattle.fields.proofs.Chain.{handed-found}
+use Rattle.obx.proofs.Laws.{obx-6, obx-8, obx-11, obx-status, obx-end}
 use Rattle.obx.proofs.obx.Goals as goal
 
-pub up_to_value-v-requires : goal.up_to_value-v-requires
-unfolding SmallForm
-up_to_value-v-requires c = search rules
+pub returns-in_err-v : goal.returns-in_err-v
+returns-in_err-v c = handed-found c.in_err-v.ensures c.from_residual.ensures.1
 
-pub field-w-requires : goal.field-w-requires
-unfolding SmallForm
-field-w-requires c = search rules
+pub returns-in_err-w : goal.returns-in_err-w
+returns-in_err-w c = obx-6 c.in_ok-v.ensures c.in_err-w.ensures c.from_residual-in_err-w.ensures.1
 
-pub field-w-requires-2 : goal.field-w-requires-2
-unfolding SmallForm
-field-w-requires-2 c = search rules
+pub returns-in_err-w-2 : goal.returns-in_err-w-2
+returns-in_err-w-2 c = obx-8 c.in_ok-v.ensures c.in_ok-w.ensures c.in_err-w-2.ensures c.from_residual-in_err-w-2.ensures.1
 
-pub field-w-requires-3 : goal.field-w-requires-3
-unfolding SmallForm
-field-w-requires-3 c = search rules
+pub returns-in_err-w-3 : goal.returns-in_err-w-3
+returns-in_err-w-3 c = obx-11 c.in_ok-v.ensures c.in_ok-w.ensures c.in_ok-w-2.ensures c.in_err-w-3.ensures c.from_residual-in_err-w-3.ensures.1
 
-pub head_of-requires : goal.head_of-requires
-unfolding SmallForm
-head_of-requires c = search rules
-
-pub agrees-agrees-requires : goal.agrees-agrees-requires
-unfolding SmallForm
-agrees-agrees-requires c = search rules
-
-pub ended_unless-requires : goal.ended_unless-requires
-unfolding SmallForm
-ended_unless-requires c = search rules
+pub returns-then-not-agrees : goal.returns-then-not-agrees
+returns-then-not-agrees c =
+    obx-status c.in_ok-v.ensures c.in_ok-w.ensures c.in_ok-w-2.ensures c.in_ok-w-3.ensures c.requires _ _ c.head_of.ensures c.agrees.ensures (search rules)
 
 pub returns : goal.returns
-returns c = record { found_in = search (obx-found, rules); none = search (ends-none, rules) }
+returns c = obx-end c.in_ok-v.ensures c.in_ok-w.ensures c.in_ok-w-2.ensures c.in_ok-w-3.ensures c.requires _ _ c.head_of.ensures c.agrees.ensures (search rules)

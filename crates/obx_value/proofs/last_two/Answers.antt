@@ -1,6 +1,7 @@
 use borrow.Author.Rules.{rules}
 use Rattle.components.specs.Components.{Smalls}
 use Rattle.components.proofs.Laws.{led-within, next-within}
+use Rattle.value.proofs.Laws.{and-then}
 use Rattle.obx_value.proofs.Laws.{last-is}
 use Rattle.obx_value.proofs.last_two.Goals as goal
 
@@ -16,4 +17,4 @@ pub overflow_sub-result : goal.overflow_sub-result
 overflow_sub-result c = search (next-within, rules)
 
 pub returns : goal.returns
-returns c = record { last_of = search (last-is, rules); within = search (led-within, rules) }
+returns c = record { last_of = search (last-is, and-then, rules); within = search (led-within, rules) }

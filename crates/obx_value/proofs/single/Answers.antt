@@ -1,5 +1,6 @@
 use borrow.Author.Rules.{rules}
 use Rattle.components.specs.Components.{Smalls}
+use Rattle.value.proofs.Laws.{and-then}
 use Rattle.obx_value.proofs.Laws.{single-is}
 use Rattle.obx_value.proofs.single.Goals as goal
 
@@ -8,4 +9,4 @@ unfolding Smalls
 one-c-requires c = search rules
 
 pub returns : goal.returns
-returns c = record { by_index = search (single-is, rules); within = search rules }
+returns c = record { by_index = search (single-is, and-then, rules); within = search rules }

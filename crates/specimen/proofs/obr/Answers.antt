@@ -1,15 +1,15 @@
-use borrow.Author.Rules.{rules}
-use Rattle.fields.specs.Fields.{SmallForm}
-use Rattle.specimen.proofs.Laws.{obr-found, obr-order}
+use mathlib.Core.Path.{◌∙◌}
+use Rattle.specimen.proofs.Laws.{obr-2, obr-4, obr-end, obr-order}
 use Rattle.specimen.proofs.obr.Goals as goal
 
-pub field-order-requires : goal.field-order-requires
-unfolding SmallForm
-field-order-requires c = search rules
+pub returns-in_err-order-clause-found_in : goal.returns-in_err-order-clause-found_in
+returns-in_err-order-clause-found_in c = obr-2 c.begin-w.ensures c.in_err-order.ensures c.from_residual.ensures.1
 
-pub field-w-requires : goal.field-w-requires
-unfolding SmallForm
-field-w-requires c = search rules
+pub returns-in_err-field-clause-found_in : goal.returns-in_err-field-clause-found_in
+returns-in_err-field-clause-found_in c = obr-4 c.begin-w.ensures c.in_ok-order.ensures c.in_err-field.ensures c.from_residual-in_err-field.ensures.1
 
-pub returns : goal.returns
-returns c = record { found_in = search (obr-found, rules); order = search (obr-order, rules) }
+pub returns-clause-found_in : goal.returns-clause-found_in
+returns-clause-found_in c = obr-end c.begin-w.ensures c.in_ok-order.ensures c.in_ok-field.ensures _
+
+pub returns-clause-order : goal.returns-clause-order
+returns-clause-order c = c.head_of.ensures ∙ obr-order c.begin-w.ensures c.in_ok-order.ensures c.requires

@@ -1,16 +1,11 @@
-use borrow.Author.Rules.{rules}
-use Rattle.fields.specs.Fields.{SmallForm}
-use Rattle.fields.proofs.Chain.{ends-none}
-use Rattle.specimen.proofs.Laws.{spm-found}
+use Rattle.specimen.proofs.Laws.{spm-4, spm-17, spm-end}
 use Rattle.specimen.proofs.spm.Goals as goal
 
-pub field-w-requires : goal.field-w-requires
-unfolding SmallForm
-field-w-requires c = search rules
+pub returns-in_err-w : goal.returns-in_err-w
+returns-in_err-w c = spm-4 c.begin-w.ensures c.in_err-w.ensures c.from_residual.ensures.1
 
-pub field-w-requires-2 : goal.field-w-requires-2
-unfolding SmallForm
-field-w-requires-2 c = search rules
+pub returns-in_err-field : goal.returns-in_err-field
+returns-in_err-field c = spm-17 c.begin-w.ensures c.in_ok-w.ensures c.in_err-field.ensures c.from_residual-in_err-field.ensures.1
 
 pub returns : goal.returns
-returns c = record { found_in = search (spm-found, rules); none = search (ends-none, rules) }
+returns c = spm-end c.begin-w.ensures c.in_ok-w.ensures c.in_ok-field.ensures

@@ -1,5 +1,4 @@
 use borrow.Author.Rules.{rules}
-use Prim.Native.Nat.{◌-◌}
 use Rattle.rules.proofs.Lists.{part_length, rest-inside, rest-further}
 use Rattle.frame.proofs.Laws.{pass-bad, pass-end, pass_on, pass-open, pass-starts, within_all, within-bad, within_on, within-starts}
 use Rattle.frame.proofs.all_segments.pass.Goals as goal
