@@ -13,7 +13,6 @@ ghost use Rattle.csv_calls.specs.Calls.{Convertible, copied_told, made_told};
 
 use csv_rules::{CsvSheets, FileFault, Next, NotMade};
 use rules::{Kind, Refusal};
-use sheets::SheetVerdict;
 
 // ---- the whole file
 // How many sheets a file holds, and where its first row stands; or 50 to 54.
@@ -37,11 +36,7 @@ pub fn csv_spot(file: &[u8]) -> usize
 fn refused(kind: Kind) -> Result<usize, NotMade>
     ensures { result ≡ Err (Unfit (record { kind = kind; segment = 0; field = 0 })) }
 {
-    Err(NotMade::Unfit(Refusal {
-        kind,
-        segment: 0,
-        field: 0,
-    }))
+    Err(NotMade::Unfit(Refusal::from(kind)))
 }
 
 // One byte past the limit of a sheet, so that a longer one gives 40.
@@ -65,10 +60,8 @@ fn copied(sheet: &[u8], out: &mut [u8]) -> Result<usize, NotMade>
 fn handed(sheet: &[u8], out: &mut [u8]) -> Result<usize, NotMade>
     ensures { SheetCall (made_told sheet.now (length out.old)) out.old result out.new }
 {
-    match sheets::judge(sheet) {
-        SheetVerdict::Wrong(refusal) => Err(NotMade::Unfit(refusal)),
-        SheetVerdict::Right => copied(sheet, out),
-    }
+    sheets::judge(sheet)?;
+    copied(sheet, out)
 }
 
 // A sheet that the small buffer can't hold, made once more in one that can: its rows convert.
