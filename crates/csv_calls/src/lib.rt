@@ -36,7 +36,11 @@ pub fn csv_spot(file: &[u8]) -> usize
 fn refused(kind: Kind) -> Result<usize, NotMade>
     ensures { result ≡ Err (Unfit (record { kind = kind; segment = 0; field = 0 })) }
 {
-    Err(NotMade::Unfit(Refusal::from(kind)))
+    Err(NotMade::Unfit(Refusal {
+        kind,
+        segment: 0,
+        field: 0,
+    }))
 }
 
 // One byte past the limit of a sheet, so that a longer one gives 40.
