@@ -6,9 +6,8 @@ use Prim.Native.Nat.{ℕ, suc, ◌≤◌}
 use native.Mathlib.Omega.{arith}
 use borrow.Author.Tests.{ne_eqb, le-ltb}
 use lib.ListN.{length, get_elem?}
+use Rattle.std.specs.declared.result.Result.TheVariants.{Ok}
 use Rattle.rules.specs.declared.Counts.{Counts}
-use Rattle.rules.specs.declared.Answer.TheVariants as Answer
-use Rattle.rules.specs.declared.Written.TheVariants as Written
 use Rattle.rules.specs.Told.{gives, told}
 use Rattle.rules.specs.Shift.{met}
 use Rattle.rules.specs.Frame.{delims_of, Known, known}
@@ -18,7 +17,7 @@ use Rattle.rules.specs.Fetch.{span_of, ordinal, fetch_told}
 use Rattle.rules.specs.Row.{rows_of}
 use Rattle.rules.specs.Sheet.{sheet_of, sheet_told, to_sheet}
 use Rattle.rules.proofs.Header.{header}
-use Rattle.rules.proofs.Unique.{told-unique, length-unique}
+use Rattle.rules.proofs.Unique.{told-unique}
 use Rattle.rules.proofs.Where.{framed, stands-known}
 use Rattle.kept.specs.Given.{counts_given, Accepted, PartsGiven, SheetGiven, CheckCalls, FetchCalls, TurnCalls}
 use Rattle.kept.proofs.Accepted.{told-kept, frame-told, kept-told}
@@ -45,7 +44,7 @@ sheet-given m room K l = rw (kept-told m K, le-ltb room (length (sheet_of (rows_
 pub check-calls : CheckCalls
 check-calls m r p = (
   (λ c e. (accepted m).0 c (sym p ∙ ap told e)),
-  (λ K. told-unique r (Answer.Accepted (counts_given m)) (p ∙ kept-told m K)),
+  (λ K. told-unique r (Ok (counts_given m)) (p ∙ kept-told m K)),
 )
 
 pub fetch-calls : FetchCalls
@@ -56,4 +55,4 @@ fetch-calls m m-lies i f c k x x-lies P K e p q =
 pub turn-calls : TurnCalls
 turn-calls m before after r C K l =
     let g = sheet-given m (length before) K l in
-    (length-unique r (Written.Wrote (length (sheet_of (rows_of (view m))))) (rw g at C.told), rw g at C.buffer)
+    (told-unique r (Ok (length (sheet_of (rows_of (view m))))) (rw g at C.told), rw g at C.buffer)

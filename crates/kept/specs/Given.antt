@@ -1,15 +1,12 @@
 -- DEMAND 2, THE FIRST SENTENCE: "A message is accepted exactly if it keeps the rules of document 01; counts, parts and sheet are those that
 -- the rules give." What is claimed; proofs/Given.antt proves each claim, and nothing is assumed but what stands here.
-use Rattle.std.specs.Prelude.{◌≡◌, cond, ◌&&◌, List, [], ◌∷◌, ◌++◌, ℕ, suc, ◌+◌, ◌≤◌, eqb, length, drop}
+use Rattle.std.specs.Prelude.{◌≡◌, cond, ◌&&◌, List, [], ◌∷◌, ◌++◌, ℕ, suc, ◌+◌, ◌≤◌, eqb, length, drop, Result, Ok}
 use Rattle.std.proofs.Math.Option.{some}
 use Rattle.std.proofs.Math.ListN.{get_elem?}
+use Rattle.rules.specs.declared.Refusal.{Refusal}
 use Rattle.rules.specs.declared.Delims.{Delims}
 use Rattle.rules.specs.declared.Counts.{Counts}
 use Rattle.rules.specs.declared.Span.{Span}
-use Rattle.rules.specs.declared.Answer.{Answer}
-use Rattle.rules.specs.declared.Answer.TheVariants as Answer
-use Rattle.rules.specs.declared.Written.{Written}
-use Rattle.rules.specs.declared.Written.TheVariants as Written
 use Rattle.rules.specs.declared.Name.{Name}
 use Rattle.rules.specs.declared.Name.TheVariants.{Msh, Spm, Obr, Obx}
 use Rattle.rules.specs.Told.{gives}
@@ -62,8 +59,8 @@ SheetGiven = (m : List ℕ) (room : ℕ) → Kept m → let s = sheet_of (rows_o
 
 -- ---- the same of the calls `check`, `fetch` and `to_sheet`, by their promises alone
 abbrev pub CheckCalls : Type 0
-CheckCalls = (m : List ℕ) (r : Answer) → Checked m r
-    → ((c : Counts) → r ≡ Answer.Accepted c → Kept m × (c ≡ counts_given m)) × (Kept m → r ≡ Answer.Accepted (counts_given m))
+CheckCalls = (m : List ℕ) (r : Result Counts Refusal) → Checked m r
+    → ((c : Counts) → r ≡ Ok c → Kept m × (c ≡ counts_given m)) × (Kept m → r ≡ Ok (counts_given m))
 
 -- where m lies at `m-lies`, and what is given back, x, at `x-lies`
 abbrev pub FetchCalls : Type 0
@@ -71,5 +68,5 @@ FetchCalls = (m : List ℕ) (m-lies : ℕ × ℕ) (i f c : ℕ) (k : Known) (x :
     → Kept m → get_elem? (known m) i ≡ some k → 1 ≤ f → 1 ≤ c → met x ≡ part_shown (delims_of m) k f c
 
 abbrev pub TurnCalls : Type 0
-TurnCalls = (m before after : List ℕ) (r : Written) → SheetWritten m before r after
-    → Kept m → let s = sheet_of (rows_of (view m)) in length s ≤ length before → (r ≡ Written.Wrote (length s)) × (after ≡ s ++ drop (length s) before)
+TurnCalls = (m before after : List ℕ) (r : Result ℕ Refusal) → SheetWritten m before r after
+    → Kept m → let s = sheet_of (rows_of (view m)) in length s ≤ length before → (r ≡ Ok (length s)) × (after ≡ s ++ drop (length s) before)

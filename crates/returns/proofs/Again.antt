@@ -25,7 +25,7 @@ use Rattle.rules.proofs.Split.{ended-append}
 use Rattle.rules.proofs.Modes.{length-marks}
 use Rattle.rules.proofs.Names.{in_names, name-is, spelling-of, name-split}
 use Rattle.rules.proofs.Reading.{row-of}
-use Rattle.rules.proofs.Header.{proper, header}
+use Rattle.rules.proofs.Header.{header}
 use Rattle.rules.proofs.Clean.{Clean, Cleans, end-0D, ended-cleans}
 use Rattle.rules.proofs.Ordered.{orc-after}
 use Rattle.rules.proofs.Where.{view-passes, passes, framed, ended-segments, segments-free}

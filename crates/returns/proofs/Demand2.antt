@@ -8,10 +8,10 @@ use native.Mathlib.Omega.{arith}
 use borrow.Author.Tests.{le-ltb}
 use lib.Dec.{ltb}
 use lib.ListN.{length, take, drop}
+use Rattle.std.specs.declared.result.Result.TheVariants.{Ok}
 use Rattle.rules.specs.declared.Delims.{Delims}
 use Rattle.rules.specs.declared.Name.{Name}
 use Rattle.rules.specs.declared.Name.TheVariants.{Spm, Obr, Obx}
-use Rattle.rules.specs.declared.Written.TheVariants.{Wrote}
 use Rattle.rules.specs.Told.{Told, gives, refused, accepted, length_of, Call}
 use Rattle.rules.specs.Lists.{bytes, starts, all, any, has, distinct, count}
 use Rattle.rules.specs.Frame.{delims_ok, is}
@@ -22,7 +22,7 @@ use Rattle.rules.specs.Sheet.{key_of, lines_text, row_lines, sheet_of, read_shee
 use Rattle.rules.specs.Message.{base, written, message_of, message_told, to_message}
 use Rattle.rules.proofs.Logic.{cases, told_cases, guard, not-given}
 use Rattle.rules.proofs.Lists.{take_own}
-use Rattle.rules.proofs.Unique.{length-unique}
+use Rattle.rules.proofs.Unique.{told-unique}
 use Rattle.returns.specs.Demand2.{to_message_by, lines_with, line_counts, Only44Or45, given, overflow, short, SheetIsWritten, SheetReturns, MessageReturns, SheetCalls, MessageCalls}
 use Rattle.returns.proofs.Messages.{counted, rows-return}
 use Rattle.returns.proofs.Sheets.{SheetIs, sheet-is, sheet-read}
@@ -124,7 +124,7 @@ unfolding to_message to_message_by
 by-base s room = refl
 
 -- what a call that wrote has written
-called : (t : Told (List ℕ)) (n : ℕ) (b a : List ℕ) {P : Type 0} → Call t b (Wrote n) a → ((w : List ℕ) → t ≡ gives w → take n a ≡ w → P) → P
+called : (t : Told (List ℕ)) (n : ℕ) (b a : List ℕ) {P : Type 0} → Call t b (Ok n) a → ((w : List ℕ) → t ≡ gives w → take n a ≡ w → P) → P
 called t n b a C f =
     told_cases t
     (λ w e.
@@ -140,7 +140,7 @@ sheet-calls s out out' back back' n r C D fits =
     (λ m e t.
     let R = sheet-returns base base_ok s m (length out) (by-base s (length out) ∙ e) in
     let g : to_sheet (take n out') (length back) ≡ gives s = rw t (R.sheet (length back) fits) in
-    (rw t R.counts, length-unique r (Wrote (length s)) (rw g at D.told), rw g at D.buffer))
+    (rw t R.counts, told-unique r (Ok (length s)) (rw g at D.told), rw g at D.buffer))
 
 -- the length of what only 44 or 45 refuses
 only-length : (t : Told (List ℕ)) → Only44Or45 t → Only44Or45 (length_of t)

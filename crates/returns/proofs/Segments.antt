@@ -13,7 +13,6 @@ use Rattle.rules.specs.declared.Name.TheVariants.{Msh, Pv1, Spm, Obr, Orc, Other
 use Rattle.rules.specs.Told.{gives}
 use Rattle.rules.specs.Lists.{bytes, empty, same, has, any, all, split, onto, nth, is_one_of, decimal_to, decimal}
 use Rattle.rules.specs.Shift.{step, is_one, mark, marks, met}
-use Rattle.rules.specs.Escape.{escape}
 use Rattle.rules.specs.Value.{fault, too_long, holds}
 use Rattle.rules.specs.Frame.{spelling, Known, is}
 use Rattle.rules.specs.Proper.{Proper}

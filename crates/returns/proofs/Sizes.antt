@@ -2,7 +2,7 @@
 use mathlib.Core.Path.{◌≡◌, refl}
 use mathlib.Core.Bool.{Bool, true, false, cond, not, ◌&&◌, ◌||◌}
 use mathlib.Core.List.{List, [], ◌∷◌, ◌++◌}
-use Prim.Native.Nat.{ℕ, suc, ◌+◌, ◌*◌, ◌/◌, ◌≤◌, ◌<◌}
+use Prim.Native.Nat.{ℕ, suc, ◌+◌, ◌*◌, ◌≤◌, ◌<◌}
 use native.Mathlib.Omega.{arith}
 use borrow.Author.Tests.{ltb-false, leb-true, eqb-true}
 use lib.Dec.{eqb, leb}
@@ -10,7 +10,7 @@ use lib.ListN.{length, length-append}
 use Rattle.rules.specs.declared.Delims.{Delims}
 use Rattle.rules.specs.declared.Name.{Name}
 use Rattle.rules.specs.declared.Name.TheVariants.{Msh, Spm, Obr, Obx}
-use Rattle.rules.specs.Lists.{bytes, empty, filled, same, all, split, onto, join, is_one_of, decimal}
+use Rattle.rules.specs.Lists.{bytes, empty, filled, same, all, split, onto, is_one_of, decimal}
 use Rattle.rules.specs.Shift.{marks, met}
 use Rattle.rules.specs.Frame.{capital_or_digit, spelling, is, counting, Reached}
 use Rattle.rules.specs.Proper.{Proper}

@@ -1,12 +1,11 @@
 -- DEMAND 2, THE RETURN: "A sheet that is written and read returns byte for byte." What is claimed of the rules; proofs/Demand2.antt proves
 -- each claim, and nothing is assumed but what stands here.
-use Rattle.std.specs.Prelude.{◌≡◌, true, List, ◌++◌, ℕ, ◌≤◌, ◌<◌, ltb, length, take, drop}
+use Rattle.std.specs.Prelude.{◌≡◌, true, List, ◌++◌, ℕ, ◌≤◌, ◌<◌, ltb, length, take, drop, Result, Ok}
 use Prim.Native.String.{String}
+use Rattle.rules.specs.declared.Refusal.{Refusal}
 use Rattle.rules.specs.declared.Delims.{Delims}
 use Rattle.rules.specs.declared.Counts.{Counts}
-use Rattle.rules.specs.declared.Written.{Written}
-use Rattle.rules.specs.declared.Written.TheVariants.{Wrote}
-use Rattle.rules.specs.Told.{Told, gives, refused, accepted, refuse◌if◌else◌, ◌>>=◌, told_length}
+use Rattle.rules.specs.Told.{Told, gives, refused, accepted, refuse◌if◌else◌, ◌>>=◌, told}
 use Rattle.rules.specs.Lists.{bytes, starts, all, count}
 use Rattle.rules.specs.Frame.{delims_ok, segments}
 use Rattle.rules.specs.Check.{check_told}
@@ -66,13 +65,13 @@ MessageReturns = (m : List ℕ) (c : Counts) → check_told m ≡ gives c → Tu
 -- ---- the same of the calls `to_message` and `to_sheet`, by their promises alone
 -- a sheet, written into `out` and read into `back`, is there byte for byte
 abbrev pub SheetCalls : Type 0
-SheetCalls = (s out out' back back' : List ℕ) (n : ℕ) (r : Written)
-    → MessageWritten s out (Wrote n) out' → SheetWritten (take n out') back r back' → length s ≤ length back
-    → (check_told (take n out') ≡ line_counts s) × (r ≡ Wrote (length s)) × (back' ≡ s ++ drop (length s) back)
+SheetCalls = (s out out' back back' : List ℕ) (n : ℕ) (r : Result ℕ Refusal)
+    → MessageWritten s out (Ok n) out' → SheetWritten (take n out') back r back' → length s ≤ length back
+    → (check_told (take n out') ≡ line_counts s) × (r ≡ Ok (length s)) × (back' ≡ s ++ drop (length s) back)
 
 -- the sheet of a message is written again, unless 44 or 45 is given; and that message gives the same sheet and has the same counts
 abbrev pub MessageCalls : Type 0
-MessageCalls = (m out out' back back' : List ℕ) (n : ℕ) (r : Written)
-    → SheetWritten m out (Wrote n) out' → MessageWritten (take n out') back r back'
-    → Only44Or45 (told_length r)
-    × ((k : ℕ) → r ≡ Wrote k → (check_told (take k back') ≡ check_told m) × ((room : ℕ) → to_sheet (take k back') room ≡ to_sheet m room))
+MessageCalls = (m out out' back back' : List ℕ) (n : ℕ) (r : Result ℕ Refusal)
+    → SheetWritten m out (Ok n) out' → MessageWritten (take n out') back r back'
+    → Only44Or45 (told r)
+    × ((k : ℕ) → r ≡ Ok k → (check_told (take k back') ≡ check_told m) × ((room : ℕ) → to_sheet (take k back') room ≡ to_sheet m room))

@@ -5,20 +5,21 @@ use mathlib.Core.List.{List}
 use Prim.Native.Nat.{ℕ, ◌+◌, ◌≤◌}
 use borrow.Author.Tests.{le-leb}
 use lib.ListN.{length}
+use Rattle.std.specs.declared.option.Option.{Option}
+use Rattle.std.specs.declared.option.Option.TheVariants.{Some, None}
+use Rattle.std.specs.declared.result.Result.{Result}
+use Rattle.std.specs.declared.result.Result.TheVariants.{Ok, Err}
+use Rattle.rules.specs.declared.KnownSegment.{KnownSegment}
+use Rattle.rules.specs.declared.Refusal.{Refusal}
 use Rattle.rules.specs.declared.Span.{Span}
-use Rattle.rules.specs.declared.Fetched.{Fetched}
-use Rattle.rules.specs.declared.Fetched.TheVariants as Fetched
-use Rattle.rules.specs.declared.Found.{Found}
-use Rattle.rules.specs.declared.Found.TheVariants as Found
-use Rattle.rules.specs.declared.Written.{Written}
-use Rattle.rules.specs.Told.{Told, gives, refused, told_span, length_of, over, Call, ◌>>=◌}
+use Rattle.rules.specs.Told.{Told, gives, refused, told, length_of, over, Call, ◌>>=◌}
 use Rattle.rules.specs.Frame.{Known}
 use Rattle.rules.specs.View.{view}
 use Rattle.rules.specs.Check.{check_told}
 use Rattle.rules.specs.Fetch.{fetch_told, bytes_at, part_told, span_told, span_in, found_told}
 use Rattle.rules.specs.Sheet.{to_sheet}
 use Rattle.rules.specs.Promises.{Located, SegmentFound}
-use Rattle.rules.proofs.Unique.{told-unique, length-unique}
+use Rattle.rules.proofs.Unique.{told-unique}
 use Rattle.unread.specs.Differs.{Differs}
 use Rattle.unread.specs.Same.{Keeps, refusal_of, name_told, name_found, part_read, SameAnswers, SameReturns}
 use Rattle.unread.specs.Demand3.{Demand3}
@@ -42,9 +43,9 @@ unseen m n hm hn r =
 
 -- ---- the calls, by their promises
 -- one that writes
-same-call : {t u : Told (List ℕ)} {old x y : List ℕ} {a b : Written} → t ≡ u → Call t old a x → Call u old b y → (a ≡ b) × (x ≡ y)
+same-call : {t u : Told (List ℕ)} {old x y : List ℕ} {a b : Result ℕ Refusal} → t ≡ u → Call t old a x → Call u old b y → (a ≡ b) × (x ≡ y)
 same-call {old = old} {a = a} {b = b} e p q = (
-  length-unique a b (p.told ∙ ap length_of e ∙ sym q.told),
+  told-unique a b (p.told ∙ ap length_of e ∙ sym q.told),
   p.buffer ∙ ap (λ (t : Told (List ℕ)). over t old) e ∙ sym q.buffer,
 )
 
@@ -60,20 +61,20 @@ unfolding part_told
 part_bytes m n s o f c h = same_bytes m n (fetch_told m o f c) (fetch_told n o f c) (s.part o f c h)
 
 -- and of the one that locate names, which lies in the message
-span-in : (m : List ℕ) (a : Fetched) → ((p : Span) → a ≡ Fetched.At p → p.start + p.len ≤ length m) → span_in (length m) a ≡ span_told (told_span a)
+span-in : (m : List ℕ) (a : Result Span Refusal) → ((p : Span) → a ≡ Ok p → p.start + p.len ≤ length m) → span_in (length m) a ≡ span_told (told a)
 unfolding span_in
-span-in m (Fetched.At p) h = rw (le-leb (p.start + p.len) (length m) (h p refl))
-span-in m (Fetched.NotFetched r) h = refl
+span-in m (Ok p) h = rw (le-leb (p.start + p.len) (length m) (h p refl))
+span-in m (Err r) h = refl
 
-located-bytes : (m : List ℕ) (o f c : ℕ) (a : Fetched) → Located m o f c a → bytes_at m (span_in (length m) a) ≡ bytes_at m (span_told (fetch_told m o f c))
+located-bytes : (m : List ℕ) (o f c : ℕ) (a : Result Span Refusal) → Located m o f c a → bytes_at m (span_in (length m) a) ≡ bytes_at m (span_told (fetch_told m o f c))
 located-bytes m o f c a p = ap (bytes_at m) (span-in m a p.within ∙ ap span_told p.told)
 
 -- the name of the segment that is found
-found_name : (m : List ℕ) (a : Found) → name_found a ≡ (found_told m a >>= λ k. gives k.name)
-found_name m (Found.At s) = refl
-found_name m Found.Nothing = refl
+found_name : (m : List ℕ) (a : Option KnownSegment) → name_found a ≡ (found_told m a >>= λ k. gives k.name)
+found_name m (Some s) = refl
+found_name m None = refl
 
-name-is : (m : List ℕ) (o : ℕ) (a : Found) → SegmentFound m o a → name_found a ≡ name_told m o
+name-is : (m : List ℕ) (o : ℕ) (a : Option KnownSegment) → SegmentFound m o a → name_found a ≡ name_told m o
 name-is m o a p = found_name m a ∙ ap (λ (t : Told Known). t >>= λ k. gives k.name) p.told
 
 calls : (m n : List ℕ) → SameAnswers m n → SameReturns m n

@@ -1,12 +1,11 @@
 -- What it is for two messages to get the same answers, and for the calls to return the same of both.
-use Rattle.std.specs.Prelude.{◌≡◌, Bool, true, not, List, ℕ}
+use Rattle.std.specs.Prelude.{◌≡◌, Bool, true, not, List, ℕ, Option, Some, None, Result}
+use Rattle.rules.specs.declared.KnownSegment.{KnownSegment}
+use Rattle.rules.specs.declared.Refusal.{Refusal}
+use Rattle.rules.specs.declared.Span.{Span}
+use Rattle.rules.specs.declared.Counts.{Counts}
 use Rattle.rules.specs.declared.Name.{Name}
-use Rattle.rules.specs.declared.Answer.{Answer}
-use Rattle.rules.specs.declared.Fetched.{Fetched}
-use Rattle.rules.specs.declared.Found.{Found}
-use Rattle.rules.specs.declared.Found.TheVariants as Found
-use Rattle.rules.specs.declared.Written.{Written}
-use Rattle.rules.specs.Told.{Told, gives, refused, told_span, ◌>>=◌}
+use Rattle.rules.specs.Told.{Told, gives, refused, told, ◌>>=◌}
 use Rattle.rules.specs.Frame.{known}
 use Rattle.rules.specs.Places.{unread_component}
 use Rattle.rules.specs.Check.{frame_told, check_told}
@@ -26,9 +25,9 @@ refusal_of t = t >>= λ p. gives tt
 abbrev pub name_told : List ℕ → ℕ → Told Name
 name_told m o = ordinal (known m) o >>= λ k. gives k.name
 
-abbrev pub name_found : Found → Told Name
-name_found (Found.At s) = gives s.name
-name_found Found.Nothing = refused 30 0 0
+abbrev pub name_found : Option KnownSegment → Told Name
+name_found (Some s) = gives s.name
+name_found None = refused 30 0 0
 
 -- a part that is read: the table, or the list of closed fields, has this place of the o-th known segment. Where there is no such segment,
 -- every part is refused alike.
@@ -49,17 +48,17 @@ pub record SameAnswers (m n : List ℕ) : Type 0 where
 -- ---- the same returned: of any two results that keep the promise of one call, one for m and one for n. Where the messages lie, and so where
 -- their parts do, is free.
 pub record SameReturns (m n : List ℕ) : Type 0 where
-  pub check : (a b : Answer) → Checked m a → Checked n b → a ≡ b
+  pub check : (a b : Result Counts Refusal) → Checked m a → Checked n b → a ≡ b
   -- to_sheet: its answer, and what it leaves of a buffer that held the same before
-  pub sheet : (old x y : List ℕ) (a b : Written) → SheetWritten m old a x → SheetWritten n old b y → (a ≡ b) × (x ≡ y)
+  pub sheet : (old x y : List ℕ) (a b : Result ℕ Refusal) → SheetWritten m old a x → SheetWritten n old b y → (a ≡ b) × (x ≡ y)
   -- fetch; bytes_of, given what locate answers; part_text: of a part that is read
   pub part : (m-lies n-lies x-lies y-lies : ℕ × ℕ) (o f c : ℕ) (x y : List ℕ) → part_read m o f c ≡ true
       → PartGiven m m-lies o f c x x-lies → PartGiven n n-lies o f c y y-lies → x ≡ y
-  pub stretch : (m-lies n-lies x-lies y-lies : ℕ × ℕ) (o f c : ℕ) (a b : Fetched) (x y : List ℕ) → part_read m o f c ≡ true
+  pub stretch : (m-lies n-lies x-lies y-lies : ℕ × ℕ) (o f c : ℕ) (a b : Result Span Refusal) (x y : List ℕ) → part_read m o f c ≡ true
       → Located m o f c a → Located n o f c b → StretchGiven m m-lies a x x-lies → StretchGiven n n-lies b y y-lies → x ≡ y
-  pub text : (o f c : ℕ) (old x y : List ℕ) (a b : Written) → part_read m o f c ≡ true
+  pub text : (o f c : ℕ) (old x y : List ℕ) (a b : Result ℕ Refusal) → part_read m o f c ≡ true
       → TextWritten m o f c old a x → TextWritten n o f c old b y → (a ≡ b) × (x ≡ y)
   -- locate: of any part, whether it is refused and how
-  pub located : (o f c : ℕ) (a b : Fetched) → Located m o f c a → Located n o f c b → refusal_of (told_span a) ≡ refusal_of (told_span b)
+  pub located : (o f c : ℕ) (a b : Result Span Refusal) → Located m o f c a → Located n o f c b → refusal_of (told a) ≡ refusal_of (told b)
   -- known_segment: the name, or that there is none
-  pub segment : (o : ℕ) (a b : Found) → SegmentFound m o a → SegmentFound n o b → name_found a ≡ name_found b
+  pub segment : (o : ℕ) (a b : Option KnownSegment) → SegmentFound m o a → SegmentFound n o b → name_found a ≡ name_found b
