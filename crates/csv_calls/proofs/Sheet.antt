@@ -19,9 +19,7 @@ use Rattle.rules.specs.Sheet.{sheet_of, read_sheet}
 use Rattle.rules.proofs.Logic.{cases, neither, told_cases, not-given, not-true, not-false}
 use Rattle.writer.specs.Over.{Wrote}
 use Rattle.writer.specs.Over as Over
-use Rattle.sheets.specs.declared.SheetVerdict.{SheetVerdict}
-use Rattle.sheets.specs.declared.SheetVerdict.TheVariants.{Right as Fit, Wrong as Bad}
-use Rattle.sheets.specs.Sheet.{told_judged, judged_told}
+use Rattle.sheets.specs.Sheet.{judged_told}
 use Rattle.csv_rules.specs.declared.FileFault.{FileFault}
 use Rattle.csv_rules.specs.declared.FileFault.TheVariants.{Quoting, Unconverted, HeaderDiffers}
 use Rattle.csv_rules.specs.declared.CsvSheets.{CsvSheets}
@@ -59,20 +57,18 @@ module _ (s x : List ℕ) where
   unfolding copied_told Over.over_front
   copied_all r y h w = rw (le-ltb (length x) (length s) h) (record { told = ap gives w.ends; buffer = w.is; within = λ n e. let z : n ≡ r = cc in omega (arith, w.ends) })
 
-  -- 40 to 43 before that: p is what judging tells
-  module _ (p : SheetVerdict) (t : told_judged p ≡ judged_told s) where
-    pub handed-not : (k : Refusal) → p ≡ Bad k → SheetCall (made_told s (length x)) x (Err (Unfit k)) x
-    unfolding made_told judged_told
-    handed-not k f =
-        told_cases (read_sheet s) (λ rows e. not-given (rw (f, e) at t)) (λ n a b e. told-as (rw e (same n a b (rw (f, e) at t))) (unfit x k))
-      where
-        same : (n a b : ℕ) → ◌≡◌ {A = Told (Unit {0})} (refusal k) (refused n a b) → ◌≡◌ {A = Told (List ℕ)} (refused n a b) (refusal k)
-        same n a b h = cc
+  -- 40 to 43 before that, by what judging tells
+  pub handed-not : (k : Refusal) → refusal k ≡ judged_told s → SheetCall (made_told s (length x)) x (Err (Unfit k)) x
+  unfolding made_told judged_told
+  handed-not k t =
+      told_cases (read_sheet s) (λ rows e. not-given (rw e at t)) (λ n a b e. told-as (rw e (same n a b (rw e at t))) (unfit x k))
+    where
+      same : (n a b : ℕ) → ◌≡◌ {A = Told (Unit {0})} (refusal k) (refused n a b) → ◌≡◌ {A = Told (List ℕ)} (refused n a b) (refusal k)
+      same n a b h = cc
 
-    pub handed-all : (r : Result ℕ NotMade) (y : List ℕ) → p ≡ Fit → SheetCall (copied_told s (length x)) x r y → SheetCall (made_told s (length x)) x r y
-    unfolding made_told judged_told
-    handed-all r y f c =
-        told_cases (read_sheet s) (λ rows e. told-as (rw e) c) (λ n a b e. not-given (sym (rw (f, e) at t)))
+  pub handed-all : (u : Unit {0}) (r : Result ℕ NotMade) (y : List ℕ) → gives u ≡ judged_told s → SheetCall (copied_told s (length x)) x r y → SheetCall (made_told s (length x)) x r y
+  unfolding made_told judged_told
+  handed-all u r y t c = told_cases (read_sheet s) (λ rows e. told-as (rw e) c) (λ n a b e. not-given (sym (rw e at t)))
 
 -- a sheet that is cut one byte past its limit is too long, and so is the whole
 short-40 : (s : List ℕ) (room : ℕ) → 65536 < length s → made_told s room ≡ refused 40 0 0

@@ -13,7 +13,6 @@ ghost use Rattle.csv_calls.specs.Calls.{Convertible, copied_told, made_told};
 
 use csv_rules::{CsvSheets, FileFault, Next, NotMade};
 use rules::{Kind, Refusal};
-use sheets::SheetVerdict;
 
 // ---- the whole file
 // How many sheets a file holds, and where its first row stands; or 50 to 54.
@@ -65,10 +64,8 @@ fn copied(sheet: &[u8], out: &mut [u8]) -> Result<usize, NotMade>
 fn handed(sheet: &[u8], out: &mut [u8]) -> Result<usize, NotMade>
     ensures { SheetCall (made_told sheet.now (length out.old)) out.old result out.new }
 {
-    match sheets::judge(sheet) {
-        SheetVerdict::Wrong(refusal) => Err(NotMade::Unfit(refusal)),
-        SheetVerdict::Right => copied(sheet, out),
-    }
+    sheets::judge(sheet)?;
+    copied(sheet, out)
 }
 
 // A sheet that the small buffer can't hold, made once more in one that can: its rows convert.

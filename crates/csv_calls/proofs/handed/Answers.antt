@@ -1,9 +1,11 @@
+use Rattle.std.proofs.lemmas.Result.{err_from_is_err_and}
 use Rattle.csv_calls.proofs.Sheet.{handed-not, handed-all}
-use borrow.Author.Rules.{rules}
 use Rattle.csv_calls.proofs.handed.Goals as goal
 
-pub returns-in-Wrong : goal.returns-in-Wrong
-returns-in-Wrong c = search (handed-not, rules)
+pub returns-in_err : goal.returns-in_err
+returns-in_err c =
+    let p = err_from_is_err_and c.from_residual.result c.from_residual.ensures.1 in
+    rw (p.1, p.2) (handed-not _ _ c.in_err.field-0.0 c.in_err.ensures)
 
-pub returns-in-Right : goal.returns-in-Right
-returns-in-Right c = search (handed-all, rules)
+pub returns : goal.returns
+returns c = handed-all _ _ _ _ _ c.in_ok.ensures c.copied.ensures
