@@ -38,7 +38,8 @@ fn judge_place(raw: &[u8], d: Delims, clean: bool, place: Place) -> Result<(), K
     }
 }
 
-// The component or the closed field at the start of a text: what it breaks, and its length.
+// The component or the closed field at the start of a text: what it breaks, and its length. The length is asked for where something is
+// broken, too: 22 is told before it, and seen only at the field's end.
 #[derive(Clone, Copy)]
 pub struct Judged {
     pub fault: Result<(), Kind>,
