@@ -76,4 +76,10 @@ pub other_first : (s : List ℕ) → 3 ≤ length s → (get_or s 0 0 ≡ 77 →
 other_first s h m p q o =
     sym (name_three s h ∙ rw (ne_eqb (get_or s 0 0) 77 m, ne_eqb (get_or s 0 0) 80 p, ne_eqb (get_or s 0 0) 83 q, ne_eqb (get_or s 0 0) 79 o))
 
-pub ruleset known = (starts_by, name_three, name_short, other_first)
+pub other_second : (s : List ℕ) → 3 ≤ length s → get_or s 0 0 ≡ 79 → (get_or s 1 0 ≡ 66 → ⊥) → (get_or s 1 0 ≡ 82 → ⊥) → Other ≡ name_of s
+other_second s h o b r = sym (name_three s h ∙ rw (o, ne_eqb (get_or s 1 0) 66 b, ne_eqb (get_or s 1 0) 82 r))
+
+pub other_third : (s : List ℕ) → 3 ≤ length s → get_or s 0 0 ≡ 79 → get_or s 1 0 ≡ 66 → (get_or s 2 0 ≡ 82 → ⊥) → (get_or s 2 0 ≡ 88 → ⊥) → Other ≡ name_of s
+other_third s h o b r x = sym (name_three s h ∙ rw (o, b, ne_eqb (get_or s 2 0) 82 r, ne_eqb (get_or s 2 0) 88 x))
+
+pub ruleset known = (starts_by, name_three, name_short, other_first, other_second, other_third)
