@@ -73,6 +73,7 @@ pub struct Size {
 }
 
 // The verdict on a group; no group of a sheet that is known to be right is judged again.
+// The flag stays: as a closure that judges or not, a pass would state a second time that the sheet is `FaultFree`.
 fn verdict(known: bool, name: Name, g: &Group) -> Result<(), LineFault>
     requires { known ≡ true → VerdictOn (lines name) (lines_of g.now) (Ok tt) }
     ensures { VerdictOn (lines name) (lines_of g.now) result }

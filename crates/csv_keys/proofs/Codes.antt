@@ -13,9 +13,11 @@ use Rattle.rules.specs.Shift.{within}
 use Rattle.rules.specs.Value.{numeric, fault, fits}
 use Rattle.rules.proofs.Logic.{cases, both, never}
 use Rattle.rules.proofs.Lists.{here, over, all_first, same-eq}
-use Rattle.value.specs.declared.Fault.{Fault}
+use Rattle.std.specs.Prelude.{is_ok}
+use Rattle.std.specs.declared.result.Result.{Result}
+use Rattle.rules.specs.declared.Kind.{Kind}
 use Rattle.value.specs.declared.Rule.TheVariants.{Number}
-use Rattle.value.specs.Rules.{fault_no, fine_of, rule_of}
+use Rattle.value.specs.Rules.{fault_no, rule_of}
 use Rattle.value.proofs.Laws.{fine-zero, fault-some}
 use Rattle.csv_rules.specs.Written.{halved}
 use Rattle.csv_rules.specs.Columns.{type_of}
@@ -101,8 +103,8 @@ module _ (row : RowItems) (form lead r : List ℕ) (b : Bool) (e : b ≡ same fo
       let z : type_of (nth (items_of row) 34) (halved false form) ≡ 83 ∷ 78 ∷ [] = rw (without, t) in
       rw z k
 
-  module _ (t : (not (eqb (length form) 0) && not b) ≡ false) (raw : List ℕ) (o : raw ≡ nth (raw_items row) 34) (x : Fault) (q : fault_no x ≡ fault true (rule_of Number) raw)
-      (u : Bool) (g : u ≡ fine_of x) where
+  module _ (t : (not (eqb (length form) 0) && not b) ≡ false) (raw : List ℕ) (o : raw ≡ nth (raw_items row) 34) {A : Type 0} (x : Result A Kind) (q : fault_no x ≡ fault true (rule_of Number) raw)
+      (u : Bool) (g : u ≡ is_ok x) where
     number_is_lem : fits true numeric (nth (items_of row) 34) ≡ eqb (fault_no x) 0
     unfolding rule_of
     number_is_lem = ap (fits true numeric) (item-half row 34) ∙ number-halved (nth (raw_items row) 34) ∙ ap (fits true numeric) (sym o) ∙ ap (λ (k : ℕ). eqb k 0) (sym q)

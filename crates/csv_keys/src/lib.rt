@@ -165,7 +165,7 @@ fn value_type<'a>(row: &RowItems, form: &[u8]) -> RawKey<'a>
         return in_place(b"SN");
     }
     let number = row.item(34);
-    if value::fine(value::fault_of(true, Rule::Number, number)) {
+    if value::fault_of(true, Rule::Number, number).is_ok() {
         return in_place(b"NM");
     }
     in_place(b"ST")

@@ -7,11 +7,12 @@ use native.Mathlib.Omega.{arith}
 use borrow.Author.Tests.{lt-leb, leb-true, eqb-true, eq-eqb, ltb-true, ltb-false, not-true, not-false}
 use lib.Dec.{eqb, leb, ltb}
 use lib.ListN.{length, get_or, take, drop, get_or-eq_default}
-use lib.Seq.{drop-drop}
+use lib.Pointwise.{pointwise}
+use lib.Seq.{drop-drop, get_or-drop}
 use Rattle.rules.specs.Lists.{all}
 use Rattle.rules.specs.Shift.{within}
-use Rattle.rules.proofs.Logic.{cases, both, never}
-use Rattle.rules.proofs.Lists.{here, over}
+use Rattle.rules.proofs.Logic.{cases, both, never, and-true, eqb-sym}
+use Rattle.rules.proofs.Lists.{here, over, rest-is}
 use Rattle.csv_rules.specs.Quote.{Comma, Quote, broken, lines_at}
 use Rattle.csv_rules.specs.Kanji.{lead, characters_at, characters, good_character, convertible}
 use Rattle.csv_rules.specs.Written.{halved}
@@ -121,17 +122,22 @@ and_no : (a b : Bool) → b ≡ false → (a && b) ≡ false
 and_no true b h = h
 and_no false b h = refl
 
+two_first : (s : List ℕ) → pointwise eqb (0x22 ∷ 0x2C ∷ []) (take 2 s) ≡ (eqb (get_or s 0 0) 0x22 && eqb (get_or s 1 0) 0x2C)
+two_first [] = refl
+two_first (b ∷ []) = rw (eqb-sym 0x22 b) (cases (eqb b 0x22) (λ e. rw e) (λ e. rw e))
+two_first (b ∷ (t ∷ s)) = rw (eqb-sym 0x22 b, eqb-sym 0x2C t, and-true (eqb t 0x2C))
+
 module _ (f : List ℕ) (p : ℕ) where
   too_short : length f ≤ p + 1 → comma_at f p ≡ false
   unfolding comma_at
   too_short h = and_no (eqb (get_or f p 0) 0x22) (eqb (get_or f (p + 1) 0) 0x2C) (ap (λ (b : ℕ). eqb b 0x2C) (get_or-eq_default f 0 h))
 
-  pub comma-short : length f - p < 2 → false ≡ comma_at f p
-  comma-short h = sym (too_short (omega arith))
-
-  pub comma-is : (j : ℕ) → j ≡ p + 1 → (eqb (get_or f p 0) 0x22 && eqb (get_or f j 0) 0x2C) ≡ comma_at f p
+  pub comma-is : pointwise eqb (0x22 ∷ 0x2C ∷ []) (take 2 (take (length f - p) (drop p f))) ≡ comma_at f p
   unfolding comma_at
-  comma-is j e = rw e
+  comma-is =
+      let z : p + 0 ≡ p = omega arith in
+      rw (rest-is f p)
+      (two_first (drop p f) ∙ rw (get_or-drop p f 0 0, get_or-drop p f 1 0, z))
 
   module _ (q : Bool) (e : q ≡ comma_at f p) (g : q ≡ true) where
     two_bytes : (get_or f p 0 ≡ 0x22) × (get_or f (p + 1) 0 ≡ 0x2C)

@@ -134,11 +134,7 @@ fn comma_at(file: &[u8], p: usize) -> bool
     requires { p ≤ length file.now }
     ensures { result ≡ comma_at file.now p }
 {
-    if file.len() - p < 2 {
-        return false;
-    }
-    let j = p + 1;
-    (file[p] == 0x22) & (file[j] == 0x2C)
+    file[p..].starts_with(b"\",")
 }
 
 // The item whose opening quote stands at a place, and whose bytes are plain up to p.

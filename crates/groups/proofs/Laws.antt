@@ -13,8 +13,8 @@ use Rattle.rules.specs.declared.Name.TheVariants.{Msh, Pid, Pv1, Spm, Obr, Orc, 
 use Rattle.rules.specs.Lists.{bytes, empty, filled, nth, same, split, is_one_of, any, onto}
 use Rattle.rules.specs.Value.{Rule, fault, fits, holds, too_long, words, text}
 use Rattle.rules.specs.Places.{Four, value_rules, entry_of, entry_in, places}
-use Rattle.rules.specs.Judge.{beside, unjoined, agrees}
-use Rattle.rules.specs.Row.{Line, line, lines, four_at, kana_fits, joined}
+use Rattle.rules.specs.Judge.{agrees}
+use Rattle.rules.specs.Row.{Line, line, lines, four_at, joined}
 use Rattle.rules.specs.Sheet.{key_of}
 use Rattle.rules.proofs.Logic.{and-true, and-false, cases, never}
 use Rattle.rules.proofs.Lists.{same-eq, empty-zero, filled-some}
@@ -51,21 +51,11 @@ blank s =
     (λ e. e ∙ sym (empty-zero s (eqb-true (length s) 0 e)))
     (λ e. e ∙ sym (filled-some s (λ z. never (sym (eq-eqb (length s) 0 z) ∙ e))))
 
-pub kana-fits : (a b : List ℕ) → (not (eqb (length a) 0) || eqb (length b) 0) ≡ kana_fits a b
-kana-fits a b = rw (blank a, blank b)
+pub blank-by : {A : Type 0} {q : Bool} (s : List A) → q ≡ eqb (length s) 0 → q ≡ empty s
+blank-by s e = e ∙ blank s
 
--- the four parts of OBX-5, by which are filled
-module _ (p : Obx5) where
-  pub beside-is : (q : Bool) → ((k : Four (List ℕ)) → not (eqb (length p.compare.now) 0) ≡ filled k.compare → not (eqb (length p.join.now) 0) ≡ filled k.join → not (eqb (length p.second.now) 0) ≡ filled k.second → q ≡ beside k) → q ≡ beside (four_of p)
-  beside-is q e = e (four_of p) (ap not (blank p.compare.now)) (ap not (blank p.join.now)) (ap not (blank p.second.now))
-
-  module _ (q : Bool) (e : q ≡ beside (four_of p)) where
-    pub joined_is : (u : Bool) → ((k : Four (List ℕ)) → not (eqb (length p.join.now) 0) ≡ filled k.join → not (eqb (length p.second.now) 0) ≡ filled k.second → u ≡ unjoined k)
-        → (not u && (not (eqb (length p.value.now) 0) || not q)) ≡ joined (four_of p)
-    joined_is u f = rw (e, f (four_of p) (ap not (blank p.join.now)) (ap not (blank p.second.now)), blank p.value.now)
-
-    pub agrees-is : (t : List ℕ) (r : Bool) → ((k : Four (List ℕ)) → not (eqb (length p.value.now) 0) ≡ filled k.value → q ≡ beside k → r ≡ agrees t k) → r ≡ agrees t (four_of p)
-    agrees-is t r h = h (four_of p) (ap not (blank p.value.now)) e
+pub filled-by : {A : Type 0} {q : Bool} (s : List A) → q ≡ eqb (length s) 0 → not q ≡ filled s
+filled-by s e = ap not (blank-by s e)
 
 -- ---- the keys
 abbrev version= : List ℕ

@@ -18,7 +18,7 @@ use value::{Rule, table};
 fn header(g: &Group) -> Result<(), LineFault>
     ensures { VerdictOn (lines Name.Msh) (lines_of g.now) result }
 {
-    let one = plain_bytes::equal(g.value_at(0, keys::VERSION.len()), b"1");
+    let one = plain_bytes::equal(g.value_at(0, &keys::VERSION), b"1");
     g.line_if(0, &keys::VERSION, Must(Rule::Text(1)), one)?;
     g.line(1, &keys::MODE, table::MODE)?;
     g.line(2, &keys::SENT, table::SENT)?;
@@ -29,7 +29,7 @@ fn header(g: &Group) -> Result<(), LineFault>
 fn kana_fits(family: &[u8], given: &[u8]) -> bool
     ensures { result ≡ Row.kana_fits family.now given.now }
 {
-    (family.len() != 0) | (given.len() == 0)
+    !family.is_empty() | given.is_empty()
 }
 
 // A patient's number and name, the first three lines.
@@ -47,8 +47,8 @@ fn kana(g: &Group) -> Result<(), LineFault>
     ensures { VerdictOn (take 5 (lines Name.Pid)) (lines_of g.now) result }
 {
     let also = kana_fits(
-        g.value_at(3, keys::KANA_FAMILY.len()),
-        g.value_at(4, keys::KANA_GIVEN.len()),
+        g.value_at(3, &keys::KANA_FAMILY),
+        g.value_at(4, &keys::KANA_GIVEN),
     );
     g.line(3, &keys::KANA_FAMILY, May(table::NAME))?;
     g.line_if(4, &keys::KANA_GIVEN, May(table::NAME), also)
@@ -101,10 +101,10 @@ impl<'a> Obx5<'a> {
         ensures { four_of result ≡ parts_of (lines_of g.now) }
     {
         Obx5 {
-            compare: g.value_at(3, keys::COMPARE.len()),
-            value: g.value_at(4, keys::VALUE.len()),
-            join: g.value_at(5, keys::JOIN.len()),
-            second: g.value_at(6, keys::SECOND.len()),
+            compare: g.value_at(3, &keys::COMPARE),
+            value: g.value_at(4, &keys::VALUE),
+            join: g.value_at(5, &keys::JOIN),
+            second: g.value_at(6, &keys::SECOND),
         }
     }
 
@@ -113,9 +113,9 @@ impl<'a> Obx5<'a> {
         ensures { result ≡ Judge.beside (four_of self.now) }
     {
         value::beside(
-            self.compare.len() != 0,
-            self.join.len() != 0,
-            self.second.len() != 0,
+            !self.compare.is_empty(),
+            !self.join.is_empty(),
+            !self.second.is_empty(),
         )
     }
 
@@ -123,15 +123,15 @@ impl<'a> Obx5<'a> {
     fn joined(&self) -> bool
         ensures { result ≡ Row.joined (four_of self.now) }
     {
-        let unjoined = value::unjoined(self.join.len() != 0, self.second.len() != 0);
-        !unjoined & ((self.value.len() != 0) | !self.beside())
+        let unjoined = value::unjoined(!self.join.is_empty(), !self.second.is_empty());
+        !unjoined & (!self.value.is_empty() | !self.beside())
     }
 
     // "Status F, P or C needs a value (for SN its first number); I or X needs OBX-5 empty in every component."
     fn agrees(&self, status: &[u8]) -> bool
         ensures { result ≡ Judge.agrees status.now (four_of self.now) }
     {
-        value::agrees(status, self.value.len() != 0, self.beside())
+        value::agrees(status, !self.value.is_empty(), self.beside())
     }
 }
 
@@ -149,7 +149,7 @@ fn parts(g: &Group, also: bool) -> Result<(), LineFault>
     requires { VerdictOn (take 3 (lines Name.Obx)) (lines_of g.now) (Ok tt) × (also ≡ Row.joined (parts_of (lines_of g.now))) }
     ensures { VerdictOn (take 7 (lines Name.Obx)) (lines_of g.now) result }
 {
-    let rules = value::part_rules(g.value_at(2, keys::TYPE.len()));
+    let rules = value::part_rules(g.value_at(2, &keys::TYPE));
     g.line(3, &keys::COMPARE, May(rules.compare))?;
     g.line(4, &keys::VALUE, May(rules.value))?;
     g.line(5, &keys::JOIN, May(rules.join))?;
@@ -172,7 +172,7 @@ fn result(g: &Group) -> Result<(), LineFault>
     let said = Obx5::of(g);
     item(g)?;
     parts(g, said.joined())?;
-    standing(g, said.agrees(g.value_at(9, keys::STATUS.len())))
+    standing(g, said.agrees(g.value_at(9, &keys::STATUS)))
 }
 
 // ---- any group

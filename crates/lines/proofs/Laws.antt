@@ -11,7 +11,7 @@ use lib.Seq.{drop-drop, get_or-drop, get_or-set_same, get_or-set_other}
 use Rattle.rules.specs.Lists.{bytes, empty, filled, nth, same, starts, split, all_but_last, last, ended}
 use Rattle.rules.specs.Sheet.{lines_of}
 use Rattle.std.specs.Prelude.{cond, Result, Ok, Err}
-use Rattle.std.specs.Result.{IsErrAnd}
+use Rattle.std.specs.Result.{is_ok, IsErrAnd}
 use Rattle.std.proofs.lemmas.Result.{err_from_is_err_and}
 use Rattle.std.specs.Str.{bytes_eq}
 use Rattle.rules.proofs.Logic.{eqb-sym, cases, never, zero_cases}
@@ -19,9 +19,9 @@ use Rattle.rules.proofs.Lists.{empty-zero, rest-is, rest-inside, take_own}
 use Rattle.rules.proofs.Split.{but_last-split, ended-split}
 use Rattle.plain_bytes.specs.Bytes.{until, is_byte}
 use Rattle.scan.proofs.Laws.{until-rest}
-use Rattle.value.specs.declared.Fault.{Fault}
-use Rattle.value.specs.Rules.{fault_no, fine_of}
-use Rattle.plain_bytes.proofs.Laws.{split-last, split-more}
+use Rattle.rules.specs.declared.Kind.{Kind}
+use Rattle.value.specs.Rules.{fault_no}
+use Rattle.plain_bytes.proofs.Laws.{same_by, split-last, split-more}
 use Rattle.value.proofs.Laws.{fine-zero, fault-some}
 use Rattle.lines.specs.declared.LineFault.TheVariants.{Key, Value}
 use Rattle.lines.specs.Lines.{behind_line, Cut, line_as}
@@ -204,14 +204,7 @@ pub part-short : (s : List ℕ) (a n : ℕ) → length (take n (drop a s)) ≤ l
 part-short s a n = simp (length-take, length-drop) (omega arith)
 
 -- ---- a key
--- `==` of the library compares as `same` does
-same-is : (s t : List ℕ) → bytes_eq s t ≡ same s t
-unfolding same
-same-is [] [] = refl
-same-is [] (b ∷ t) = refl
-same-is (a ∷ s) [] = refl
-same-is (a ∷ s) (b ∷ t) = cases (eqb a b) (λ e. rw (e, same) (same-is s t)) (λ e. rw (e, same))
-
+-- what the library's `strip_prefix` says
 prefix-is : (key t : List ℕ) → bytes_eq (take (length key) t) key ≡ starts key t
 unfolding starts
 prefix-is [] t = refl
@@ -234,7 +227,7 @@ module _ (k : ℕ) (key : List ℕ) (good : Bool) (t : List ℕ) where
   module _ (v : List ℕ) (h : bytes_eq (take (length key) t) key ≡ true) (e : v ≡ drop (length key) t) where
     line-found : line_as k key good t ≡ cond (not (bytes_eq v (34 ∷ 34 ∷ [])) && good) (Ok tt) (Err (Value k))
     unfolding line_as bytes
-    line-found = rw (← prefix-is key t, h, ← e, same-is v (34 ∷ 34 ∷ []))
+    line-found = rw (← prefix-is key t, h, ← e, same_by v (34 ∷ 34 ∷ []) _ refl)
 
     pub line-bad : (not good || bytes_eq v (34 ∷ 34 ∷ [])) ≡ true → Err (Value k) ≡ line_as k key good t
     line-bad = bad good (bytes_eq v (34 ∷ 34 ∷ [])) line-found
@@ -253,9 +246,9 @@ module _ (k : ℕ) (key : List ℕ) (good : Bool) (t : List ℕ) where
         fine true false f h = rw f
         fine false u f h = never h
 
-pub keeps-is : (f : Fault) (x : ℕ) (r : Bool) → r ≡ fine_of f → fault_no f ≡ x → r ≡ eqb x 0
+pub keeps-is : (f : Result (Unit {0}) Kind) (x : ℕ) (r : Bool) → r ≡ is_ok f → fault_no f ≡ x → r ≡ eqb x 0
 keeps-is f x r e h =
-    cases (fine_of f)
+    cases (is_ok f)
     (λ y. e ∙ y ∙ sym (eq-eqb x 0 (sym h ∙ fine-zero f y)))
     (λ y. e ∙ y ∙ sym (ne_eqb x 0 (λ z. absurd (omega (arith, h, z, fault-some f y)))))
 

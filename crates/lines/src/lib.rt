@@ -42,11 +42,7 @@ fn behind_key(t: &[u8], n: usize) -> &[u8]
     ensures value { result.now ≡ drop n t.now }
     ensures within { length result.now ≤ length t.now }
 {
-    let len = t.len();
-    if len < n {
-        return &t[len..];
-    }
-    &t[n..]
+    &t[n.min(t.len())..]
 }
 
 // A text that begins with a group's lines, and the places of its first ten, as many as the longest group has, and the place behind each.
@@ -110,13 +106,13 @@ impl<'a> Group<'a> {
         &self.text[start..end - 1]
     }
 
-    // The value of the k-th line, whose key has n bytes.
-    pub fn value_at(&self, k: usize, n: usize) -> &'a [u8]
+    // The value of the k-th line, which has this key.
+    pub fn value_at(&self, k: usize, key: &[u8]) -> &'a [u8]
         requires { k < 10 }
-        ensures value { result.now ≡ drop n (nth (lines_of self.now) k) }
+        ensures value { result.now ≡ drop (length key.now) (nth (lines_of self.now) k) }
         ensures within { length result.now ≤ length self.now }
     {
-        behind_key(self.line_at(k), n)
+        behind_key(self.line_at(k), key.len())
     }
 
     // The k-th line judged, whose value has the rule of a place, where something else must hold too.
@@ -155,7 +151,7 @@ fn judged(k: usize, t: &[u8], key: &[u8], good: bool) -> Result<(), LineFault>
 fn keeps(v: &[u8], required: bool, rule: Rule) -> bool
     ensures { result ≡ fits required (rule_of rule) v.now }
 {
-    value::fine(value::fault_of(required, rule, v))
+    value::fault_of(required, rule, v).is_ok()
 }
 
 // The rule of a place holds.

@@ -1,5 +1,5 @@
 // The known names of segments: "MSH PID PV1 SPM OBR ORC OBX".
-#![tactic(auto, using(crate::proofs::Laws::starts_by))]
+#![tactic(auto, using(crate::proofs::Laws::known))]
 
 ghost use Rattle.std.specs.Prelude.{◌≡◌, ◌≤◌, length};
 ghost use Rattle.rules.specs.Told.{◌when◌};
@@ -20,31 +20,19 @@ pub fn named(s: &[u8], name: &[u8]) -> bool
 pub fn name_of(s: &[u8]) -> Name
     ensures { result ≡ name_of s.now }
 {
-    if s.len() < 3 {
-        return Name::Other;
+    match s {
+        [a, b, c, ..] => match [*a, *b, *c] {
+            rules::MSH => Name::Msh,
+            rules::PID => Name::Pid,
+            rules::PV1 => Name::Pv1,
+            rules::SPM => Name::Spm,
+            rules::OBR => Name::Obr,
+            rules::ORC => Name::Orc,
+            rules::OBX => Name::Obx,
+            _ => Name::Other,
+        },
+        _ => Name::Other,
     }
-    if named(s, &rules::MSH) {
-        return Name::Msh;
-    }
-    if named(s, &rules::PID) {
-        return Name::Pid;
-    }
-    if named(s, &rules::PV1) {
-        return Name::Pv1;
-    }
-    if named(s, &rules::SPM) {
-        return Name::Spm;
-    }
-    if named(s, &rules::OBR) {
-        return Name::Obr;
-    }
-    if named(s, &rules::ORC) {
-        return Name::Orc;
-    }
-    if named(s, &rules::OBX) {
-        return Name::Obx;
-    }
-    Name::Other
 }
 
 // Whether both names are the same.

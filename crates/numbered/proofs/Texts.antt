@@ -21,7 +21,7 @@ use Rattle.rules.proofs.Names.{name-is}
 use Rattle.writer.specs.Over.{over_front, Wrote, fitted, Fit}
 use Rattle.writer.specs.Woven.{woven}
 use Rattle.writer.proofs.Laws.{front}
-use Rattle.groups.proofs.Laws.{blank}
+use Rattle.groups.proofs.Laws.{blank-by}
 use Rattle.segments.specs.Segments.{group_segment}
 use Rattle.segments.proofs.Texts.{shapes, fit-as}
 use Rattle.numbered.specs.Numbered.{number_is, has_number, numbered_piece, numbered_text, filled_sn, greatest_number}
@@ -61,9 +61,9 @@ module _ (d : Delims) (ts : List (List ℕ)) (r : ℕ) (x old : List ℕ) where
       fit-as (simp (en, e0, e1, e2, e4, e7, e8, e9, h, append_assoc, append-nil)) p
 
 -- which of a result's two patterns
-pub sn-is : (ts : List (List ℕ)) (type v : List ℕ) (q b : Bool) → type ≡ drop 5 (nth ts 2) → v ≡ drop 6 (nth ts 4) → q ≡ same type (83 ∷ 78 ∷ []) → (q && not (eqb (length v) 0)) ≡ b → filled_sn ts ≡ b
+pub sn-is : (ts : List (List ℕ)) (type v : List ℕ) (q u b : Bool) → type ≡ drop 5 (nth ts 2) → v ≡ drop 6 (nth ts 4) → q ≡ same type (83 ∷ 78 ∷ []) → u ≡ eqb (length v) 0 → (q && not u) ≡ b → filled_sn ts ≡ b
 unfolding shapes filled_sn
-sn-is ts type v q b et ev eq h = rw (← et, ← ev, ← eq, ← blank v) h
+sn-is ts type v q u b et ev eq eu h = rw (← et, ← ev, ← eq, ← blank-by v eu) h
 
 -- ---- a segment with its number
 module _ (d : Delims) (ts : List (List ℕ)) (n : Name) (number : List ℕ) (k r : ℕ) (x old : List ℕ) (q : Bool) (e : number ≡ decimal k) (eq : q ≡ is n Spm) where

@@ -24,8 +24,8 @@ fn specimen(out: &mut [u8], number: &[u8], g: &Group, d: Delims) -> usize
     ensures fit { Fit result out.new (numbered_text d number.now Name.Spm (lines_of g.now)) out.old }
     ensures within { result ≤ longest_segment }
 {
-    let specimen_type = g.value_at(0, keys::SPECIMEN.len());
-    let collected = g.value_at(1, keys::COLLECTED.len());
+    let specimen_type = g.value_at(0, &keys::SPECIMEN);
+    let collected = g.value_at(1, &keys::COLLECTED);
     writer::fit_woven(
         out,
         b"#|#|||$^^JC10|||||||||||||$\r",
@@ -42,16 +42,16 @@ fn structured(out: &mut [u8], number: &[u8], g: &Group, d: Delims) -> usize
     ensures fit { Fit result out.new (numbered_text d number.now Name.Obx (lines_of g.now)) out.old }
     ensures within { result ≤ longest_segment }
 {
-    let item = g.value_at(0, keys::ITEM.len());
-    let name = g.value_at(1, keys::NAME.len());
-    let value_type = g.value_at(2, keys::TYPE.len());
-    let compare = g.value_at(3, keys::COMPARE.len());
-    let value = g.value_at(4, keys::VALUE.len());
-    let join = g.value_at(5, keys::JOIN.len());
-    let second = g.value_at(6, keys::SECOND.len());
-    let unit = g.value_at(7, keys::UNIT.len());
-    let flag = g.value_at(8, keys::FLAG.len());
-    let status = g.value_at(9, keys::STATUS.len());
+    let item = g.value_at(0, &keys::ITEM);
+    let name = g.value_at(1, &keys::NAME);
+    let value_type = g.value_at(2, &keys::TYPE);
+    let compare = g.value_at(3, &keys::COMPARE);
+    let value = g.value_at(4, &keys::VALUE);
+    let join = g.value_at(5, &keys::JOIN);
+    let second = g.value_at(6, &keys::SECOND);
+    let unit = g.value_at(7, &keys::UNIT);
+    let flag = g.value_at(8, &keys::FLAG);
+    let status = g.value_at(9, &keys::STATUS);
     writer::fit_woven(
         out,
         b"#|#|$|$^$^JC10||$^$^$^$|$||$|||$\r",
@@ -79,13 +79,13 @@ fn single(out: &mut [u8], number: &[u8], g: &Group, d: Delims) -> usize
     ensures fit { Fit result out.new (numbered_text d number.now Name.Obx (lines_of g.now)) out.old }
     ensures within { result ≤ longest_segment }
 {
-    let item = g.value_at(0, keys::ITEM.len());
-    let name = g.value_at(1, keys::NAME.len());
-    let value_type = g.value_at(2, keys::TYPE.len());
-    let value = g.value_at(4, keys::VALUE.len());
-    let unit = g.value_at(7, keys::UNIT.len());
-    let flag = g.value_at(8, keys::FLAG.len());
-    let status = g.value_at(9, keys::STATUS.len());
+    let item = g.value_at(0, &keys::ITEM);
+    let name = g.value_at(1, &keys::NAME);
+    let value_type = g.value_at(2, &keys::TYPE);
+    let value = g.value_at(4, &keys::VALUE);
+    let unit = g.value_at(7, &keys::UNIT);
+    let flag = g.value_at(8, &keys::FLAG);
+    let status = g.value_at(9, &keys::STATUS);
     writer::fit_woven(
         out,
         b"#|#|$|$^$^JC10||$|$||$|||$\r",
@@ -109,9 +109,9 @@ fn result(out: &mut [u8], number: &[u8], g: &Group, d: Delims) -> usize
     ensures fit { Fit result out.new (numbered_text d number.now Name.Obx (lines_of g.now)) out.old }
     ensures within { result ≤ longest_segment }
 {
-    let value_type = g.value_at(2, keys::TYPE.len());
-    let value = g.value_at(4, keys::VALUE.len());
-    if plain_bytes::equal(value_type, b"SN") & (value.len() != 0) {
+    let value_type = g.value_at(2, &keys::TYPE);
+    let value = g.value_at(4, &keys::VALUE);
+    if plain_bytes::equal(value_type, b"SN") & !value.is_empty() {
         return structured(out, number, g, d);
     }
     single(out, number, g, d)

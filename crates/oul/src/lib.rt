@@ -5,19 +5,19 @@ ghost use Rattle.rules.specs.Promises.{Checked, Located, PartGiven, StretchGiven
 ghost use Rattle.csv_rules.specs.Promises.{SheetsCounted, LineTold, CsvSheetWritten, NextSheetWritten};
 ghost use Rattle.spot.specs.Spot.{SpotTold};
 
-use csv_rules::{Counted, Made, Next};
-use rules::{Answer, Fetched, Found, Written};
+use csv_rules::{CsvSheets, FileFault, Next, NotMade};
+use rules::{Counts, KnownSegment, Refusal, Span};
 use spot::Spot;
 
 // Checks a message: the counts of its specimens, orders and results, or its refusal (10 to 27).
-pub fn check(m: &[u8]) -> Answer
+pub fn check(m: &[u8]) -> Result<Counts, Refusal>
     ensures { Checked m.now result }
 {
     checks::check(m)
 }
 
 // Where a part of a message stands, or the refusal: the check's own first, then 31, then 30.
-pub fn locate(m: &[u8], ordinal: usize, field: usize, component: usize) -> Fetched
+pub fn locate(m: &[u8], ordinal: usize, field: usize, component: usize) -> Result<Span, Refusal>
     ensures { Located m.now ordinal field component result }
 {
     fetch::locate(m, ordinal, field, component)
@@ -31,7 +31,7 @@ pub fn fetch(m: &[u8], ordinal: usize, field: usize, component: usize) -> &[u8]
 }
 
 // The stretch of m that an answer of `locate` names, without a second check; an empty one, at the start, where it names none that lies in m.
-pub fn bytes_of(m: &[u8], answer: Fetched) -> &[u8]
+pub fn bytes_of(m: &[u8], answer: Result<Span, Refusal>) -> &[u8]
     ensures { StretchGiven m.now m.entry.ref_ptr answer result.now result.ref_ptr }
 {
     fetch::bytes_of(m, answer)
@@ -45,28 +45,28 @@ pub fn part_text(
     field: usize,
     component: usize,
     out: &mut [u8],
-) -> Written
+) -> Result<usize, Refusal>
     ensures { TextWritten m.now ordinal field component out.old result out.new }
 {
     part_text::part_text(m, ordinal, field, component, out)
 }
 
 // Writes the sheet of a message into the lent buffer, whose bytes past the sheet stay: how many bytes it has, or the refusal (10 to 27, 45), which leaves the buffer.
-pub fn to_sheet(m: &[u8], out: &mut [u8]) -> Written
+pub fn to_sheet(m: &[u8], out: &mut [u8]) -> Result<usize, Refusal>
     ensures { SheetWritten m.now out.old result out.new }
 {
     to_sheet::to_sheet(m, out)
 }
 
 // Writes the message of a sheet in the same way. Refusals 40 to 45, with the line in place of the segment.
-pub fn to_message(sheet: &[u8], out: &mut [u8]) -> Written
+pub fn to_message(sheet: &[u8], out: &mut [u8]) -> Result<usize, Refusal>
     ensures { MessageWritten sheet.now out.old result out.new }
 {
     to_message::to_message(sheet, out)
 }
 
-// Which known segment an ordinal is: its name, where it starts and how long it is without its 0D; nothing where there is none. It takes any bytes, checked or not.
-pub fn known_segment(m: &[u8], ordinal: usize) -> Found
+// Which known segment an ordinal is: its name, where it starts and how long it is without its 0D; none where there is none. It takes any bytes, checked or not.
+pub fn known_segment(m: &[u8], ordinal: usize) -> Option<KnownSegment>
     ensures { SegmentFound m.now ordinal result }
 {
     known::known_segment(m, ordinal)
@@ -81,7 +81,7 @@ pub fn spot_of(text: &[u8], number: usize) -> Spot
 
 // ---- the commercial centre's file
 // How many sheets a file holds, and where its first row stands; or its refusal (50 to 54).
-pub fn csv_count(file: &[u8]) -> Counted
+pub fn csv_count(file: &[u8]) -> Result<CsvSheets, FileFault>
     ensures { SheetsCounted file.now result }
 {
     csv_calls::csv_count(file)
@@ -96,7 +96,7 @@ pub fn csv_sheet(
     sent: &[u8],
     control: &[u8],
     out: &mut [u8],
-) -> Made
+) -> Result<usize, NotMade>
     ensures { CsvSheetWritten file.now which (record { mode = mode.now; sent = sent.now; control = control.now }) out.old result out.new }
 {
     csv_calls::csv_sheet(file, which, mode, sent, control, out)

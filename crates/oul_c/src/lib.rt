@@ -3,7 +3,7 @@
 #![tactic(auto)]
 
 ghost use Rattle.std.specs.Prelude.{◌≡◌, [], ◌∷◌, length};
-ghost use Rattle.rules.specs.Told.{gives, number, told_length};
+ghost use Rattle.rules.specs.Told.{gives, number, told};
 ghost use Rattle.rules.specs.Frame.{known};
 ghost use Rattle.rules.specs.Check.{check_told};
 ghost use Rattle.rules.specs.Fetch.{fetch_told, ordinal, text_told};
@@ -15,8 +15,8 @@ ghost use Rattle.csv_rules.specs.Spot.{csv_spot};
 ghost use Rattle.spot.specs.Spot.{spot_of};
 ghost use Rattle.oul_c.specs.Numbers.{count_numbers, span_numbers, segment_numbers, spot_numbers, sheet_numbers, one_number, Tells, TellsWritten, TellsNext};
 
-use csv_rules::{Counted, FileFault, Made};
-use rules::{Answer, Fetched, Found, Kind, Refusal, Written};
+use csv_rules::{FileFault, NotMade};
+use rules::{Kind, Refusal};
 
 // The counts of the specimens, orders and results of a message.
 #[unsafe(no_mangle)]
@@ -24,11 +24,11 @@ pub extern "C" fn oul_check(m: &[u8], told: &mut [usize; 3]) -> usize
     ensures { Tells count_numbers (check_told m.now) result told.new }
 {
     match oul::check(m) {
-        Answer::Accepted(counts) => {
+        Ok(counts) => {
             *told = [counts.spm, counts.obr, counts.obx];
             0
         }
-        Answer::Refused(r) => refuse(r, told),
+        Err(r) => refuse(r, told),
     }
 }
 
@@ -44,11 +44,11 @@ pub extern "C" fn oul_locate(
     ensures { Tells span_numbers (fetch_told m.now ordinal field component) result told.new }
 {
     match oul::locate(m, ordinal, field, component) {
-        Fetched::At(p) => {
+        Ok(p) => {
             *told = [p.start, p.len, 0];
             0
         }
-        Fetched::NotFetched(r) => refuse(r, told),
+        Err(r) => refuse(r, told),
     }
 }
 
@@ -89,18 +89,11 @@ pub extern "C" fn oul_segment(m: &[u8], number: usize, told: &mut [usize; 3]) ->
     ensures { Tells segment_numbers (ordinal (known m.now) number) result told.new }
 {
     match oul::known_segment(m, number) {
-        Found::At(s) => {
+        Some(s) => {
             *told = [s.start, s.len, 0];
             0
         }
-        Found::Nothing => refuse(
-            Refusal {
-                kind: Kind::NoOrdinal,
-                segment: 0,
-                field: 0,
-            },
-            told,
-        ),
+        None => refuse(Kind::NoOrdinal.into(), told),
     }
 }
 
@@ -121,11 +114,11 @@ pub extern "C" fn oul_csv_count(file: &[u8], told: &mut [usize; 3]) -> usize
     ensures { Tells sheet_numbers (csv_count file.now) result told.new }
 {
     match oul::csv_count(file) {
-        Counted::Sheets(sheets) => {
+        Ok(sheets) => {
             *told = [sheets.count, sheets.first, 0];
             0
         }
-        Counted::NotCounted(fault) => faulty(fault, told),
+        Err(fault) => faulty(fault, told),
     }
 }
 
@@ -159,8 +152,7 @@ pub extern "C" fn oul_csv_next(
     ensures { TellsNext (csv_next file.now at (record { mode = mode.now; sent = sent.now; control = control.now }) (length out.old)) (place_after file.now at) out.old result told.new out.new }
 {
     let next = oul::csv_next(file, at, mode, sent, control, out);
-    let answer = next.made;
-    let number = made(answer, told);
+    let number = made(next.made, told);
     told[2] = next.place;
     number
 }
@@ -176,15 +168,15 @@ pub extern "C" fn oul_csv_spot(file: &[u8], told: &mut [usize; 3]) -> usize
 
 // ---- answers as numbers
 // How many bytes were written, as numbers.
-fn written(answer: Written, told: &mut [usize; 3]) -> usize
-    ensures { Tells one_number (told_length answer) result told.new }
+fn written(answer: Result<usize, Refusal>, told: &mut [usize; 3]) -> usize
+    ensures { Tells one_number (told answer) result told.new }
 {
     match answer {
-        Written::Wrote(n) => {
+        Ok(n) => {
             *told = [n, 0, 0];
             0
         }
-        Written::NotWritten(r) => refuse(r, told),
+        Err(r) => refuse(r, told),
     }
 }
 
@@ -194,8 +186,7 @@ fn refuse(r: Refusal, told: &mut [usize; 3]) -> usize
     ensures told_after { told.new ≡ r.segment ∷ r.field ∷ 0 ∷ [] }
 {
     *told = [r.segment, r.field, 0];
-    let kind = r.kind;
-    rules::paper_number(kind)
+    rules::paper_number(r.kind)
 }
 
 // A file's fault, which names no place.
@@ -208,15 +199,15 @@ fn faulty(fault: FileFault, told: &mut [usize; 3]) -> usize
 }
 
 // How many bytes the sheet has, or its refusal.
-fn made(answer: Made, told: &mut [usize; 3]) -> usize
+fn made(answer: Result<usize, NotMade>, told: &mut [usize; 3]) -> usize
     ensures { Tells one_number (told_made answer) result told.new }
 {
     match answer {
-        Made::Sheet(n) => {
+        Ok(n) => {
             *told = [n, 0, 0];
             0
         }
-        Made::Unfit(r) => refuse(r, told),
-        Made::Faulty(fault) => faulty(fault, told),
+        Err(NotMade::Unfit(r)) => refuse(r, told),
+        Err(NotMade::Faulty(fault)) => faulty(fault, told),
     }
 }

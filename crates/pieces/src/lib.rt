@@ -21,12 +21,13 @@ pub fn reach(s: &[u8], sep: u8, n: usize) -> Piece
     ensures nearest { Nearest sep n s.now result.number result.start result.len }
     ensures within { result.start + result.len ≤ length s.now }
 {
-    let first = scan::find(s, 0x0D, sep);
     let mut p = Piece {
         number: 0,
         start: 0,
-        len: first,
+        len: scan::find(s, 0x0D, sep),
     };
+
+    // Not a `for` up to n: the pieces are counted by their own numbers, and the walk may end before the n-th.
     while p.number < n {
         let end = p.start + p.len;
         if end == s.len() {
@@ -34,8 +35,7 @@ pub fn reach(s: &[u8], sep: u8, n: usize) -> Piece
         }
         let start = end + 1;
         let len = scan::find(&s[start..], 0x0D, sep);
-        let next = following(p, start, len);
-        p = next;
+        p = following(p, start, len);
     }
     p
 }

@@ -1,6 +1,7 @@
 -- The text of each segment is what its pattern says. Assumes nothing.
 use mathlib.Core.Path.{◌≡◌}
-use mathlib.Core.Bool.{true, false}
+use mathlib.Core.Bool.{Bool, true, false}
+use lib.Dec.{eqb}
 use mathlib.Core.List.{List, [], ◌∷◌, append_assoc, append-nil}
 use Prim.Native.Nat.{ℕ}
 use lib.ListN.{length, drop}
@@ -13,10 +14,10 @@ use Rattle.rules.specs.Row.{line, lines, row_of}
 use Rattle.rules.specs.Sheet.{key_of}
 use Rattle.rules.specs.Message.{composed, blanks, encoding, name_text, names_text, pieces_of, segment_text, zeros}
 use Rattle.rules.proofs.Logic.{not-true, not-false}
-use Rattle.rules.proofs.Lists.{empty-zero, filled-some}
 use Rattle.writer.specs.Over.{Fit}
 use Rattle.writer.specs.Woven.{delimiter_of, taken, slot_text, first_text, woven}
 use Rattle.groups.specs.Groups.{values_from}
+use Rattle.groups.proofs.Laws.{blank-by}
 use Rattle.segments.specs.Segments.{row_pieces, group_pieces, group_segment, has_kana}
 
 -- to unfold this name is to unfold the patterns, the lines and the segments
@@ -89,10 +90,10 @@ module _ (d : Delims) (ts : List (List ℕ)) (r : ℕ) (x old : List ℕ) where
 
 -- ---- which of two patterns
 module _ (ts : List (List ℕ)) where
-  pub kana-none : (k : List ℕ) → k ≡ drop 11 (nth ts 3) → length k ≡ 0 → has_kana ts ≡ false
+  pub kana-none : (k : List ℕ) (q : Bool) → k ≡ drop 11 (nth ts 3) → q ≡ eqb (length k) 0 → q ≡ true → has_kana ts ≡ false
   unfolding shapes
-  kana-none k e h = rw (← e, empty-zero k h)
+  kana-none k q e f h = rw (← e, ← blank-by k f, h)
 
-  pub kana-some : (k : List ℕ) → k ≡ drop 11 (nth ts 3) → (length k ≡ 0 → ⊥) → has_kana ts ≡ true
+  pub kana-some : (k : List ℕ) (q : Bool) → k ≡ drop 11 (nth ts 3) → q ≡ eqb (length k) 0 → q ≡ false → has_kana ts ≡ true
   unfolding shapes
-  kana-some k e h = rw (← e, filled-some k h)
+  kana-some k q e f h = rw (← e, ← blank-by k f, h)

@@ -17,9 +17,9 @@ pub fn header(out: &mut [u8], g: &Group, d: Delims) -> usize
     ensures fit { Fit result out.new (group_segment d zeros Name.Msh 0 (lines_of g.now)) out.old }
     ensures within { result ≤ longest_segment }
 {
-    let mode = g.value_at(1, keys::MODE.len());
-    let sent = g.value_at(2, keys::SENT.len());
-    let control = g.value_at(3, keys::CONTROL.len());
+    let mode = g.value_at(1, &keys::MODE);
+    let sent = g.value_at(2, &keys::SENT);
+    let control = g.value_at(3, &keys::CONTROL);
     writer::fit_woven(
         out,
         b"#|^~\\&|||||$||OUL^R22^OUL_R22|$|$|2.5||||||~ISO IR87||ISO 2022-1994\r",
@@ -34,11 +34,11 @@ fn kanji_alone(out: &mut [u8], g: &Group, d: Delims) -> usize
     ensures fit { Fit result out.new (group_segment d zeros Name.Pid 0 (lines_of g.now)) out.old }
     ensures within { result ≤ longest_segment }
 {
-    let id = g.value_at(0, keys::PATIENT.len());
-    let family = g.value_at(1, keys::FAMILY.len());
-    let given = g.value_at(2, keys::GIVEN.len());
-    let birth = g.value_at(5, keys::BIRTH.len());
-    let sex = g.value_at(6, keys::SEX.len());
+    let id = g.value_at(0, &keys::PATIENT);
+    let family = g.value_at(1, &keys::FAMILY);
+    let given = g.value_at(2, &keys::GIVEN);
+    let birth = g.value_at(5, &keys::BIRTH);
+    let sex = g.value_at(6, &keys::SEX);
     writer::fit_woven(
         out,
         b"#|||$||$^$^^^^^L^I||$|$\r",
@@ -53,13 +53,13 @@ fn with_kana(out: &mut [u8], g: &Group, d: Delims) -> usize
     ensures fit { Fit result out.new (group_segment d zeros Name.Pid 0 (lines_of g.now)) out.old }
     ensures within { result ≤ longest_segment }
 {
-    let id = g.value_at(0, keys::PATIENT.len());
-    let family = g.value_at(1, keys::FAMILY.len());
-    let given = g.value_at(2, keys::GIVEN.len());
-    let kana_family = g.value_at(3, keys::KANA_FAMILY.len());
-    let kana_given = g.value_at(4, keys::KANA_GIVEN.len());
-    let birth = g.value_at(5, keys::BIRTH.len());
-    let sex = g.value_at(6, keys::SEX.len());
+    let id = g.value_at(0, &keys::PATIENT);
+    let family = g.value_at(1, &keys::FAMILY);
+    let given = g.value_at(2, &keys::GIVEN);
+    let kana_family = g.value_at(3, &keys::KANA_FAMILY);
+    let kana_given = g.value_at(4, &keys::KANA_GIVEN);
+    let birth = g.value_at(5, &keys::BIRTH);
+    let sex = g.value_at(6, &keys::SEX);
     writer::fit_woven(
         out,
         b"#|||$||$^$^^^^^L^I~$^$^^^^^L^P||$|$\r",
@@ -82,8 +82,8 @@ pub fn patient(out: &mut [u8], g: &Group, d: Delims) -> usize
     ensures fit { Fit result out.new (group_segment d zeros Name.Pid 0 (lines_of g.now)) out.old }
     ensures within { result ≤ longest_segment }
 {
-    let kana_family = g.value_at(3, keys::KANA_FAMILY.len());
-    if kana_family.len() == 0 {
+    let kana_family = g.value_at(3, &keys::KANA_FAMILY);
+    if kana_family.is_empty() {
         return kanji_alone(out, g, d);
     }
     with_kana(out, g, d)
@@ -94,7 +94,7 @@ pub fn visit(out: &mut [u8], g: &Group, d: Delims) -> usize
     ensures fit { Fit result out.new (group_segment d zeros Name.Pv1 0 (lines_of g.now)) out.old }
     ensures within { result ≤ longest_segment }
 {
-    let class = g.value_at(0, keys::CLASS.len());
+    let class = g.value_at(0, &keys::CLASS);
     writer::fit_woven(out, b"#||$\r", &[&rules::PV1, class], d)
 }
 
@@ -105,8 +105,8 @@ pub fn order(out: &mut [u8], g: &Group, d: Delims) -> usize
     ensures fit { Fit result out.new (group_segment d zeros Name.Obr 0 (lines_of g.now)) out.old }
     ensures within { result ≤ longest_segment }
 {
-    let id = g.value_at(0, keys::ORDER.len());
-    let group = g.value_at(1, keys::GROUP.len());
+    let id = g.value_at(0, &keys::ORDER);
+    let group = g.value_at(1, &keys::GROUP);
     writer::fit_woven(out, b"#||$||$^^99003\r", &[&rules::OBR, id, group], d)
 }
 
@@ -115,6 +115,6 @@ pub fn common_order(out: &mut [u8], g: &Group, d: Delims) -> usize
     ensures fit { Fit result out.new (group_segment d zeros Name.Obr 1 (lines_of g.now)) out.old }
     ensures within { result ≤ longest_segment }
 {
-    let id = g.value_at(0, keys::ORDER.len());
+    let id = g.value_at(0, &keys::ORDER);
     writer::fit_woven(out, b"#|RE|$\r", &[&rules::ORC, id], d)
 }

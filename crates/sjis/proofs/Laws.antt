@@ -1,58 +1,21 @@
 -- The laws of one character, and of a walk over an item as it lies in the file. Assumes nothing.
 use mathlib.Core.Path.{◌≡◌, refl, sym, ap, ◌∙◌}
-use mathlib.Core.Bool.{Bool, true, false, cond, not, ◌&&◌, ◌||◌}
+use mathlib.Core.Bool.{Bool, true, false, not, ◌&&◌}
 use mathlib.Core.List.{List, [], ◌∷◌}
 use mathlib.Core.Option.{none}
-use Prim.Native.Nat.{ℕ, ◌+◌, ◌-◌, ◌*◌, ◌≤◌, ◌<◌}
+use Prim.Native.Nat.{ℕ, ◌+◌, ◌≤◌, ◌<◌}
 use native.Mathlib.Omega.{arith}
-use borrow.Author.Tests.{le-leb, lt-leb, lt-ltb, le-ltb, leb-true, eq-eqb, ne_eqb, eqb-true, ltb-true, ltb-false, not-true, not-false}
+use borrow.Author.Tests.{lt-leb, leb-true, eq-eqb, ne_eqb, eqb-true, ltb-true, ltb-false, not-true, not-false}
 use lib.Dec.{eqb, leb, ltb}
 use lib.ListN.{length, get_or, drop}
 use Rattle.rules.specs.Lists.{all}
 use Rattle.rules.specs.Shift.{within}
-use Rattle.rules.proofs.Logic.{cases, both, never, and-true, and-false}
+use Rattle.rules.proofs.Logic.{cases, both, never}
 use Rattle.rules.proofs.Lists.{here, over}
-use Rattle.csv_rules.specs.Kanji.{lead, trail, first, second, is_pair, one, pair, characters_at, characters, good_character, convertible}
+use Rattle.csv_rules.specs.Kanji.{lead, trail, is_pair, one, pair, characters_at, characters, good_character, convertible}
 use Rattle.csv_rules.specs.Written.{halved}
 use Rattle.sjis.specs.Texts.{pair_at}
 use Rattle.sjis.specs.Items.{is_clear, NextAt, PastAt, char_at}
-
--- ---- one character
-pub lead_is : (b : ℕ) (p q : Bool) → p ≡ within 0x81 0x9F b → q ≡ within 0xE0 0xEF b → (p || q) ≡ lead b
-lead_is b p q e f = cc
-
-pub trail_is : (b : ℕ) (p q : Bool) → p ≡ within 0x40 0x7E b → q ≡ within 0x80 0xFC b → (p || q) ≡ trail b
-trail_is b p q e f = cc
-
-pub less-low : (l r : ℕ) → l < 0xE0 → r ≡ l - 0x71 → r ≡ l - cond (ltb l 0xE0) 0x71 0xB1
-less-low l r h e = rw (lt-ltb l 0xE0 h) e
-
-pub less-high : (l r : ℕ) → 0xE0 ≤ l → r ≡ l - 0xB1 → r ≡ l - cond (ltb l 0xE0) 0x71 0xB1
-less-high l r h e = rw (le-ltb l 0xE0 h) e
-
-pub first-low : (l t n : ℕ) → t ≤ 0x9E → n ≡ l - cond (ltb l 0xE0) 0x71 0xB1 → 2 * n + 1 ≡ first l t
-unfolding first
-first-low l t n h e = rw (e, le-leb t 0x9E h) (omega arith)
-
-pub first-high : (l t n : ℕ) → 0x9E < t → n ≡ l - cond (ltb l 0xE0) 0x71 0xB1 → 2 * n + 2 ≡ first l t
-unfolding first
-first-high l t n h e = rw (e, lt-leb t 0x9E h) (omega arith)
-
-pub second-low : (t r : ℕ) → t ≤ 0x7E → r ≡ t - 0x1F → r ≡ second t
-unfolding second
-second-low t r h e = rw (le-leb t 0x7E h) e
-
-pub second-mid : (t r : ℕ) → 0x7E < t → t ≤ 0x9E → r ≡ t - 0x20 → r ≡ second t
-unfolding second
-second-mid t r h k e = rw (lt-leb t 0x7E h, le-leb t 0x9E k) e
-
-pub second-high : (t r : ℕ) → 0x7E < t → 0x9E < t → r ≡ t - 0x7E → r ≡ second t
-unfolding second
-second-high t r h k e = rw (lt-leb t 0x7E h, lt-leb t 0x9E k) e
-
-pub clear-is : (b : ℕ) (p : Bool) → p ≡ within 0x20 0x7E b → (p && not (eqb b 0x22)) ≡ is_clear b
-unfolding is_clear
-clear-is b p e = rw e
 
 -- ---- a byte at a place
 two_here : (s : List ℕ) (i j : ℕ) → j ≡ i + 1 → j < length s → drop i s ≡ get_or s i 0 ∷ (get_or s j 0 ∷ drop (i + 2) s)
@@ -101,14 +64,6 @@ module _ (s : List ℕ) (i j : ℕ) (h : i < length s) (e : j ≡ i + 1) where
 
   pub next_one : (get_or s i 0 ≡ 0x22 → ⊥) → NextAt s i j
   next_one q = next-single (ne_eqb (get_or s i 0) 0x22 q)
-
-  pub no-pair : length s ≤ j → false ≡ pair_at s i
-  unfolding pair_at
-  no-pair l = rw (le-ltb (i + 1) (length s) (omega arith)) (sym (and-false (lead (get_or s i 0))))
-
-  pub pair-if : (q : Bool) → j < length s → q ≡ lead (get_or s i 0) → q ≡ pair_at s i
-  unfolding pair_at
-  pair-if q l f = rw (lt-ltb (i + 1) (length s) (omega arith)) (f ∙ sym (and-true (lead (get_or s i 0))))
 
 -- ---- a character at a place
 char-pair : (b t : ℕ) (s : List ℕ) → lead b ≡ true → characters_at none (b ∷ (t ∷ s)) ≡ pair b t ∷ characters_at none s

@@ -1,6 +1,6 @@
 // Shift_JIS (Req 01): whether an item of the commercial centre's file converts, and the item converted, from how it lies in the file, its quotes
 // doubled.
-#![tactic(auto)]
+#![tactic(auto, unfolding(csv_rules::specs::Kanji::first, csv_rules::specs::Kanji::second, crate::specs::Items::is_clear, crate::specs::Texts::pair_at))]
 
 ghost use Rattle.std.specs.Prelude.{◌≡◌, false, cond, ltb, ◌-◌, ◌≤◌, ◌<◌, length};
 ghost use Rattle.csv_rules.specs.Kanji as Kanji;
@@ -31,60 +31,41 @@ fn is_trail(b: u8) -> bool
     plain_bytes::in_range(0x40, 0x7E, b) | plain_bytes::in_range(0x80, 0xFC, b)
 }
 
-// a less b, nothing where b is more.
-fn less(a: u8, b: u8) -> u8
-    ensures { result ≡ a - b }
-{
-    if a < b { 0 } else { a - b }
-}
-
 // The lead less 71, or less B1 from E0 on.
 fn lead_less(l: u8) -> u8
     ensures value { result ≡ l - cond (ltb l 0xE0) 0x71 0xB1 }
     ensures within { result < 0x6F }
 {
-    if l < 0xE0 {
-        return less(l, 0x71);
-    }
-    less(l, 0xB1)
+    l.saturating_sub(if l < 0xE0 { 0x71 } else { 0xB1 })
 }
 
 // The first byte of a pair's image.
 fn pair_first(l: u8, t: u8) -> u8
     ensures { result ≡ Kanji.first l t }
 {
-    let n = lead_less(l);
-    if t <= 0x9E {
-        return 2 * n + 1;
-    }
-    2 * n + 2
+    2 * lead_less(l) + if t <= 0x9E { 1 } else { 2 }
 }
 
 // The second.
 fn pair_second(t: u8) -> u8
     ensures { result ≡ Kanji.second t }
 {
-    if t <= 0x7E {
-        return less(t, 0x1F);
+    match t {
+        0..=0x7E => t.saturating_sub(0x1F),
+        0x7F..=0x9E => t.saturating_sub(0x20),
+        _ => t.saturating_sub(0x7E),
     }
-    if t <= 0x9E {
-        return less(t, 0x20);
-    }
-    less(t, 0x7E)
 }
 
 // ---- an item, character by character
+// The loops count an index: a step goes past a character, one byte to four, which no `for` over the bytes does.
 
 // Whether a pair stands at a place: a lead byte, and any byte after it.
 fn pair_at(raw: &[u8], i: usize) -> bool
     requires { i < length raw.now }
     ensures { result ≡ pair_at raw.now i }
 {
-    let j = i + 1;
-    if j >= raw.len() {
-        return false;
-    }
-    is_lead(raw[i])
+    is_lead(raw[i]) && i + 1 < raw.len()
 }
 
 // The place behind a byte of the item, and behind the second of two quotes.
@@ -108,8 +89,7 @@ fn past_raw(raw: &[u8], i: usize) -> usize
     ensures { PastAt raw.now i result }
 {
     if pair_at(raw, i) {
-        let j = i + 1;
-        return next_raw(raw, j);
+        return next_raw(raw, i + 1);
     }
     next_raw(raw, i)
 }
@@ -120,8 +100,7 @@ fn good_at(raw: &[u8], i: usize) -> bool
     ensures { result ≡ good_character (char_at raw.now i) }
 {
     if pair_at(raw, i) {
-        let j = i + 1;
-        return is_trail(raw[j]);
+        return is_trail(raw[i + 1]);
     }
     plain_bytes::is_plain(raw[i])
 }
@@ -190,8 +169,7 @@ fn put_next(out: &mut [u8], at: usize, two: bool, raw: &[u8], i: usize) -> usize
 {
     let b = raw[i];
     if pair_at(raw, i) {
-        let j = i + 1;
-        return put_pair(out, at, two, b, raw[j]);
+        return put_pair(out, at, two, b, raw[i + 1]);
     }
     put_one(out, at, two, b)
 }
@@ -211,10 +189,9 @@ pub fn put_converted(out: &mut [u8], at: usize, raw: &[u8]) -> usize
             i += 1;
             continue;
         }
-        let n = past_raw(raw, i);
         k = put_next(out, k, two, raw, i);
         two = pair_at(raw, i);
-        i = n;
+        i = past_raw(raw, i);
     }
     put_end(out, k, two)
 }

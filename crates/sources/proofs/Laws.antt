@@ -37,6 +37,16 @@ piece_is t n sep e = ap (λ k. met (take k t)) e ∙ piece-met (is_byte sep) t
 pub piece-long : (p : ℕ → Bool) (t a : List ℕ) → met a ≡ until p (met t) → length a ≡ length (until p (met t))
 piece-long p t a e = sym (length-met a) ∙ ap length e
 
+until-within : (p : ℕ → Bool) (m : List ℕ) → length (until p m) ≤ length m
+unfolding until
+until-within p [] = omega arith
+until-within p (x ∷ m) = cases (p x) (λ e. rw (e, length) (omega arith)) (λ e. rw (e, length) (omega (arith, until-within p m)))
+
+pub component-long : (d : Delims) (t a : List ℕ) → met a ≡ until (ends d) (met t) → (length a ≡ length (until (ends d) (met t))) × (length a ≤ length t)
+component-long d t a e =
+    let l : length a ≡ length (until (ends d) (met t)) = piece-long (ends d) t a e in
+    (l, omega (arith, l, until-within (ends d) (met t), length-met t))
+
 -- ---- from behind a component, or a field, the next field is the same
 after-until : (sep : ℕ) (p : ℕ → Bool) → ((b : ℕ) → p b ≡ false → eqb b sep ≡ false) → (m : List ℕ) → after_sep sep (drop (length (until p m)) m) ≡ after_sep sep m
 unfolding until after_sep

@@ -57,7 +57,7 @@ impl<'a> Part<'a> {
 
     // From the next component on, where the one here is read already.
     pub fn next_component(self, read: Part<'a>, d: Delims) -> Part<'a>
-        requires { (length read.text.now ≡ length (until (ends d) (met self.text.now))) × (length read.text.now ≤ length self.text.now) × Proper d }
+        requires { (met read.text.now ≡ until (ends d) (met self.text.now)) × Proper d }
         ensures result_value { met result.text.now ≡ next d (met self.entry.text.now) }
         ensures within { length result.text.now ≤ length self.entry.text.now }
     {

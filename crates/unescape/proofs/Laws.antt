@@ -5,7 +5,7 @@ use mathlib.Core.Path.{◌≡◌, refl, sym, ap, subst, ◌∙◌}
 use mathlib.Core.List.{List, [], ◌∷◌, ◌++◌, append-nil}
 use mathlib.Core.Option.{Option, none, some}
 use mathlib.Core.Bool.{Bool, true, false, cond}
-use borrow.Author.Tests.{le-leb, lt-leb, leb-true, leb-false}
+use borrow.Author.Tests.{leb-true, leb-false}
 use lib.Dec.{eqb, leb}
 use lib.ListN.{length, get_or, take, drop, set, length-append}
 use lib.Seq.{length-take-le}
@@ -13,7 +13,6 @@ use Rattle.rules.proofs.Logic.{cases, option_cases, nothing-some}
 use Rattle.rules.proofs.Escaped.{push_cases}
 use Rattle.rules.proofs.Lists.{here, over}
 use Rattle.rules.proofs.Modes.{byte-met, length-marks}
-use Rattle.scan.specs.Scan.{meets_of}
 use Rattle.rules.specs.declared.Delims.{Delims}
 use Rattle.rules.specs.declared.Mode.{Mode}
 use Rattle.rules.specs.declared.Mode.TheVariants.{One}
@@ -172,42 +171,6 @@ module _ {d : Delims} {raw old x : List ℕ} {at : At} {mode : Mode} {k i : ℕ}
   pub reads_end : {r : Result ℕ NotHeld} → length raw ≤ i → r ≡ answer_of at k (length x) → Fits r (unescape d (met raw)) x
   reads_end {r} h e =
       subst (λ (w : Result ℕ NotHeld). Fits w (unescape d (met raw)) x) (sym e) (fits-end at d (unescape d (met raw)) p.done old x k (all_read h) p.ends p.holds p.room)
-
--- ---- the code's steps
-pub answer-got : (t : At) (k room : ℕ) → t ≡ Plain → k ≤ room → Ok k ≡ answer_of t k room
-answer-got t k room e h = cc (le-leb k room h)
-
-pub answer-over : (t : At) (k room : ℕ) → t ≡ Plain → room < k → Err (Over k) ≡ answer_of t k room
-answer-over t k room e h = cc (lt-leb k room h)
-
-module _ (d : Delims) (at : At) (x : ℕ) where
-  pub turn-open : (t : Bool) → at ≡ Plain → t ≡ meets_of d.escape x → t ≡ true → Opened ≡ turn_of d at x
-  unfolding turn_of meets_of
-  turn-open t e f g = cc
-
-  pub turn-sub : (t u : Bool) → at ≡ Plain → t ≡ meets_of d.escape x → t ≡ false → u ≡ meets_of d.sub x → u ≡ true → Broken ≡ turn_of d at x
-  unfolding turn_of meets_of
-  turn-sub t u e f g h k = cc
-
-  pub turn-text : (t u : Bool) → at ≡ Plain → t ≡ meets_of d.escape x → t ≡ false → u ≡ meets_of d.sub x → u ≡ false → Plain ≡ turn_of d at x
-  unfolding turn_of meets_of
-  turn-text t u e f g h k = cc
-
-  pub turn-named : (r : At) → at ≡ Opened → r ≡ named_of d x → r ≡ turn_of d at x
-  unfolding turn_of
-  turn-named r e f = cc
-
-  pub turn-close : (t : Bool) (v : ℕ) → at ≡ Named v → t ≡ meets_of d.escape x → t ≡ true → Plain ≡ turn_of d at x
-  unfolding turn_of meets_of
-  turn-close t v e f g = cc
-
-  pub turn-bad : (t : Bool) (v : ℕ) → at ≡ Named v → t ≡ meets_of d.escape x → t ≡ false → Broken ≡ turn_of d at x
-  unfolding turn_of meets_of
-  turn-bad t v e f g = cc
-
-  pub turn-broken : at ≡ Broken → Broken ≡ turn_of d at x
-  unfolding turn_of
-  turn-broken e = cc
 
 -- ---- what an answer says
 pub got-low : (u : Result ℕ NotHeld) (n : ℕ) (o : Option (List ℕ)) (x : List ℕ) → u ≡ Ok n → Fits u o x → n ≤ length x

@@ -1,5 +1,5 @@
 // A component without its escapes: "the escape byte, one of F S T R E, the escape byte".
-#![tactic(auto)]
+#![tactic(auto, unfolding(scan::specs::Scan::meets_of, crate::specs::Unescaped::turn_of, rules::specs::Shift::is_one, rules::specs::Shift::mark, crate::specs::Unescaped::named_of))]
 
 ghost use Rattle.std.specs.Prelude.{◌≡◌, ◌+◌, ◌<◌};
 ghost use Rattle.rules.specs.Shift.{mark, met};
@@ -28,22 +28,17 @@ pub enum NotHeld {
 fn named(mode: Mode, b: u8, d: Delims) -> At
     ensures { result ≡ named_of d (mark mode b) }
 {
-    if scan::meets(mode, b, b'F') {
-        return At::Named(d.field);
+    if mode != Mode::One {
+        return At::Broken;
     }
-    if scan::meets(mode, b, b'S') {
-        return At::Named(d.component);
+    match b {
+        b'F' => At::Named(d.field),
+        b'S' => At::Named(d.component),
+        b'T' => At::Named(d.sub),
+        b'R' => At::Named(d.repetition),
+        b'E' => At::Named(d.escape),
+        _ => At::Broken,
     }
-    if scan::meets(mode, b, b'T') {
-        return At::Named(d.sub);
-    }
-    if scan::meets(mode, b, b'R') {
-        return At::Named(d.repetition);
-    }
-    if scan::meets(mode, b, b'E') {
-        return At::Named(d.escape);
-    }
-    At::Broken
 }
 
 // After one byte more.

@@ -33,7 +33,7 @@ pub fn put_at(out: &mut [u8], at: usize, bytes: &[u8]) -> usize
     at + n
 }
 
-// A number in decimal.
+// A number in decimal. (Written out: what prints a number for Display goes to a writer that may fail, and this can't.)
 pub fn put_number(out: &mut [u8], n: usize) -> usize
     requires { length (decimal n) ≤ length out.old }
     ensures { Wrote result out.new (decimal n) out.old }
@@ -53,7 +53,7 @@ pub fn put_number_at(out: &mut [u8], at: usize, n: usize) -> usize
     at + put_number(&mut out[at..], n)
 }
 
-// ---- escaped text
+// ---- escaped text: what is written has a measure beside it, since a write that counts as well would test the room at each byte
 
 // The letter that stands for a delimiter; another byte has none.
 #[tactic(auto, using(crate::proofs::Escapes::letter_laws))]

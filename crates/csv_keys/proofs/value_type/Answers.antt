@@ -7,8 +7,8 @@ use Rattle.csv_keys.proofs.value_type.Goals as goal
 pub returns-then-form-equal : goal.returns-then-form-equal
 returns-then-form-equal c = search (kind-sn, rules)
 
-pub returns-then-fine : goal.returns-then-fine
-returns-then-fine c = search (kind-nm, rules)
+pub returns-then-is_ok : goal.returns-then-is_ok
+returns-then-is_ok c = search (kind-nm, rules)
 
 pub returns : goal.returns
 returns c = search (kind-st, rules)
@@ -17,9 +17,9 @@ pub in_place-requires : goal.in_place-requires
 unfolding all
 in_place-requires c = refl
 
-pub in_place-requires-then-fine : goal.in_place-requires-then-fine
+pub in_place-requires-then-is_ok : goal.in_place-requires-then-is_ok
 unfolding all
-in_place-requires-then-fine c = refl
+in_place-requires-then-is_ok c = refl
 
 pub in_place-requires-2 : goal.in_place-requires-2
 unfolding all

@@ -1,5 +1,4 @@
 use borrow.Author.Rules.{rules}
-use Prim.Native.Nat.{◌-◌}
 use Rattle.pieces.proofs.Laws.{reach-last, reach-there, walked_next, walked-starts}
 use Rattle.pieces.proofs.reach.Goals as goal
 

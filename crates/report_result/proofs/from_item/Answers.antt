@@ -1,12 +1,7 @@
-use borrow.Author.Rules.{rules}
-use Rattle.sources.proofs.Laws.{piece-long}
 use mathlib.Core.Path.{refl}
 use Rattle.rules.specs.Lists.{bytes}
 use Rattle.report_result.proofs.Laws.{from_item_is}
 use Rattle.report_result.proofs.from_item.Goals as goal
-
-pub next_component-u-requires : goal.next_component-u-requires
-next_component-u-requires c = search (piece-long, rules)
 
 pub returns : goal.returns
 unfolding bytes

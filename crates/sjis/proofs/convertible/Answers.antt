@@ -1,5 +1,4 @@
 use borrow.Author.Rules.{rules}
-use Prim.Native.Nat.{◌-◌}
 use Rattle.sjis.proofs.Laws.{good-starts, clear-on, good-bad, good-on, good-ends}
 use Rattle.sjis.proofs.convertible.Goals as goal
 

@@ -2,8 +2,8 @@ use borrow.Author.Rules.{rules}
 use Rattle.sjis.proofs.Laws.{pair_inside, good-pair, good-one}
 use Rattle.sjis.proofs.good_at.Goals as goal
 
-pub bounds-raw-j : goal.bounds-raw-j
-bounds-raw-j c = search (pair_inside, rules)
+pub bounds-raw-i : goal.bounds-raw-i
+bounds-raw-i c = search (pair_inside, rules)
 
 pub returns-then-pair_at : goal.returns-then-pair_at
 returns-then-pair_at c = search (good-pair, rules)

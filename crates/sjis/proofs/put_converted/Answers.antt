@@ -1,5 +1,4 @@
 use borrow.Author.Rules.{rules}
-use Prim.Native.Nat.{◌-◌}
 use Rattle.sjis.proofs.Writing.{text-starts, clear-on, text-on, text-ends}
 use Rattle.sjis.proofs.put_converted.Goals as goal
 

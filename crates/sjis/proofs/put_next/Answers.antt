@@ -3,8 +3,8 @@ use Rattle.sjis.proofs.Laws.{pair_inside}
 use Rattle.sjis.proofs.Writing.{next-pair, next_one}
 use Rattle.sjis.proofs.put_next.Goals as goal
 
-pub bounds-raw-j : goal.bounds-raw-j
-bounds-raw-j c = search (pair_inside, rules)
+pub bounds-raw-i-then-pair_at : goal.bounds-raw-i-then-pair_at
+bounds-raw-i-then-pair_at c = search (pair_inside, rules)
 
 pub returns-then-pair_at : goal.returns-then-pair_at
 returns-then-pair_at c = search (next-pair, rules)

@@ -1,6 +1,6 @@
-use borrow.Author.Rules.{rules}
-use Rattle.groups.proofs.Laws.{agrees-is}
+use Rattle.groups.specs.Groups.{four_of}
+use Rattle.groups.proofs.Laws.{filled-by}
 use Rattle.groups.proofs.Obx5.agrees.Goals as goal
 
 pub returns : goal.returns
-returns c = search (agrees-is, rules)
+returns c = c.agrees.ensures (four_of c.args.self.now) (filled-by _ c.is_empty.ensures) c.beside.ensures
