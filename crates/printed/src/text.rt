@@ -5,7 +5,7 @@ ghost use Rattle.printed.specs.Printed.{line_text};
 
 use std::marker::Model;
 
-// A text of at most N bytes.
+// A text of at most N bytes. It takes piece by piece, and not by `write!`, whose answer may be a failure: with room for a piece none can come.
 #[derive(Drop)]
 pub struct Text<const N: usize> {
     room: [u8; N],

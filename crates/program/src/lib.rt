@@ -66,7 +66,7 @@ impl Program<'_> {
         self.read_all(path, &mut file, buf)
     }
 
-    // Reads until the input ends or the buffer is full.
+    // Reads until the input ends or the buffer is full. A `while`, since a read brings as many bytes as it likes, and std's `read_to_end` allocates.
     fn read_all<R: Read>(&self, file: &[u8], reader: &mut R, buf: &mut [u8]) -> Result<usize, Told>
         ensures { InBuffer (length buf.new) result }
     {
@@ -133,7 +133,7 @@ impl Program<'_> {
         let words = front(&text, n);
         let end = words
             .windows(NUMBER.len())
-            .position(|w| w == NUMBER.as_slice())
+            .position(|w| w == NUMBER)
             .unwrap_or(n);
         self.say(front(words, end));
     }
@@ -149,7 +149,7 @@ impl Program<'_> {
     }
 }
 
-const NUMBER: [u8; 11] = *b" (os error ";
+const NUMBER: &[u8] = b" (os error ";
 
 // How many bytes an error's text has, which is put at the front of the buffer.
 fn put_error(text: &mut [u8], error: &io::Error) -> usize {
