@@ -7,7 +7,7 @@ use lib.Dec.{eqb}
 use native.Mathlib.Numerals.{add-one}
 use lib.ListN.{length, take, drop, length-append}
 use borrow.Author.Tests.{eqb-true}
-use mathlib.Core.Bool.{Bool, ◌&&◌}
+use mathlib.Core.Bool.{Bool, true, false, ◌&&◌}
 use Rattle.rules.specs.Frame.{segments, segments_ok}
 use Rattle.rules.specs.Lists.{split, all_but_last, last, all, empty}
 use Rattle.rules.proofs.Logic.{cases}
@@ -19,47 +19,13 @@ use Rattle.plain_bytes.specs.Bytes.{until}
 use Rattle.plain_bytes.proofs.Laws.{split-last, split-more}
 use Rattle.frame.specs.Frame.{good_of}
 use Rattle.frame.specs.Taken.{Taken, Ended}
-use Rattle.frame.proofs.Laws.{segments-next, and-exchange}
-
--- what stands before the first separator, the separator and what follows are the whole
-cut-whole : (sep : ℕ) (s : List ℕ) → length (until (Bytes.is_byte sep) s) < length s
-    → s ≡ take (length (until (Bytes.is_byte sep) s)) s ++ sep ∷ drop (suc (length (until (Bytes.is_byte sep) s))) s
-unfolding until
-cut-whole sep [] h = absurd (omega arith)
-cut-whole sep (x ∷ s) h =
-    cases (eqb x sep)
-    (λ e. let q : x ≡ sep = eqb-true x sep e in cc)
-    (λ e. let z : length (until (Bytes.is_byte sep) (x ∷ s)) ≡ suc (length (until (Bytes.is_byte sep) s)) = cc in
-    cc (cut-whole sep s (omega arith)))
-
--- what the iterator's code has: r is the rest, n how many bytes stand before its first 0D
-module _ (r : List ℕ) (n : ℕ) (en : n ≡ length (until (Bytes.is_byte 0x0D) r)) where
-  -- without a 0D there is no segment
-  pub none-left : n ≡ length r → segments r ≡ []
-  unfolding segments all_but_last
-  none-left h = ap all_but_last (split-last 0x0D r (sym en ∙ h))
-
-  pub none-taken : n ≡ length r → Ended r r
-  none-taken h = record { stays = refl; whole = split-last 0x0D r (sym en ∙ h) }
-
-  module _ (l : n ≤ length r) (ne : n ≡ length r → ⊥) where
-    inside : length (until (Bytes.is_byte 0x0D) r) < length r
-    inside = omega (arith, en, ne, l)
-
-    -- what follows a segment
-    after : take (length r - (n + 1)) (drop (n + 1) r) ≡ drop (n + 1) r
-    after = rest-is r (n + 1)
-
-    pub one-left : segments r ≡ take n r ∷ segments (take (length r - (n + 1)) (drop (n + 1) r))
-    one-left = rw (after, add-one) (segments-next 0 r n en (omega (arith, inside, en)))
-
-    pub fewer-left : length (segments (take (length r - (n + 1)) (drop (n + 1) r))) < length (segments r)
-    fewer-left = rw one-left (omega arith)
-
-    pub one-taken : Taken r (take n r) (take (length r - (n + 1)) (drop (n + 1) r))
-    one-taken = rw (after, add-one, en) (record { lies = cut-whole 0x0D r inside; cut = split-more 0x0D r inside })
 
 -- ---- what a taker learns
+and-exchange : (a b c : Bool) → (a && (b && c)) ≡ (b && (a && c))
+and-exchange true b c = refl
+and-exchange false true c = refl
+and-exchange false false c = refl
+
 module _ (r x t : List ℕ) (h : Taken r x t) where
   pub taken-length : length r ≡ length x + 1 + length t
   taken-length = rw h.lies (length-append x (0x0D ∷ t) ∙ omega arith)
@@ -86,3 +52,41 @@ module _ (r : List ℕ) (h : split 0x0D r ≡ r ∷ []) where
   pub ended-segments : segments r ≡ []
   unfolding segments all_but_last
   ended-segments = ap all_but_last h
+
+-- ---- one segment more
+-- what stands before the first separator, the separator and what follows are the whole
+cut-whole : (sep : ℕ) (s : List ℕ) → length (until (Bytes.is_byte sep) s) < length s
+    → s ≡ take (length (until (Bytes.is_byte sep) s)) s ++ sep ∷ drop (suc (length (until (Bytes.is_byte sep) s))) s
+unfolding until
+cut-whole sep [] h = absurd (omega arith)
+cut-whole sep (x ∷ s) h =
+    cases (eqb x sep)
+    (λ e. let q : x ≡ sep = eqb-true x sep e in cc)
+    (λ e. let z : length (until (Bytes.is_byte sep) (x ∷ s)) ≡ suc (length (until (Bytes.is_byte sep) s)) = cc in
+    cc (cut-whole sep s (omega arith)))
+
+-- ---- what the iterator's code has: r is the rest, n how many bytes stand before its first 0D
+module _ (r : List ℕ) (n : ℕ) (en : n ≡ length (until (Bytes.is_byte 0x0D) r)) where
+  -- without a 0D there is no segment
+  pub none-left : n ≡ length r → segments r ≡ []
+  none-left h = ended-segments r (split-last 0x0D r (sym en ∙ h))
+
+  pub none-taken : n ≡ length r → Ended r r
+  none-taken h = record { stays = refl; whole = split-last 0x0D r (sym en ∙ h) }
+
+  module _ (l : n ≤ length r) (ne : n ≡ length r → ⊥) where
+    inside : length (until (Bytes.is_byte 0x0D) r) < length r
+    inside = omega (arith, en, ne, l)
+
+    -- what follows a segment
+    after : take (length r - (n + 1)) (drop (n + 1) r) ≡ drop (n + 1) r
+    after = rest-is r (n + 1)
+
+    pub one-taken : Taken r (take n r) (take (length r - (n + 1)) (drop (n + 1) r))
+    one-taken = rw (after, add-one, en) (record { lies = cut-whole 0x0D r inside; cut = split-more 0x0D r inside })
+
+    pub one-left : segments r ≡ take n r ∷ segments (take (length r - (n + 1)) (drop (n + 1) r))
+    one-left = taken-segments r (take n r) (take (length r - (n + 1)) (drop (n + 1) r)) one-taken
+
+    pub fewer-left : length (segments (take (length r - (n + 1)) (drop (n + 1) r))) < length (segments r)
+    fewer-left = rw one-left (omega arith)
