@@ -16,6 +16,7 @@ use value::{Place, Rule};
 // ---- one component
 
 // A read component; where it has neither escape byte nor subcomponent separator, it is judged where it lies.
+#[inline(always)]
 fn judge_read(raw: &[u8], d: Delims, clean: bool, required: bool, rule: Rule) -> Result<(), Kind>
     requires { Small rule × (clean ≡ true → Clean d raw.now) }
     ensures { fault_no result ≡ J.judge d required (rule_of rule) (met raw.now) }
