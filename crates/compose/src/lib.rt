@@ -84,6 +84,7 @@ fn verdict(known: bool, name: Name, g: &Group) -> Result<(), LineFault>
     groups::group(name, g)
 }
 
+// The walk is that of `sheets::read_groups`, which stays apart: a sheet of a file is judged without its message, and needn't be measured.
 // A pass over the groups of a sheet. A buffer too short for the message is left in any state, and one with room has the message over its front.
 pub fn pass(out: &mut [u8], sheet: &[u8], d: Delims, known: bool) -> Result<Size, Refusal>
     requires { (length sheet.now ≤ longest_sheet) × (known ≡ true → FaultFree sheet.now) × Proper d }
