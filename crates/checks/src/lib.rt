@@ -27,7 +27,7 @@ fn check_places(m: &[u8], d: Delims) -> Result<(), Refusal>
     let mut ordinal = 1;
     for s in (Segments { rest: m }) {
         let name = names::name_of(s);
-        if names::is(name, Name::Other) {
+        if name == Name::Other {
             continue;
         }
         match places::segment(name, s, d, order) {

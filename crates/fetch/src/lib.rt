@@ -64,7 +64,7 @@ fn part_of(m: &[u8], d: Delims, s: KnownSegment, field: usize, component: usize)
     ensures value { result ≡ span_of d (known_of m.now s) field component }
     ensures within { result.start + result.len ≤ length m.now }
 {
-    if !names::is(s.name, Name::Msh) {
+    if s.name != Name::Msh {
         return component_of(m, d, s, field, component);
     }
     match field {

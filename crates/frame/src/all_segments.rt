@@ -79,7 +79,7 @@ fn counted(seen: Seen, name: Name) -> Seen
     ensures { result ≡ counted_of seen name }
 {
     let segments = seen.segments + 1;
-    if names::is(name, Name::Other) {
+    if name == Name::Other {
         return Seen { segments, ..seen };
     }
     let known = seen.known + 1;

@@ -17,7 +17,7 @@ pub fn known_segment(m: &[u8], ordinal: usize) -> Option<KnownSegment>
     let mut at = 0;
     for s in (Segments { rest: m }) {
         let name = names::name_of(s);
-        if !names::is(name, Name::Other) {
+        if name != Name::Other {
             if left == 0 {
                 return Some(KnownSegment {
                     name,

@@ -16,7 +16,7 @@ use rules::Name;
 pub fn past_group(a: Reached, name: Name) -> Reached
     ensures { reached_of result ≡ past_group (reached_of a) name }
 {
-    if names::is(name, Name::Obr) {
+    if name == Name::Obr {
         return order::past(order::past(a, Name::Obr), Name::Orc);
     }
     order::past(a, name)
