@@ -171,7 +171,7 @@ fn value_type<'a>(row: &RowItems, form: &[u8]) -> RawKey<'a>
     in_place(b"ST")
 }
 
-// The key that a column feeds.
+// The key that a column feeds. (Its way stands beside its number, as in the table of columns: a pair of them would only lengthen each call.)
 pub fn key<'a>(row: &RowItems<'a>, how: How, column: usize) -> RawKey<'a>
     requires { (1 ≤ column) × (column ≤ 45) }
     ensures { KeyIs (raw_by (how_of how) (items_of row.now) column) result.lead.now result.raw.now }

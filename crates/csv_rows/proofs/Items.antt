@@ -363,6 +363,7 @@ module _ (f : List ℕ) (i : ℕ) (p : i ≤ length f) where
               is =
                   with_rest n m (afterwards goes (drop (n + m) f)) o b.is
                   ∙ ap (λ (u : ℕ). put_before (halved false (take (e - s) (drop s f)) ∷ []) (((e - s) + 2) + m) (afterwards goes (drop u f))) z;
+              lies = record { start = s; size = e - s; inside = omega arith; is = refl };
               some = omega arith;
               place = omega (arith, b.place);
             }

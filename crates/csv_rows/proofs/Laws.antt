@@ -20,7 +20,7 @@ use Rattle.csv_rules.specs.Kanji.{convertible}
 use Rattle.csv_rules.specs.Written.{halved}
 use Rattle.csv_rows.specs.Plain.{PlainItem}
 use Rattle.csv_rows.specs.declared.RowItems.{RowItems}
-use Rattle.csv_rows.specs.Rows.{put_before, afterwards, raw_of, raw_items, items_of, noted, Firsts, ItemAt, RowIs}
+use Rattle.csv_rows.specs.Rows.{put_before, afterwards, raw_of, raw_items, items_of, noted, LiesIn, Firsts, ItemAt, RowIs}
 use Rattle.csv_rows.proofs.Items.{before-before, drop-same}
 
 -- ---- the items noted
@@ -42,12 +42,13 @@ one-item : (w : List ℕ) (items : Items) (m : ℕ) → (m ≡ length items → 
 one-item w items m h zero e = absurd (h (omega arith))
 one-item w items m h (suc i) e = refl
 
--- some bytes are those of the first 45 of some items
-pub record Noted (ts : List (List ℕ)) (items : Items) : Type 0 where
+-- some bytes of the file are those of the first 45 of some items
+pub record Noted (f : List ℕ) (ts : List (List ℕ)) (items : Items) : Type 0 where
   pub size : length ts ≡ 45
+  pub within : (n : ℕ) → n < 45 → LiesIn f (nth ts n)
   pub each : (n : ℕ) → n < 45 → halved false (nth ts n) ≡ nth items n
 
-module _ (ts : List (List ℕ)) (items : Items) (n : ℕ) (w : List ℕ) (p : Noted ts items) (e : n ≡ length items) where
+module _ (f : List ℕ) (ts : List (List ℕ)) (items : Items) (n : ℕ) (w : List ℕ) (p : Noted f ts items) (e : n ≡ length items) where
   each_on : (m : ℕ) → m < 45 → halved false (nth (set ts n w) m) ≡ nth (items ++ (halved false w ∷ [])) m
   each_on m h =
       cases (eqb m n)
@@ -60,8 +61,19 @@ module _ (ts : List (List ℕ)) (items : Items) (n : ℕ) (w : List ℕ) (p : No
       ap (halved false) (get_or-set_other ts n m w [] q)
       ∙ p.each m h ∙ sym (nth-more items (halved false w ∷ []) m (one-item (halved false w) items m (λ z. q (z ∙ sym e)))))
 
-  noted_on : Noted (noted n w ts) (items ++ (halved false w ∷ []))
-  noted_on = rw (noted-set ts n w p.size) (record { size = length-set ts n w ∙ p.size; each = each_on })
+  within_on : LiesIn f w → (m : ℕ) → m < 45 → LiesIn f (nth (set ts n w) m)
+  within_on l m h =
+      cases (eqb m n)
+      (λ t.
+      let q : m ≡ n = eqb-true m n t in
+      let z : nth (set ts n w) m ≡ w = ap (nth (set ts n w)) q ∙ get_or-set_same ts n w [] (omega (arith, p.size)) in
+      rw z l)
+      (λ t.
+      let z : nth (set ts n w) m ≡ nth ts m = get_or-set_other ts n m w [] (eqb-false m n t) in
+      rw z (p.within m h))
+
+  noted_on : LiesIn f w → Noted f (noted n w ts) (items ++ (halved false w ∷ []))
+  noted_on l = rw (noted-set ts n w p.size) (record { size = length-set ts n w ∙ p.size; within = within_on l; each = each_on })
 
 -- ---- the items of a row
 halved-nth : (ts : List (List ℕ)) (n : ℕ) → nth (map (halved false) ts) n ≡ halved false (nth ts n)
@@ -74,9 +86,9 @@ pub item-half : (r : RowItems) (n : ℕ) → nth (items_of r) n ≡ halved false
 unfolding items_of
 item-half r n = halved-nth (raw_items r) n
 
-pub noted-row : (r : RowItems) (items : Items) → Noted (raw_items r) items → Firsts r items
+pub noted-row : (f : List ℕ) (r : RowItems) (items : Items) → Noted f (raw_items r) items → Firsts r items
 unfolding items_of
-noted-row r items p = record { size = length-map (raw_items r) (halved false) ∙ p.size; each = λ n h. item-half r n ∙ p.each n h }
+noted-row f r items p = record { size = length-map (raw_items r) (halved false) ∙ p.size; each = λ n h. item-half r n ∙ p.each n h }
 
 -- ---- the row
 pub record Reading (f : List ℕ) (at : ℕ) (known : Bool) (ts : List (List ℕ)) (size count : ℕ) (good : Bool) : Type 0 where
@@ -84,7 +96,7 @@ pub record Reading (f : List ℕ) (at : ℕ) (known : Bool) (ts : List (List ℕ
   pub is : cut (drop at f) ≡ put_before items size (lines_at Comma (drop (at + size) f))
   pub counted : count ≡ length items
   pub converts : good ≡ (known || all convertible items)
-  pub lies : Noted ts items
+  pub lies : Noted f ts items
   pub few : count + count ≤ size
   pub place : at + size ≤ length f
 
@@ -101,9 +113,9 @@ row-begins : (b : ℕ) (s : List ℕ) → cut (b ∷ s) ≡ put_before [] 0 (lin
 unfolding cut lines_at put_before
 row-begins b s = cases (eqb b 0x22) (λ e. rw (e, lines_at) (before-none (λ is. is) (lines_at Quoting.Inside s))) (λ e. rw (e, lines_at))
 
-none-noted : (ts : List (List ℕ)) → ts ≡ replicate 45 [] → Noted ts []
+none-noted : (f : List ℕ) (ts : List (List ℕ)) → ts ≡ replicate 45 [] → Noted f ts []
 unfolding halved
-none-noted ts e = record { size = ap length e; each = λ n h. ap (λ (xs : List (List ℕ)). halved false (nth xs n)) e ∙ ap (halved false) (get_or-replicate 45 n [] [] h) }
+none-noted f ts e = record { size = ap length e; within = λ n h. record { start = 0; size = 0; inside = omega arith; is = ap (λ (xs : List (List ℕ)). nth xs n) e ∙ get_or-replicate 45 n [] [] h }; each = λ n h. ap (λ (xs : List (List ℕ)). halved false (nth xs n)) e ∙ ap (halved false) (get_or-replicate 45 n [] [] h) }
 
 known-or : (known : Bool) → true ≡ (known || true)
 known-or true = refl
@@ -118,7 +130,7 @@ row-starts f ts at known h e = record {
       ∙ ap (λ (s : List ℕ). put_before [] 0 (lines_at Comma s)) (sym (here 0 f at h) ∙ sym (drop-same f at));
   counted = refl;
   converts = known-or known;
-  lies = none-noted ts e;
+  lies = none-noted f ts e;
   few = omega arith;
   place = omega arith;
 }
@@ -184,8 +196,8 @@ module _ (f : List ℕ) (at : ℕ) (known : Bool) (ts : List (List ℕ)) (size c
       on-converts : (good && c) ≡ (known || all convertible (p.items ++ (halved false w ∷ [])))
       on-converts = converts-on known good c p.items (halved false w) p.converts (o ∙ plain_known w known plain d)
 
-      on-noted : Noted xs (p.items ++ (halved false w ∷ []))
-      on-noted = rw e (noted_on ts p.items count w p.lies p.counted)
+      on-noted : Noted f xs (p.items ++ (halved false w ∷ []))
+      on-noted = rw e (noted_on f ts p.items count w p.lies p.counted t.lies)
 
       pub row_on : g ≡ true → Reading f at known xs (size + m) (count + 1) (good && c)
       unfolding afterwards
@@ -207,7 +219,8 @@ module _ (f : List ℕ) (at : ℕ) (known : Bool) (ts : List (List ℕ)) (size c
             ∙ row-over (p.items ++ (halved false w ∷ [])) (size + m) (drop (at + (size + m)) f);
         counted = on-counted;
         converts = on-converts;
-        lies = noted-row r (p.items ++ (halved false w ∷ [])) (rw q on-noted);
+        lies = noted-row f r (p.items ++ (halved false w ∷ [])) (rw q on-noted);
+        within = (let z : Noted f (raw_items r) (p.items ++ (halved false w ∷ [])) = rw q on-noted in z.within);
         moves = omega (arith, t.some);
         place = omega (arith, t.place);
       }

@@ -1,5 +1,5 @@
 -- How the items of a row are found in the file, by the definitions' reader.
-use Rattle.std.specs.Prelude.{◌≡◌, Bool, true, false, cond, ◌||◌, List, [], ◌∷◌, ◌++◌, map, ℕ, suc, ◌+◌, ◌≤◌, ◌<◌, eqb, ltb, length, drop, set}
+use Rattle.std.specs.Prelude.{◌≡◌, Bool, true, false, cond, ◌||◌, List, [], ◌∷◌, ◌++◌, map, ℕ, suc, ◌+◌, ◌≤◌, ◌<◌, eqb, ltb, length, take, drop, set}
 use Rattle.std.specs.Borrow.{Bor}
 use Rattle.rules.specs.Lists.{nth, all}
 use Rattle.csv_rules.specs.Quote.{Comma, Quote, Items, Lines, end, broken, line, lines_at, cut, FileLine, lines_in}
@@ -49,6 +49,13 @@ items_of r = map (halved false) (raw_items r)
 unfoldable pub noted : ℕ → List ℕ → List (List ℕ) → List (List ℕ)
 noted n w ts = cond (ltb n 45) (set ts n w) ts
 
+-- some bytes lie in the file
+pub record LiesIn (f w : List ℕ) : Type 0 where
+  pub start : ℕ
+  pub size : ℕ
+  pub inside : start + size ≤ length f
+  pub is : w ≡ take size (drop start f)
+
 -- a row has the first 45 of some items; those that are missing are empty
 pub record Firsts (r : RowItems) (items : Items) : Type 0 where
   pub size : length (items_of r) ≡ 45
@@ -62,6 +69,7 @@ pub record BehindAt (f : List ℕ) (j size : ℕ) (goes : Bool) : Type 0 where
 -- an item whose bytes are w
 pub record ItemAt (f : List ℕ) (i : ℕ) (w : List ℕ) (size : ℕ) (goes : Bool) : Type 0 where
   pub is : lines_at Comma (drop i f) ≡ put_before (halved false w ∷ []) size (afterwards goes (drop (i + size) f))
+  pub lies : LiesIn f w
   pub some : 2 ≤ size
   pub place : i + size ≤ length f
 
@@ -72,5 +80,6 @@ pub record RowIs (f : List ℕ) (at : ℕ) (known : Bool) (r : RowItems) (size c
   pub counted : count ≡ length items
   pub converts : good ≡ (known || all convertible items)
   pub lies : Firsts r items
+  pub within : (n : ℕ) → n < 45 → LiesIn f (nth (raw_items r) n)
   pub moves : 0 < size
   pub place : at + size ≤ length f
