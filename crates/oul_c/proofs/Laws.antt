@@ -52,8 +52,9 @@ module _ (m : List ℕ) (t : Told Known) (a : Option KnownSegment) (e : found_to
   pub found-tells : (s : KnownSegment) → a ≡ Some s → s.start + s.len ≤ length m → Tells segment_numbers t 0 (s.start ∷ s.len ∷ 0 ∷ [])
   found-tells s h w = rw (← e, h) (record { answers = refl; fills = ap (λ n. s.start ∷ n ∷ 0 ∷ []) (sym (part-met m s.start s.len w)) })
 
-  pub absent-tells : (n : ℕ) (x : List ℕ) → a ≡ None → n ≡ number NoOrdinal → x ≡ 0 ∷ 0 ∷ 0 ∷ [] → Tells segment_numbers t n x
-  absent-tells n x h k p = rw (← e, h) (record { answers = k; fills = p })
+  pub absent-tells : (r : Refusal) (n : ℕ) (x : List ℕ) → a ≡ None → r ≡ record { kind = NoOrdinal; segment = 0; field = 0 } → n ≡ number r.kind → x ≡ r.segment ∷ r.field ∷ 0 ∷ []
+      → Tells segment_numbers t n x
+  absent-tells r n x h q k p = rw (← e, h) (record { answers = k ∙ ap (λ (z : Refusal). number z.kind) q; fills = p ∙ ap (λ (z : Refusal). z.segment ∷ z.field ∷ 0 ∷ []) q })
 
 -- ---- a place in a text; a line of a file
 pub spot-tells : (p q : Spot) → p ≡ q → Tells spot_numbers (gives q) 0 (p.line ∷ p.byte ∷ 0 ∷ [])

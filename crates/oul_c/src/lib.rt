@@ -168,15 +168,15 @@ pub extern "C" fn oul_csv_spot(file: &[u8], told: &mut [usize; 3]) -> usize
 
 // ---- answers as numbers
 // How many bytes were written, as numbers.
-fn written(answer: Result<usize, Refusal>, told: &mut [usize; 3]) -> usize
-    ensures { Tells one_number (told answer) result told.new }
+fn written(answer: Result<usize, Refusal>, numbers: &mut [usize; 3]) -> usize
+    ensures { Tells one_number (told answer) result numbers.new }
 {
     match answer {
         Ok(n) => {
-            *told = [n, 0, 0];
+            *numbers = [n, 0, 0];
             0
         }
-        Err(r) => refuse(r, told),
+        Err(r) => refuse(r, numbers),
     }
 }
 
