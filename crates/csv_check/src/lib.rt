@@ -143,6 +143,7 @@ fn walked(file: &[u8], number: usize) -> Looked
         line: 0,
     };
     let mut first = 0;
+    // Not a `for`: where the next line begins is known once this one is read.
     while at < file.len() {
         let Some(row) = csv_rows::row(file, at, false) else {
             return Looked {

@@ -60,6 +60,7 @@ fn round(rows: &[u8], line: usize) -> Repeated
         unkept: 0,
         line: 0,
     };
+    // Not a `for`: where the next row begins is known once this one is read.
     while (at < rows.len()) & (met.differs == 0) {
         let Some(row) = csv_rows::row(rows, at, true) else {
             return met;
