@@ -27,7 +27,7 @@ fn put_group(out: &mut [u8], at: usize, name: Name, g: &Group, numbers: Numbers,
 {
     let from = at.min(out.len());
     let end = at + numbered::put_first(&mut out[from..], name, g, numbers, d);
-    if name != Name::Obr {
+    if !names::is(name, Name::Obr) {
         return end;
     }
     let behind = end.min(out.len());
@@ -106,7 +106,7 @@ pub fn pass(out: &mut [u8], sheet: &[u8], d: Delims, known: bool) -> Result<Size
         }
         numbers = counted(numbers, next);
         bytes = put_group(out, bytes, next, &rest, numbers, d);
-        segments += 1 + usize::from(next == Name::Obr);
+        segments += 1 + names::hit(next, Name::Obr);
         let n = groups::lines_in(next);
         line += n;
         rest = Group::of(rest.behind(n));

@@ -126,7 +126,7 @@ fn put_numbered(out: &mut [u8], name: Name, n: usize, g: &Group, d: Delims) -> u
     let mut digits = [0u8; 5];
     let len = writer::put_number(&mut digits, n);
     let number = &digits[..len];
-    if name == Name::Spm {
+    if names::is(name, Name::Spm) {
         return specimen(out, number, g, d);
     }
     result(out, number, g, d)
