@@ -54,24 +54,14 @@ fn begins(s: Standing) -> usize
     ensures value { result ≡ begun s }
     ensures few { result ≤ 1 }
 {
-    match s {
-        Standing::Same => 0,
-        Standing::New => 1,
-        Standing::Back => 1,
-        Standing::Differs => 0,
-    }
+    usize::from(matches!(s, Standing::New | Standing::Back))
 }
 
 // 54, where a row stands so.
 fn comes_back(s: Standing) -> bool
     ensures { result ≡ is_back s }
 {
-    match s {
-        Standing::Same => false,
-        Standing::New => false,
-        Standing::Back => true,
-        Standing::Differs => false,
-    }
+    matches!(s, Standing::Back)
 }
 
 // The first line where a number returns: one that is named stays.

@@ -82,6 +82,7 @@ pub fn settled(file: &[u8], found: Repeated) -> Met
     let mut returns = found.returns;
     let mut unkept = found.unkept;
     let mut line = found.line;
+    // A round begins at the first row that the table of the last one did not keep.
     while unkept != 0 {
         let start = unkept - 1;
         let met = round(&file[start..], line);

@@ -9,7 +9,7 @@ ghost use Rattle.csv_rules.specs.Quote.{Comma, Quote, broken, lines_at, cut};
 ghost use Rattle.csv_rows.specs.Plain.{plain_at, comma_at, PlainItem};
 ghost use Rattle.csv_rows.specs.Rows.{closing_at, quote_first, raw_of, raw_items, noted, BehindAt, ItemAt, RowIs};
 
-// What stands behind an item's closing quote: its bytes; whether another item follows.
+// What stands behind an item's closing quote: its bytes, a comma's too; whether another item follows.
 #[derive(Clone, Copy)]
 struct Behind {
     size: usize,

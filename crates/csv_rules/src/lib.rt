@@ -10,11 +10,11 @@ use rules::Refusal;
 // Why a file is refused: a case for each number of the request.
 #[derive(Clone, Copy)]
 pub enum FileFault {
-    Quoting, // 50
-    Columns, // 51
-    Unconverted, // 52
-    HeaderDiffers, // 53
-    Returns, // 54
+    Quoting = 50,
+    Columns = 51,
+    Unconverted = 52,
+    HeaderDiffers = 53,
+    Returns = 54,
 }
 
 // How many sheets a file holds, and the place of its first row.
@@ -58,11 +58,5 @@ pub struct Next {
 pub fn fault_number(fault: FileFault) -> usize
     ensures { result ≡ fault_number fault }
 {
-    match fault {
-        FileFault::Quoting => 50,
-        FileFault::Columns => 51,
-        FileFault::Unconverted => 52,
-        FileFault::HeaderDiffers => 53,
-        FileFault::Returns => 54,
-    }
+    fault as usize
 }

@@ -12,7 +12,8 @@ ghost use Rattle.csv_runs.specs.Sheet.{RowReady, PutIs};
 use csv_lines::{GoodRow, Lines};
 use csv_rows::RowItems;
 
-// A run of rows with one number: its bytes; whether each row converts; whether two rows differ in a header key.
+// A run of rows with one number: its bytes; whether each row converts; whether two rows differ in a header key. Its bytes are asked for where 52 or
+// 53 is met, too: the next run begins behind them.
 #[derive(Clone, Copy)]
 pub struct RunAt {
     pub size: usize,

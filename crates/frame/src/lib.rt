@@ -9,7 +9,6 @@ use crate::all_segments::Seen;
 use rules::{Counts, Delims, Kind, Refusal};
 
 pub mod all_segments;
-
 pub mod segments;
 
 // What a message that passes 10 to 15 is read with, and what the check gives in the end.

@@ -94,7 +94,7 @@ module _ (m : List ℕ) (o left at : ℕ) (r : List ℕ) (inv : Seeking m o left
       segment-past e l =
           zero_cases left (λ q. absurd (l q))
           (λ j q.
-            let k : left - 1 ≡ j = omega arith in on (left - 1) (inv.same ∙ rw (k, q, from-here e) (ordinal-later found (known_from (at + suc (length x)) (segments t)) j)))
+          let k : left - 1 ≡ j = omega arith in on (left - 1) (inv.same ∙ rw (k, q, from-here e) (ordinal-later found (known_from (at + suc (length x)) (segments t)) j)))
 
       pub segment-other : b ≡ true → Seeking m o left (at + (length x + 1)) t
       segment-other e =

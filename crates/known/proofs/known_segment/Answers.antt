@@ -21,7 +21,7 @@ pub loop-s-preserved : goal.loop-s-preserved
 loop-s-preserved c =
     elim c.if-ne.branch [
       | then-ne+else-left-eq0 w ↦
-        rw w.left-is (segment-past _ _ _ _ _ c.loop-s.invariant _ _ c.in-Some.ensures.steps.1 _ false c.name_of-name.ensures (search rules) refl w.if-left-eq0.false)
+          rw w.left-is (segment-past _ _ _ _ _ c.loop-s.invariant _ _ c.in-Some.ensures.steps.1 _ false c.name_of-name.ensures (search rules) refl w.if-left-eq0.false)
       | else-ne w ↦ rw w.left-is (segment-other _ _ _ _ _ c.loop-s.invariant _ _ c.in-Some.ensures.steps.1 _ true c.name_of-name.ensures (search rules) refl)
     ]
 
