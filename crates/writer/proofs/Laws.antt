@@ -1,13 +1,28 @@
--- The laws of a run of writes: how one write after another is one write of both. Assumes nothing.
+-- The laws of a run of writes: what a store of a copying loop leaves, and how one write after another is one write of both. Assumes nothing.
 use mathlib.Core.Path.{◌≡◌, refl, sym, ap, ◌∙◌}
 use mathlib.Core.List.{List, [], ◌∷◌, ◌++◌, append_assoc, append-nil}
-use Prim.Native.Nat.{ℕ, ◌+◌, ◌-◌, ◌≤◌, ◌<◌}
+use Prim.Native.Nat.{ℕ, zero, suc, ◌+◌, ◌-◌, ◌≤◌, ◌<◌}
+use native.Mathlib.Nat.{le_of_suc-le-suc, not-suc-le-zero}
 use native.Mathlib.Numerals.{add-one}
 use native.Mathlib.Omega.{arith}
-use lib.ListN.{length, take, drop, set, length-append, length-drop, drop_of_length-le}
-use lib.Seq.{take_at, drop_at, drop-drop, length-take-le, set_split}
+use lib.ListN.{length, take, drop, get_or, set, length-append, length-drop, drop_of_length-le}
+use lib.Seq.{take_at, drop_at, drop-drop, take-length, length-take-le, set_split}
 use Rattle.rules.proofs.Lists.{rest-is}
 use Rattle.writer.specs.Over.{over_front, over_at, Wrote, Put}
+
+-- a turn's store takes the copy of i bytes to the copy of one more
+copied : (s d : List ℕ) (i : ℕ) → i < length s → i < length d → set (take i s ++ drop i d) i (get_or s i 0) ≡ take (suc i) s ++ drop (suc i) d
+copied [] d i h k = absurd (not-suc-le-zero h)
+copied (x ∷ xs) [] i h k = absurd (not-suc-le-zero k)
+copied (x ∷ xs) (y ∷ ys) zero h k = refl
+copied (x ∷ xs) (y ∷ ys) (suc i) h k = ap (λ (l : List ℕ). x ∷ l) (copied xs ys i (le_of_suc-le-suc h) (le_of_suc-le-suc k))
+
+pub copy_step : (s d o : List ℕ) (i : ℕ) → o ≡ take i s ++ drop i d → i < length s → i < length d → set o i (get_or s i 0) ≡ take (i + 1) s ++ drop (i + 1) d
+copy_step s d o i e h k = rw (e, add-one) (copied s d i h k)
+
+pub copy-end : (s d o : List ℕ) (i : ℕ) → o ≡ take i s ++ drop i d → i ≡ length s → o ≡ over_front s d
+unfolding over_front
+copy-end s d o i e h = e ∙ rw (h, take-length)
 
 -- one write after another is one write of both
 fuse : (a : ℕ) (b c old : List ℕ) → a ≡ length b → over_at a c (over_front b old) ≡ over_front (b ++ c) old
