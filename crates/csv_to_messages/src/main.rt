@@ -3,7 +3,8 @@
 // are tried before the first is written.
 #![tactic(auto)]
 
-ghost use Rattle.std.specs.Prelude.{◌≤◌, length};
+ghost use Rattle.std.specs.Prelude.{◌≡◌, ◌++◌, ◌≤◌, length};
+ghost use Rattle.rules.specs.Lists.{decimal};
 
 use csv_rules::{CsvSheets, NotMade};
 use printed::text::Text;
@@ -99,6 +100,7 @@ fn each<F: Fn(&[u8]) -> Result<(), Told>>(
 // The control of the k-th message.
 fn numbered(control: &[u8], k: usize) -> Text<4116>
     requires { length control.now ≤ 4096 }
+    ensures { result ≡ control.now ++ decimal k }
 {
     let mut text = Text::new();
     text.push(control);

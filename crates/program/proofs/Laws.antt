@@ -1,10 +1,10 @@
 -- Laws of reading. Assumes nothing.
-use Rattle.std.proofs.Common.{ℕ, ◌≡◌, Result, Ok, Err, IfOk}
+use Rattle.std.proofs.Common.{ℕ, ◌≡◌, ◌≤◌, Result, Ok, Err}
 use Rattle.program.specs.declared.Told.{Told}
-use Rattle.program.specs.Reading.{brought}
+use Rattle.program.specs.Reading.{ending_of, InBuffer}
 
--- what the read promises of what it gives holds of what is brought
-pub brought_so : {E : Type 0} (P : ℕ → Type 0) (a : Result ℕ E) (k : ℕ) → ◌≡◌ {A = Result ℕ Told} (Ok k) (brought a) → IfOk a P → P k
-unfolding brought
-brought_so P (Ok j) k h b = let t : k ≡ j = cc in rw t b
-brought_so P (Err y) k h b = cc
+-- where a read brought nothing, the input lies in the buffer
+pub ending_within : {E : Type 0} (a : Result ℕ E) (done n : ℕ) (r : Result ℕ Told) → r ≡ ending_of a done → done ≤ n → InBuffer n r
+unfolding ending_of
+ending_within (Ok k) done n r e h = rw e h
+ending_within (Err x) done n r e h = rw e tt

@@ -7,6 +7,11 @@ unfoldable pub brought : {E : Type 0} → Result ℕ E → Result ℕ Told
 brought (Ok k) = Ok k
 brought (Err e) = Err (record {})
 
+-- a read that brought nothing, behind so many bytes: it succeeds at the end of the input
+unfoldable pub ending_of : {E : Type 0} → Result ℕ E → ℕ → Result ℕ Told
+ending_of (Ok k) done = Ok done
+ending_of (Err e) done = Err (record {})
+
 -- an input lies in its buffer of n bytes
 abbrev pub InBuffer : ℕ → Result ℕ Told → Type 0
 InBuffer n (Ok k) = k ≤ n

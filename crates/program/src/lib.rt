@@ -5,7 +5,7 @@
 pub mod file;
 
 ghost use Rattle.std.specs.Prelude.{◌≡◌, ◌≤◌, length, take, IfOk};
-ghost use Rattle.program.specs.Reading.{brought, InBuffer, NineDigits};
+ghost use Rattle.program.specs.Reading.{brought, ending_of, InBuffer, NineDigits};
 
 use std::env::FillError;
 use std::fs::{File, OpenOptions};
@@ -67,18 +67,26 @@ impl Program<'_> {
     }
 
     // Reads until the input ends or the buffer is full. A `while`, since a read brings as many bytes as it likes, and std's `read_to_end` allocates.
+    #[tactic(auto, using(crate::proofs::Laws::ending_within))]
     fn read_all<R: Read>(&self, file: &[u8], reader: &mut R, buf: &mut [u8]) -> Result<usize, Told>
         ensures { InBuffer (length buf.new) result }
     {
         let mut done = 0;
         while done < buf.len() {
-            let more = self.brought(file, reader.read(&mut buf[done..]))?;
-            if more == 0 {
-                break;
+            match reader.read(&mut buf[done..]) {
+                Ok(more) if more > 0 => done += more,
+                answer => return self.ending(file, answer, done),
             }
-            done += more;
         }
         Ok(done)
+    }
+
+    // What a read that brought nothing says, behind so many bytes: that the input ends with them.
+    #[tactic(auto, unfolding(crate::specs::Reading::brought, crate::specs::Reading::ending_of))]
+    fn ending(&self, file: &[u8], answer: io::Result<usize>, done: usize) -> Result<usize, Told>
+        ensures { result ≡ ending_of answer done }
+    {
+        self.brought(file, answer).and(Ok(done))
     }
 
     // What a read brings, which is nothing at the end of the input. A failure is told, and never taken for the end.
