@@ -2,13 +2,14 @@
 use mathlib.Core.Path.{◌≡◌, refl, sym, subst, ap, ◌∙◌}
 use mathlib.Core.Bool.{Bool, true, false, not, ◌&&◌, ◌||◌}
 use mathlib.Core.List.{List, [], ◌∷◌, ◌++◌, append_assoc}
-use Prim.Native.Nat.{ℕ, suc, ◌+◌, ◌-◌, ◌≤◌, ◌<◌}
+use Prim.Native.Nat.{ℕ, zero, suc, ◌+◌, ◌-◌, ◌≤◌, ◌<◌}
+use native.Mathlib.Numerals.{add-one}
 use native.Mathlib.Omega.{arith}
 use borrow.Author.Tests.{eq-eqb, ne_eqb, eqb-true}
 use lib.Dec.{eqb}
 use lib.ListN.{length, take, drop, get_or, set, length-set, length-take, length-drop}
 use lib.Seq.{drop-drop, get_or-drop, get_or-set_same, get_or-set_other}
-use Rattle.rules.specs.Lists.{bytes, empty, filled, nth, same, starts, split, all_but_last, last, ended}
+use Rattle.rules.specs.Lists.{bytes, empty, filled, nth, starts, split, all_but_last, last, ended}
 use Rattle.rules.specs.Sheet.{lines_of}
 use Rattle.std.specs.Prelude.{cond, Result, Ok, Err}
 use Rattle.std.specs.Result.{is_ok, IsErrAnd}
@@ -24,7 +25,7 @@ use Rattle.value.specs.Rules.{fault_no}
 use Rattle.plain_bytes.proofs.Laws.{same_by, split-last, split-more}
 use Rattle.value.proofs.Laws.{fine-zero, fault-some}
 use Rattle.lines.specs.declared.LineFault.TheVariants.{Key, Value}
-use Rattle.lines.specs.Lines.{behind_line, Cut, line_as}
+use Rattle.lines.specs.Lines.{behind_line, place_behind, Cut, line_as}
 
 -- ---- lines by their 0A
 none : (s : List ℕ) → length (until (is_byte 0x0A) s) ≡ length s → lines_of s ≡ []
@@ -189,7 +190,18 @@ module _ (s at : List ℕ) (k : ℕ) (c : Cut 10 s at) (h : k < 10) where
     pub line-between : take (get_or at (k + 1) 0 - 1 - get_or at k 0) (drop (get_or at k 0) s) ≡ nth (lines_of s) k
     line-between = (between (drop k (lines_of s)) (c.from k (omega arith)) (c.next k h)).1 ∙ nth-first
 
--- what stands behind some lines is shorter, where there are any
+-- what stands behind some lines begins where they end
+place-is : (s at : List ℕ) (n : ℕ) → Cut 10 s at → n ≤ 10 → get_or at n 0 ≡ place_behind n (lines_of s)
+unfolding place_behind
+place-is s at zero c w = c.start
+place-is s at (suc n) c w =
+    let e : get_or at (suc n) 0 ≡ behind_line (drop n (lines_of s)) (get_or at n 0) = rw add-one at (c.next n (omega arith)) in
+    e ∙ ap (behind_line (drop n (lines_of s))) (place-is s at n c (omega arith))
+
+pub behind-place : (s at : List ℕ) (n : ℕ) → Cut 10 s at → n ≤ 10 → take (length s - get_or at n 0) (drop (get_or at n 0) s) ≡ drop (place_behind n (lines_of s)) s
+behind-place s at n c w = rest-is s (get_or at n 0) ∙ ap (λ (k : ℕ). drop k s) (place-is s at n c w)
+
+-- it is shorter, where there are any
 pub behind-shorter : (s at : List ℕ) (n : ℕ) → Cut 10 s at → n ≤ 10 → filled (lines_of s) ≡ true → 0 < n → length (take (length s - get_or at n 0) (drop (get_or at n 0) s)) < length s
 behind-shorter s at n c w f h =
     zero_cases (get_or at n 0)

@@ -1,5 +1,5 @@
 -- The lines of a sheet, found by their 0A, and the verdict on one of them.
-use Rattle.std.specs.Prelude.{Bool, true, false, cond, not, ◌&&◌, List, [], ◌∷◌, ◌≡◌, ℕ, ◌+◌, ◌≤◌, ◌<◌, length, drop, get_or, Result, Ok, Err}
+use Rattle.std.specs.Prelude.{Bool, true, false, cond, not, ◌&&◌, List, [], ◌∷◌, ◌≡◌, ℕ, zero, suc, ◌+◌, ◌≤◌, ◌<◌, length, drop, get_or, Result, Ok, Err}
 use Rattle.rules.specs.Lists.{bytes, nth, same, starts}
 use Rattle.rules.specs.Value.{fits}
 use Rattle.rules.specs.Sheet.{lines_of}
@@ -17,6 +17,11 @@ longest_sheet = 65536
 unfoldable pub behind_line : List (List ℕ) → ℕ → ℕ
 behind_line [] p = p
 behind_line (l ∷ ls) p = p + length l + 1
+
+-- where the text behind the first n of the lines ls begins
+unfoldable pub place_behind : ℕ → List (List ℕ) → ℕ
+place_behind zero ls = 0
+place_behind (suc n) ls = behind_line (drop n ls) (place_behind n ls)
 
 -- at holds the places of the first n lines of s and the place behind each; eleven places, for no group has more than ten lines
 pub record Cut (n : ℕ) (s at : List ℕ) : Type 0 where

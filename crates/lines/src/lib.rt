@@ -6,7 +6,7 @@ ghost use Rattle.rules.specs.Lists.{filled, nth};
 ghost use Rattle.rules.specs.Value.{fits};
 ghost use Rattle.rules.specs.Sheet.{lines_of};
 ghost use Rattle.value.specs.Rules.{rule_of};
-ghost use Rattle.lines.specs.Lines.{fits_place, line_as, line_at, behind_line};
+ghost use Rattle.lines.specs.Lines.{fits_place, line_as, line_at, behind_line, place_behind};
 
 use std::marker::Model;
 use value::{Place, Rule};
@@ -85,6 +85,7 @@ impl<'a> Group<'a> {
     // What stands behind the first n lines.
     pub fn behind(&self, n: usize) -> &'a [u8]
         requires { n ≤ 10 }
+        ensures place { result.now ≡ drop (place_behind n (lines_of self.now)) self.now }
         ensures rest { lines_of result.now ≡ drop n (lines_of self.now) }
         ensures within { length result.now ≤ length self.now }
         ensures shorter { filled (lines_of self.now) ≡ true → 0 < n → length result.now < length self.now }

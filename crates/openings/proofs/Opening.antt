@@ -100,11 +100,18 @@ module _ (a : Reached) (t : List ℕ) where
   unfolding lines
   then-order = alone Spm Obr refl refl (omega arith)
 
-  -- behind an OBR stands its ORC, and no group
-  pub then-result : Between a → (a.last ≡ Obr) ⊎ (a.last ≡ Orc) → Next a t Obx
+  pub then-result : a.last ≡ Orc → Next a t Obx
   unfolding lines
-  then-result b (inl e) = never (rw e at b)
-  then-result b (inr e) = alone Orc Obx refl refl (omega arith) e
+  then-result = alone Orc Obx refl refl (omega arith)
+
+  -- behind an OBR stands its ORC, and no group
+  pub then-none : Between a → a.last ≡ Obr → Next a t Obx
+  then-none b e = never (rw e at b)
+
+  -- the code has one arm for both
+  pub then-either : Between a → (a.last ≡ Obr) ⊎ (a.last ≡ Orc) → Next a t Obx
+  then-either b (inl e) = then-none b e
+  then-either b (inr e) = then-result e
 
 -- ---- behind a result
 module _ (t : List ℕ) (q : Bool) (e : q ≡ bytes_eq (105 ∷ 116 ∷ 101 ∷ 109 ∷ 61 ∷ []) (take 5 t)) where

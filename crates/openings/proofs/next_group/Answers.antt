@@ -1,5 +1,5 @@
 use borrow.Author.Rules.{rules}
-use Rattle.openings.proofs.Opening.{first-header, then-patient, then-visit, then-specimen, then-order, then-result, then-any}
+use Rattle.openings.proofs.Opening.{first-header, then-patient, then-visit, then-specimen, then-order, then-either, then-any}
 use Rattle.openings.proofs.next_group.Goals as goal
 
 pub returns-in-Other : goal.returns-in-Other
@@ -18,7 +18,7 @@ pub returns-in-Spm : goal.returns-in-Spm
 returns-in-Spm c = search (then-order, rules)
 
 pub returns-in-Obr : goal.returns-in-Obr
-returns-in-Obr c = search (then-result, rules)
+returns-in-Obr c = search (then-either, rules)
 
 pub returns-in-Obx : goal.returns-in-Obx
 returns-in-Obx c = search (then-any, rules)
