@@ -4,8 +4,8 @@ use mathlib.Core.Bool.{Bool, true, false, not, ◌&&◌, ◌||◌}
 use mathlib.Core.List.{List, [], ◌∷◌}
 use Prim.Native.Nat.{ℕ, zero, suc, ◌+◌, ◌≤◌, ◌<◌}
 use native.Mathlib.Omega.{arith}
-use borrow.Author.Tests.{ne_eqb}
-use lib.Dec.{eqb}
+use borrow.Author.Tests.{ne_eqb, leb-true}
+use lib.Dec.{eqb, leb}
 use lib.ListN.{length, get_or, drop}
 use Rattle.std.specs.Borrow.{Bor}
 use Rattle.rules.specs.Lists.{bytes, empty, nth, same, all}
@@ -27,7 +27,7 @@ use Rattle.csv_rows.specs.Rows.{raw_items, items_of}
 use Rattle.csv_rows.proofs.Laws.{item-half}
 use Rattle.csv_keys.specs.Keys.{KeyIs}
 use Rattle.csv_keys.specs.Ways.{meaning_in, unquoted, is_plain}
-use Rattle.csv_keys.proofs.Items.{all-halved, halved-plain}
+use Rattle.csv_keys.proofs.Items.{all-halved, halved-plain, none_of, key-on}
 
 -- ---- a word without a quote is the same in the file and read
 pub same_word : (raw k : List ℕ) → all unquoted k ≡ true → same (halved false raw) k ≡ same raw k
@@ -47,7 +47,7 @@ module _ {A : Type 0} (p : A → Bool) where
 
 module _ (cs : List (Bor (List ℕ) × Bor (List ℕ))) (raw lead r : List ℕ) (i : ℕ)
     (inv : meaning_in cs (halved false raw) ≡ meaning_in (drop i cs) (halved false raw)) where
-  pub code-none : length cs ≤ i → KeyIs (halved false raw) lead r → KeyIs (meaning_in cs (halved false raw)) lead r
+  pub code-none : length cs ≤ i → KeyIs raw (halved false raw) lead r → KeyIs raw (meaning_in cs (halved false raw)) lead r
   unfolding meaning_in
   code-none h k =
       let z : halved false raw ≡ meaning_in cs (halved false raw) =
@@ -55,24 +55,32 @@ module _ (cs : List (Bor (List ℕ) × Bor (List ℕ))) (raw lead r : List ℕ) 
       rw z at k
 
   module _ (d : Bor (List ℕ) × Bor (List ℕ)) (fits : all is_plain cs ≡ true) (h : i < length cs) where
-    pub code-fits : all (λ (b : ℕ). within 0x20 0x7E b) (get_or cs i d).1.now ≡ true
-    code-fits = (both (all unquoted (get_or cs i d).0.now) (all (λ (b : ℕ). within 0x20 0x7E b) (get_or cs i d).1.now) (at-each is_plain cs i d fits h)).1
+    -- the code is without a quote; the meaning is plain, and short
+    fit : (all unquoted (get_or cs i d).0.now ≡ true) × ((all (λ (b : ℕ). within 0x20 0x7E b) (get_or cs i d).1.now ≡ true) × (leb (length (get_or cs i d).1.now) 15 ≡ true))
+    fit =
+        let p =
+        both (all unquoted (get_or cs i d).0.now) (all (λ (b : ℕ). within 0x20 0x7E b) (get_or cs i d).1.now && leb (length (get_or cs i d).1.now) 15)
+        (at-each is_plain cs i d fits h) in
+        (p.0, both (all (λ (b : ℕ). within 0x20 0x7E b) (get_or cs i d).1.now) (leb (length (get_or cs i d).1.now) 15) p.1)
+
+    pub code-plain : all (λ (b : ℕ). within 0x20 0x7E b) (get_or cs i d).1.now ≡ true
+    code-plain = fit.1.0
+
+    pub code-few : length (get_or cs i d).1.now ≤ 15
+    code-few = leb-true (length (get_or cs i d).1.now) 15 fit.1.1
 
     module _ (t : Bool) (e : t ≡ same raw (get_or cs i d).0.now) where
       compared : same (halved false raw) (get_or cs i d).0.now ≡ t
-      compared =
-          same_word raw (get_or cs i d).0.now
-          (both (all unquoted (get_or cs i d).0.now) (all (λ (b : ℕ). within 0x20 0x7E b) (get_or cs i d).1.now) (at-each is_plain cs i d fits h)).0
-          ∙ sym e
+      compared = same_word raw (get_or cs i d).0.now fit.0 ∙ sym e
 
       opened : meaning_in cs (halved false raw) ≡ meaning_in (get_or cs i d ∷ drop (i + 1) cs) (halved false raw)
       opened = inv ∙ ap (λ (x : List (Bor (List ℕ) × Bor (List ℕ))). meaning_in x (halved false raw)) (here d cs i h)
 
-      pub code-met : t ≡ true → KeyIs (get_or cs i d).1.now lead r → KeyIs (meaning_in cs (halved false raw)) lead r
+      pub code-met : t ≡ true → KeyIs [] (get_or cs i d).1.now lead r → KeyIs raw (meaning_in cs (halved false raw)) lead r
       unfolding meaning_in
       code-met g k =
           let z : (get_or cs i d).1.now ≡ meaning_in cs (halved false raw) = sym (opened ∙ rw (compared ∙ g, meaning_in)) in
-          rw z at k
+          key-on (none_of raw) z k
 
       pub code-other : t ≡ false → meaning_in cs (halved false raw) ≡ meaning_in (drop (i + 1) cs) (halved false raw)
       unfolding meaning_in
@@ -97,11 +105,11 @@ module _ (row : RowItems) (form lead r : List ℕ) (b : Bool) (e : b ≡ same fo
       rw (empty-halved form, same_word form (66 ∷ []) refl, ← e)
       (cases (eqb (length form) 0) (λ t. rw t) (λ t. rw t (cases b (λ u. rw u) (λ u. rw u))))
 
-  pub kind-sn : (not (eqb (length form) 0) && not b) ≡ true → KeyIs (83 ∷ 78 ∷ []) lead r → KeyIs (type_of (nth (items_of row) 34) (halved false form)) lead r
+  pub kind-sn : (not (eqb (length form) 0) && not b) ≡ true → KeyIs [] (83 ∷ 78 ∷ []) lead r → KeyIs form (type_of (nth (items_of row) 34) (halved false form)) lead r
   unfolding type_of bytes
   kind-sn t k =
       let z : type_of (nth (items_of row) 34) (halved false form) ≡ 83 ∷ 78 ∷ [] = rw (without, t) in
-      rw z k
+      key-on (none_of form) (sym z) k
 
   module _ (t : (not (eqb (length form) 0) && not b) ≡ false) (raw : List ℕ) (o : raw ≡ nth (raw_items row) 34) {A : Type 0} (x : Result A Kind) (q : fault_no x ≡ fault true (rule_of Number) raw)
       (u : Bool) (g : u ≡ is_ok x) where
@@ -109,15 +117,15 @@ module _ (row : RowItems) (form lead r : List ℕ) (b : Bool) (e : b ≡ same fo
     unfolding rule_of
     number_is_lem = ap (fits true numeric) (item-half row 34) ∙ number-halved (nth (raw_items row) 34) ∙ ap (fits true numeric) (sym o) ∙ ap (λ (k : ℕ). eqb k 0) (sym q)
 
-    pub kind-nm : u ≡ true → KeyIs (78 ∷ 77 ∷ []) lead r → KeyIs (type_of (nth (items_of row) 34) (halved false form)) lead r
+    pub kind-nm : u ≡ true → KeyIs [] (78 ∷ 77 ∷ []) lead r → KeyIs form (type_of (nth (items_of row) 34) (halved false form)) lead r
     unfolding type_of bytes
     kind-nm v k =
         let z : type_of (nth (items_of row) 34) (halved false form) ≡ 78 ∷ 77 ∷ [] = rw (without, t, number_is_lem, fine-zero x (sym g ∙ v)) in
-        rw z k
+        key-on (none_of form) (sym z) k
 
-    pub kind-st : u ≡ false → KeyIs (83 ∷ 84 ∷ []) lead r → KeyIs (type_of (nth (items_of row) 34) (halved false form)) lead r
+    pub kind-st : u ≡ false → KeyIs [] (83 ∷ 84 ∷ []) lead r → KeyIs form (type_of (nth (items_of row) 34) (halved false form)) lead r
     unfolding type_of bytes
     kind-st v k =
         let d : eqb (fault_no x) 0 ≡ false = ne_eqb (fault_no x) 0 (omega (arith, fault-some x (sym g ∙ v))) in
         let z : type_of (nth (items_of row) 34) (halved false form) ≡ 83 ∷ 84 ∷ [] = rw (without, t, number_is_lem, d) in
-        rw z k
+        key-on (none_of form) (sym z) k

@@ -1,4 +1,4 @@
--- The laws of an item as it lies in the file: a walk over it, its first blank, order numbers. Assumes nothing.
+-- The laws of an item as it lies in the file: a walk over it, its first blank, order numbers; what is a stretch of it. Assumes nothing.
 use mathlib.Core.Path.{◌≡◌, refl, sym, ap, ◌∙◌}
 use mathlib.Core.Bool.{Bool, true, false, cond, not, ◌||◌}
 use mathlib.Core.List.{List, [], ◌∷◌, ◌++◌, append-nil}
@@ -6,8 +6,9 @@ use Prim.Native.Nat.{ℕ, zero, suc, ◌+◌, ◌-◌, ◌≤◌, ◌<◌}
 use native.Mathlib.Omega.{arith}
 use borrow.Author.Tests.{eq-eqb, ne_eqb, eqb-true, lt-leb, le-leb, eqb-false, ltb-true, ltb-false, not-true, not-false}
 use lib.Dec.{eqb, leb, ltb}
-use lib.ListN.{length, get_or, take, drop, replicate}
-use lib.Seq.{drop-nil}
+use lib.ListN.{length, get_or, take, drop, replicate, length-drop, length-replicate}
+use lib.Seq.{drop-nil, drop-drop, take-take, take-length, length-take-le}
+use Rattle.std.proofs.lemmas.List.{drop-take}
 use Rattle.rules.specs.Lists.{filled, all, onto}
 use Rattle.rules.specs.Shift.{within}
 use Rattle.rules.specs.Frame.{digit}
@@ -16,6 +17,7 @@ use Rattle.rules.proofs.Lists.{here, over, rest-is, all_first, all_cons, empty-z
 use Rattle.rules.proofs.Split.{split-nil, split-here, split-there, split-cons}
 use Rattle.csv_rules.specs.Written.{halved}
 use Rattle.csv_rules.specs.Columns.{family_of, given_of, fifteen_of}
+use Rattle.csv_rows.specs.Rows.{LiesIn}
 use Rattle.csv_keys.specs.Keys.{raw_value, KeyIs}
 use Rattle.csv_keys.specs.Ways.{blank_at, NextOrBlank}
 
@@ -172,36 +174,73 @@ given_is false (b ∷ s) =
     (λ e. rw (e, blank_at, given-there b (halved (eqb b 0x22) s) e) (given_is (eqb b 0x22) s))
 given_is true (b ∷ s) = given_is false s
 
--- ---- keys
-pub as-is-key : (raw : List ℕ) → KeyIs (halved false raw) [] raw
-unfolding raw_value all
-as-is-key raw = record { is = refl; plain = refl }
+-- ---- stretches
+-- a stretch of a stretch is one of the whole: so that of an item lies in the file, as the item does
+pub stretch-on : (f w x : List ℕ) → LiesIn f w → LiesIn w x → LiesIn f x
+stretch-on f w x p q =
+    let n : length w ≡ p.size = ap length p.is ∙ length-take-le p.size (drop p.start f) (omega (arith, length-drop p.start f, p.inside)) in
+    let m : q.start + (p.size - q.start) ≡ p.size = omega (arith, n, q.inside) in
+    record {
+      start = p.start + q.start;
+      size = q.size;
+      inside = omega (arith, n, p.inside, q.inside);
+      is =
+          q.is
+          ∙ ap (λ (s : List ℕ). take q.size (drop q.start s)) p.is
+          ∙ ap (λ (k : ℕ). take q.size (drop q.start (take k (drop p.start f)))) (sym m)
+          ∙ ap (take q.size) (drop-take q.start (p.size - q.start) (drop p.start f))
+          ∙ take-take q.size (p.size - q.start) (drop q.start (drop p.start f)) (omega (arith, n, q.inside))
+          ∙ ap (take q.size) (drop-drop q.start p.start f);
+    }
 
-pub word-key : (w : List ℕ) → all (λ (b : ℕ). within 0x20 0x7E b) w ≡ true → KeyIs w w []
+all_of : (s : List ℕ) → LiesIn s s
+all_of s = record { start = 0; size = length s; inside = omega arith; is = sym (take-length s) }
+
+pub none_of : (s : List ℕ) → LiesIn s []
+none_of s = record { start = 0; size = 0; inside = omega arith; is = refl }
+
+first_of : (s : List ℕ) (n : ℕ) → n ≤ length s → LiesIn s (take n s)
+first_of s n h = record { start = 0; size = n; inside = omega arith; is = refl }
+
+rest_of : (s : List ℕ) (n : ℕ) → n ≤ length s → LiesIn s (take (length s - n) (drop n s))
+rest_of s n h = record { start = n; size = length s - n; inside = omega arith; is = refl }
+
+-- ---- keys
+pub as-is-key : (raw : List ℕ) → KeyIs raw (halved false raw) [] raw
+unfolding raw_value all
+as-is-key raw = record { is = refl; plain = refl; few = omega arith; lies = all_of raw }
+
+pub word-key : (w : List ℕ) → all (λ (b : ℕ). within 0x20 0x7E b) w ≡ true → length w ≤ 15 → KeyIs [] w w []
 unfolding raw_value halved
-word-key w h = record { is = append-nil w; plain = h }
+word-key w h n = record { is = append-nil w; plain = h; few = n; lies = none_of [] }
+
+-- a key of a stretch of an item is one of the item
+pub key-on : {item w v u lead r : List ℕ} → LiesIn item w → v ≡ u → KeyIs w v lead r → KeyIs item u lead r
+key-on {item = item} {w} {r = r} l e k = record { is = k.is ∙ e; plain = k.plain; few = k.few; lies = stretch-on item w r l k.lies }
 
 module _ (raw lead r : List ℕ) (at : ℕ) (e : at ≡ blank_at false raw) where
-  pub family-key : KeyIs (halved false (take at raw)) lead r → KeyIs (family_of (halved false raw)) lead r
-  family-key k =
+  pub family-key : at ≤ length raw → KeyIs (take at raw) (halved false (take at raw)) lead r → KeyIs raw (family_of (halved false raw)) lead r
+  family-key w k =
       let z : halved false (take at raw) ≡ family_of (halved false raw) = ap (λ (m : ℕ). halved false (take m raw)) e ∙ family-is false raw in
-      rw z at k
+      key-on (first_of raw at w) z k
 
   given-at : (behind : ℕ) → behind ≡ at + 1 → halved false (drop behind raw) ≡ given_of (halved false raw)
   given-at behind b =
       let g : behind ≡ suc (blank_at false raw) = omega arith in
       ap (λ (m : ℕ). halved false (drop m raw)) g ∙ given_is false raw
 
-  pub given-none : length raw ≤ at → KeyIs (halved false []) lead r → KeyIs (given_of (halved false raw)) lead r
+  pub given-none : length raw ≤ at → KeyIs [] (halved false []) lead r → KeyIs raw (given_of (halved false raw)) lead r
   given-none w k =
       let o : drop (at + 1) raw ≡ [] = over raw (at + 1) (omega arith) in
       let z : halved false [] ≡ given_of (halved false raw) = ap (halved false) (sym o) ∙ given-at (at + 1) refl in
-      rw z at k
+      key-on (none_of raw) z k
 
-  pub given-key : (behind : ℕ) → behind ≡ at + 1 → KeyIs (halved false (take (length raw - behind) (drop behind raw))) lead r → KeyIs (given_of (halved false raw)) lead r
-  given-key behind b k =
+  pub given-key : (behind : ℕ) → at < length raw → behind ≡ at + 1
+      → KeyIs (take (length raw - behind) (drop behind raw)) (halved false (take (length raw - behind) (drop behind raw))) lead r
+      → KeyIs raw (given_of (halved false raw)) lead r
+  given-key behind w b k =
       let z : halved false (take (length raw - behind) (drop behind raw)) ≡ given_of (halved false raw) = ap (halved false) (rest-is raw behind) ∙ given-at behind b in
-      rw z at k
+      key-on (rest_of raw behind (omega arith)) z k
 
 -- ---- fifteen digits
 not-fifteen : (v : List ℕ) → all digit v ≡ false → fifteen_of v ≡ v
@@ -243,19 +282,22 @@ zeros-plain zero = refl
 zeros-plain (suc n) = zeros-plain n
 
 module _ (raw : List ℕ) where
-  pub fifteen-stays : (lead r : List ℕ) → (eqb (length raw) 0 || ltb 15 (length raw)) ≡ true → KeyIs (halved false raw) lead r → KeyIs (fifteen_of (halved false raw)) lead r
+  pub fifteen-stays : (lead r : List ℕ) → (eqb (length raw) 0 || ltb 15 (length raw)) ≡ true → KeyIs raw (halved false raw) lead r
+      → KeyIs raw (fifteen_of (halved false raw)) lead r
   fifteen-stays lead r e k = rw (fifteen-outside raw e) k
 
   module _ (t : Bool) (q : t ≡ all digit raw) where
-    pub fifteen-other : (lead r : List ℕ) → not t ≡ true → KeyIs (halved false raw) lead r → KeyIs (fifteen_of (halved false raw)) lead r
+    pub fifteen-other : (lead r : List ℕ) → not t ≡ true → KeyIs raw (halved false raw) lead r → KeyIs raw (fifteen_of (halved false raw)) lead r
     fifteen-other lead r e k = rw (fifteen-not raw (sym q ∙ not-true t e)) k
 
     pub fifteen-key : (eqb (length raw) 0 || ltb 15 (length raw)) ≡ false → not t ≡ false
-        → KeyIs (fifteen_of (halved false raw)) (take (15 - length raw) (replicate 15 48)) raw
+        → KeyIs raw (fifteen_of (halved false raw)) (take (15 - length raw) (replicate 15 48)) raw
     unfolding raw_value
     fifteen-key e g =
         let z = take-replicate (15 - length raw) 15 48 (omega arith) in
         record {
           is = ap (λ (x : List ℕ). x ++ halved false raw) z ∙ sym (fifteen-pads raw (sym q ∙ not-false t g) e);
           plain = rw z (zeros-plain (15 - length raw));
+          few = omega (arith, ap length z, length-replicate {A = ℕ} (15 - length raw) 48);
+          lies = all_of raw;
         }

@@ -27,37 +27,37 @@ module _ (row : RowItems) (lead r raw : List ℕ) (column : ℕ) (e : raw ≡ nt
   read = item-half row (column - 1) ∙ ap (halved false) (sym e)
 
   module _ (how : How) where
-    pub text_at_lem : how ≡ Text → KeyIs (halved false raw) lead r → KeyIs (raw_by (how_of how) (items_of row) column) lead r
+    pub text_at_lem : how ≡ Text → KeyIs raw (halved false raw) lead r → KeyIs (nth (raw_items row) (column - 1)) (raw_by (how_of how) (items_of row) column) lead r
     unfolding raw_by how_of
-    text_at_lem h k = rw (h, read) k
+    text_at_lem h k = rw (h, read, ← e) k
 
-    pub family-at : how ≡ UpToBlank → KeyIs (family_of (halved false raw)) lead r → KeyIs (raw_by (how_of how) (items_of row) column) lead r
+    pub family-at : how ≡ UpToBlank → KeyIs raw (family_of (halved false raw)) lead r → KeyIs (nth (raw_items row) (column - 1)) (raw_by (how_of how) (items_of row) column) lead r
     unfolding raw_by how_of
-    family-at h k = rw (h, read) k
+    family-at h k = rw (h, read, ← e) k
 
-    pub given-at : how ≡ PastBlank → KeyIs (given_of (halved false raw)) lead r → KeyIs (raw_by (how_of how) (items_of row) column) lead r
+    pub given-at : how ≡ PastBlank → KeyIs raw (given_of (halved false raw)) lead r → KeyIs (nth (raw_items row) (column - 1)) (raw_by (how_of how) (items_of row) column) lead r
     unfolding raw_by how_of
-    given-at h k = rw (h, read) k
+    given-at h k = rw (h, read, ← e) k
 
-    pub fifteen-at : how ≡ Fifteen → KeyIs (fifteen_of (halved false raw)) lead r → KeyIs (raw_by (how_of how) (items_of row) column) lead r
+    pub fifteen-at : how ≡ Fifteen → KeyIs raw (fifteen_of (halved false raw)) lead r → KeyIs (nth (raw_items row) (column - 1)) (raw_by (how_of how) (items_of row) column) lead r
     unfolding raw_by how_of
-    fifteen-at h k = rw (h, read) k
+    fifteen-at h k = rw (h, read, ← e) k
 
-    pub sex-at : how ≡ Sex → KeyIs (meaning_of sexes (halved false raw)) lead r → KeyIs (raw_by (how_of how) (items_of row) column) lead r
+    pub sex-at : how ≡ Sex → KeyIs raw (meaning_of sexes (halved false raw)) lead r → KeyIs (nth (raw_items row) (column - 1)) (raw_by (how_of how) (items_of row) column) lead r
     unfolding raw_by how_of
-    sex-at h k = rw (h, read) k
+    sex-at h k = rw (h, read, ← e) k
 
-    pub class-at : how ≡ Class → KeyIs (meaning_of classes (halved false raw)) lead r → KeyIs (raw_by (how_of how) (items_of row) column) lead r
+    pub class-at : how ≡ Class → KeyIs raw (meaning_of classes (halved false raw)) lead r → KeyIs (nth (raw_items row) (column - 1)) (raw_by (how_of how) (items_of row) column) lead r
     unfolding raw_by how_of
-    class-at h k = rw (h, read) k
+    class-at h k = rw (h, read, ← e) k
 
-    pub form-at : how ≡ Form → KeyIs (meaning_of forms (halved false raw)) lead r → KeyIs (raw_by (how_of how) (items_of row) column) lead r
+    pub form-at : how ≡ Form → KeyIs raw (meaning_of forms (halved false raw)) lead r → KeyIs (nth (raw_items row) (column - 1)) (raw_by (how_of how) (items_of row) column) lead r
     unfolding raw_by how_of
-    form-at h k = rw (h, read) k
+    form-at h k = rw (h, read, ← e) k
 
-    pub kind_at : how ≡ ValueType → KeyIs (type_of (nth (items_of row) 34) (halved false raw)) lead r → KeyIs (raw_by (how_of how) (items_of row) column) lead r
+    pub kind_at : how ≡ ValueType → KeyIs raw (type_of (nth (items_of row) 34) (halved false raw)) lead r → KeyIs (nth (raw_items row) (column - 1)) (raw_by (how_of how) (items_of row) column) lead r
     unfolding raw_by how_of
-    kind_at h k = rw (h, read) k
+    kind_at h k = rw (h, read, ← e) k
 
 -- ---- two rows
 -- a key that its column alone feeds
@@ -82,8 +82,8 @@ module _ (a b : RowItems) (how : How) (column : ℕ) where
       sym (ap (λ (w : List ℕ). same w (raw_by (how_of how) (items_of b) column)) (one-column how (items_of a) (items_of b) column h z)
       ∙ same_self (raw_by (how_of how) (items_of b) column))
 
-pub same_keys_lem : (v w la ra lb rb : List ℕ) (t : Bool) → KeyIs v la ra → KeyIs w lb rb → t ≡ same (raw_value la ra) (raw_value lb rb) → t ≡ same v w
-same_keys_lem v w la ra lb rb t p q e = rw (← p.is, ← q.is) e
+pub same_keys_lem : (x y v w la ra lb rb : List ℕ) (t : Bool) → KeyIs x v la ra → KeyIs y w lb rb → t ≡ same (raw_value la ra) (raw_value lb rb) → t ≡ same v w
+same_keys_lem x y v w la ra lb rb t p q e = rw (← p.is, ← q.is) e
 
 -- ---- the columns of each group
 -- what the code finds of a column is whether its keys are the same

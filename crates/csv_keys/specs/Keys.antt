@@ -1,10 +1,11 @@
--- A key's raw value as the code finds it: some bytes that don't stand in the file, then bytes of the file.
-use Rattle.std.specs.Prelude.{◌≡◌, true, false, List, ◌++◌, ℕ}
+-- A key's raw value as the code finds it: some bytes that don't stand in the file, then a stretch of the file.
+use Rattle.std.specs.Prelude.{◌≡◌, true, false, List, ◌++◌, ℕ, ◌≤◌, length}
 use Rattle.rules.specs.Lists.{all}
 use Rattle.rules.specs.Shift.{within}
 use Rattle.csv_rules.specs.Written.{halved}
 use Rattle.csv_rules.specs.Columns as Columns
 use Rattle.csv_rules.specs.Columns.{sexes, classes, forms}
+use Rattle.csv_rows.specs.Rows.{LiesIn}
 use Rattle.csv_keys.specs.declared.How.{How}
 use Rattle.csv_keys.specs.declared.How.TheVariants.{Text, UpToBlank, PastBlank, Fifteen, Sex, Class, Form, ValueType}
 
@@ -23,7 +24,9 @@ how_of ValueType = Columns.typed 35
 unfoldable pub raw_value : List ℕ → List ℕ → List ℕ
 raw_value lead raw = lead ++ halved false raw
 
--- a key: its raw value is v; the bytes that don't stand in the file stand alone
-pub record KeyIs (v lead raw : List ℕ) : Type 0 where
+-- a key of an item as it lies in the file: its raw value is v; the bytes that don't stand in the file stand alone, at most fifteen; the others are a stretch of the item
+pub record KeyIs (item v lead raw : List ℕ) : Type 0 where
   pub is : raw_value lead raw ≡ v
   pub plain : all (λ (b : ℕ). within 0x20 0x7E b) lead ≡ true
+  pub few : length lead ≤ 15
+  pub lies : LiesIn item raw

@@ -1,5 +1,5 @@
 -- How the code finds, looks up and compares keys: the words of its inner contracts.
-use Rattle.std.specs.Prelude.{◌≡◌, Bool, true, false, cond, not, ◌&&◌, List, [], ◌∷◌, ℕ, suc, ◌+◌, ◌≤◌, ◌<◌, eqb, length, drop, get_or}
+use Rattle.std.specs.Prelude.{◌≡◌, Bool, true, false, cond, not, ◌&&◌, List, [], ◌∷◌, ℕ, suc, ◌+◌, ◌≤◌, ◌<◌, eqb, leb, length, drop, get_or}
 use Rattle.std.specs.Borrow.{Bor}
 use Rattle.rules.specs.Lists.{same, all}
 use Rattle.rules.specs.Shift.{within}
@@ -21,12 +21,12 @@ unfoldable pub meaning_in : List (Bor (List ℕ) × Bor (List ℕ)) → List ℕ
 meaning_in [] v = v
 meaning_in (c ∷ cs) v = elim (same v c.0.now) [ true ↦ c.1.now | false ↦ meaning_in cs v ]
 
--- a code without a quote; a meaning of bytes that each stand alone
+-- a code without a quote; a meaning of bytes that each stand alone, at most fifteen
 abbrev pub unquoted : ℕ → Bool
 unquoted b = not (eqb b 0x22)
 
 abbrev pub is_plain : Bor (List ℕ) × Bor (List ℕ) → Bool
-is_plain c = all unquoted c.0.now && all (λ (b : ℕ). within 0x20 0x7E b) c.1.now
+is_plain c = all unquoted c.0.now && (all (λ (b : ℕ). within 0x20 0x7E b) c.1.now && leb (length c.1.now) 15)
 
 -- ---- keys that their column alone feeds
 abbrev pub by_column : How → Bool

@@ -1,7 +1,7 @@
 // The keys of a row (Req 01): cut, looked up and compared as their bytes lie in the file; nothing is copied.
 #![tactic(auto)]
 
-ghost use Rattle.std.specs.Prelude.{◌≡◌, true, false, ◌&&◌, [], ◌+◌, ◌≤◌, ◌<◌, length, MatchOption};
+ghost use Rattle.std.specs.Prelude.{◌≡◌, true, false, ◌&&◌, [], ◌+◌, ◌-◌, ◌≤◌, ◌<◌, length, MatchOption};
 ghost use Rattle.rules.specs.declared.Name.TheVariants.{Pid, Pv1, Spm, Obr};
 ghost use Rattle.rules.specs.Lists.{nth, same, all};
 ghost use Rattle.rules.specs.Shift.{within};
@@ -9,7 +9,7 @@ ghost use Rattle.csv_rules.specs.Written.{halved};
 ghost use Rattle.csv_rules.specs.Columns.{family_of, given_of, fifteen_of, type_of, number_of};
 ghost use Rattle.csv_rules.specs.Columns as Columns;
 ghost use Rattle.csv_rules.specs.Raw.{raw_by, raw_agree};
-ghost use Rattle.csv_rows.specs.Rows.{items_of};
+ghost use Rattle.csv_rows.specs.Rows.{raw_items, items_of};
 ghost use Rattle.csv_keys.specs.Keys.{how_of, raw_value, KeyIs};
 ghost use Rattle.csv_keys.specs.Ways.{blank_at, meaning_in, is_plain, by_column, NextOrBlank, FirstIs};
 
@@ -29,7 +29,7 @@ pub enum How {
     ValueType, // of the value in column 35, where the column is its form
 }
 
-// A key's value before it is converted: some bytes that don't stand in the file, then an item or a part of one as it lies there, quotes doubled.
+// A key's value before it is converted: at most fifteen bytes that don't stand in the file, then an item or a part of one as it lies there, quotes doubled.
 #[derive(Clone, Copy)]
 pub struct RawKey<'a> {
     pub lead: &'a [u8],
@@ -38,15 +38,16 @@ pub struct RawKey<'a> {
 
 // An item, or a part of one, as it lies in the file.
 fn as_is<'a>(raw: &'a [u8]) -> RawKey<'a>
-    ensures { KeyIs (halved false raw.now) result.lead.now result.raw.now }
+    ensures { KeyIs raw.now (halved false raw.now) result.lead.now result.raw.now }
 {
     RawKey { lead: b"", raw }
 }
 
-// A word in place of an item.
+// A word in place of an item, of which nothing is left.
 fn in_place<'a>(word: &'a [u8]) -> RawKey<'a>
-    requires { all (λ b. within 0x20 0x7E b) word.now ≡ true }
-    ensures { KeyIs word.now result.lead.now result.raw.now }
+    requires few { length word.now ≤ 15 }
+    requires plain { all (λ b. within 0x20 0x7E b) word.now ≡ true }
+    ensures { KeyIs [] word.now result.lead.now result.raw.now }
 {
     RawKey {
         lead: word,
@@ -89,7 +90,7 @@ fn blank_at(raw: &[u8]) -> usize
 
 // PID-5: the family name stands before the first blank.
 fn family<'a>(raw: &'a [u8]) -> RawKey<'a>
-    ensures { KeyIs (family_of (halved false raw.now)) result.lead.now result.raw.now }
+    ensures { KeyIs raw.now (family_of (halved false raw.now)) result.lead.now result.raw.now }
 {
     let at = blank_at(raw);
     as_is(&raw[..at])
@@ -97,7 +98,7 @@ fn family<'a>(raw: &'a [u8]) -> RawKey<'a>
 
 // The given name stands behind it.
 fn given<'a>(raw: &'a [u8]) -> RawKey<'a>
-    ensures { KeyIs (given_of (halved false raw.now)) result.lead.now result.raw.now }
+    ensures { KeyIs raw.now (given_of (halved false raw.now)) result.lead.now result.raw.now }
 {
     let at = blank_at(raw);
     if at >= raw.len() {
@@ -113,7 +114,7 @@ const ZEROS: [u8; 15] = [b'0'; 15];
 
 // OBR-2: "15 digits, leading zeros"; what isn't 1 to 15 digits stays.
 fn fifteen<'a>(raw: &'a [u8]) -> RawKey<'a>
-    ensures { KeyIs (fifteen_of (halved false raw.now)) result.lead.now result.raw.now }
+    ensures { KeyIs raw.now (fifteen_of (halved false raw.now)) result.lead.now result.raw.now }
 {
     let len = raw.len();
     if (len == 0) | (15 < len) {
@@ -147,7 +148,7 @@ const FORMS: [(&[u8], &[u8]); 5] = [
 // What an item means by a table of codes; what is no code stays.
 fn coded<'a>(raw: &'a [u8], codes: &[(&[u8], &'a [u8])]) -> RawKey<'a>
     requires { all is_plain codes.now ≡ true }
-    ensures { KeyIs (meaning_in codes.now (halved false raw.now)) result.lead.now result.raw.now }
+    ensures { KeyIs raw.now (meaning_in codes.now (halved false raw.now)) result.lead.now result.raw.now }
 {
     for (code, meaning) in codes {
         if plain_bytes::equal(raw, code) {
@@ -159,7 +160,7 @@ fn coded<'a>(raw: &'a [u8], codes: &[(&[u8], &'a [u8])]) -> RawKey<'a>
 
 // OBX-2: a form other than B makes SN; without one a number is NM, any other value ST. (A text with a quote is no number, doubled or not.)
 fn value_type<'a>(row: &RowItems, form: &[u8]) -> RawKey<'a>
-    ensures { KeyIs (type_of (nth (items_of row.now) 34) (halved false form.now)) result.lead.now result.raw.now }
+    ensures { KeyIs form.now (type_of (nth (items_of row.now) 34) (halved false form.now)) result.lead.now result.raw.now }
 {
     if (form.len() != 0) & !plain_bytes::equal(form, b"B") {
         return in_place(b"SN");
@@ -174,7 +175,7 @@ fn value_type<'a>(row: &RowItems, form: &[u8]) -> RawKey<'a>
 // The key that a column feeds. (Its way stands beside its number, as in the table of columns: a pair of them would only lengthen each call.)
 pub fn key<'a>(row: &RowItems<'a>, how: How, column: usize) -> RawKey<'a>
     requires { (1 ≤ column) × (column ≤ 45) }
-    ensures { KeyIs (raw_by (how_of how) (items_of row.now) column) result.lead.now result.raw.now }
+    ensures { KeyIs (nth (raw_items row.now) (column - 1)) (raw_by (how_of how) (items_of row.now) column) result.lead.now result.raw.now }
 {
     let raw = row.item(column - 1);
     match how {

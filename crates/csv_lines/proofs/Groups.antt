@@ -55,10 +55,10 @@ plain-how ValueType = refl
 puts_then : {l m n : Lines} {b c : List ℕ} → Puts l m b → Puts m n c → Puts l n (b ++ c)
 puts_then p q = record { same = q.same ∙ p.same; adds = adds_then p.adds q.adds }
 
-pub value-is : (h : How) (row : Items) (n : ℕ) (lead raw : List ℕ) (l m o : Lines) → all convertible row ≡ true
-    → KeyIs (raw_by (how_of h) row n) lead raw → Puts l m lead → Puts m o (converted (halved false raw)) → Puts l o (value_by (how_of h) row n)
+pub value-is : (h : How) (row : Items) (n : ℕ) (item lead raw : List ℕ) (l m o : Lines) → all convertible row ≡ true
+    → KeyIs item (raw_by (how_of h) row n) lead raw → Puts l m lead → Puts m o (converted (halved false raw)) → Puts l o (value_by (how_of h) row n)
 unfolding raw_value
-value-is h row n lead raw l m o c key p q =
+value-is h row n item lead raw l m o c key p q =
     let b = value-becomes (how_of h) row n (plain-how h) c in
     let t = sym (plain-first lead (halved false raw) key.plain) in
     let v : lead ++ converted (halved false raw) ≡ value_by (how_of h) row n = t ∙ ap converted key.is ∙ sym b.is in
